@@ -11,7 +11,9 @@ use Rattle.std.proofs.lemmas.List.{length-append, length-drop, take_all, take_mi
 use Rattle.std.proofs.Math.Nat.{min_comm}
 use Rattle.std.proofs.lemmas.List.Elements.{All-more, All-weaker}
 use Rattle.rc_pattern.specs.Re.{Re, Range, empty, literal, byte_in, char_in, look, repeat, capture, cat, alt, none}
-use Rattle.rc_pattern.specs.Meaning.{meaning, kind_meaning, alt_all, cat_all}
+use Rattle.rc_pattern.specs.Meaning.{class_meaning, meaning, kind_meaning, alt_all, cat_all}
+use Rattle.rc_pattern.specs.declared.hir.Class.{Class}
+use Rattle.rc_pattern.specs.declared.hir.Class.TheVariants.{Unicode, Bytes}
 use Rattle.rc_pattern.specs.declared.hir.Hir.{Hir}
 use Rattle.rc_pattern.specs.declared.hir.HirKind.{HirKind}
 use Rattle.rc_pattern.specs.declared.hir.HirKind.TheVariants as HirKind
@@ -21,7 +23,7 @@ use Rattle.rc_program.specs.Program.{in_ranges}
 use Rattle.rc_program.specs.Spells.{Stands, Turns, Spells, SpelledBy}
 use Rattle.rc_literals.specs.Literals.{Covers}
 use Rattle.rc_needles.specs.Needles.{StandsAt}
-use Rattle.rc_literals.specs.Extraction.{greatest_count, greatest_length, range_bytes, range_chars, is_still, both, spelled_bytes, whole_bytes, crossed, may_cross, lengthened, begun_by, first_bytes, filled, grown, Extends}
+use Rattle.rc_literals.specs.Extraction.{are_too_many, greatest_count, greatest_length, greatest_whole, range_bytes, range_chars, is_still, both, spelled_bytes, whole_bytes, crossed, may_cross, lengthened, begun_by, first_bytes, filled, grown, Extends}
 use Rattle.rc_literals.specs.Prefixes.{ArePrefixes}
 use Rattle.rc_needles.specs.Tables.{IsUsable, needles_in}
 use Rattle.rc_needles.proofs.RelationLemmas.{range_of}
@@ -181,19 +183,19 @@ no_more [] = refl
 no_more (x ∷ xs) = ap (λ zs. x ∷ zs) (no_more xs)
 
 -- where there was room, they were added, and there are no more than are kept
-pub filled_some : (list ws new : List (List ℕ)) → length list ≤ greatest_count → filled list ws ≡ Some new →
-    (new ≡ list ++ ws) × (length new ≤ greatest_count)
-filled_some list [] new le e =
-    let same : list ≡ new = same_Some list new e in (sym same ∙ no_more list, subst (λ z. length z ≤ greatest_count) same le)
-filled_some list (w ∷ ws) new le e =
+pub filled_some : (most : ℕ) (list ws new : List (List ℕ)) → length list ≤ most → filled most list ws ≡ Some new →
+    (new ≡ list ++ ws) × (length new ≤ most)
+filled_some most list [] new le e =
+    let same : list ≡ new = same_Some list new e in (sym same ∙ no_more list, subst (λ z. length z ≤ most) same le)
+filled_some most list (w ∷ ws) new le e =
     ⊎_elim
     (λ t.
-    let room : length list < greatest_count = let r = t in grind (arith, nat_tests) in
+    let room : length list < most = let r = t in grind (arith, nat_tests) in
     let long = length-append list (w ∷ []) in
-    let h = filled_some (list ++ w ∷ []) ws new (omega (arith, room, long)) (rw t at e) in
+    let h = filled_some most (list ++ w ∷ []) ws new (omega (arith, room, long)) (rw t at e) in
     (h.0 ∙ append-nil-more list w ws, h.1))
     (λ f. absurd (none-some new (rw f at e)))
-    (cases_Bool (nat_lt (length list) greatest_count))
+    (cases_Bool (nat_lt (length list) most))
 
 -- What is spelled whole, and what lengthens it.
 
@@ -220,8 +222,8 @@ whole_literal bs t i j s =
     let r = (range_of t.content bs i j s).0 in
     (0, bs, refl, subst (Stands t.content bs i) r s, omega (arith, r))
 
-kept_whole : (xs vs : List (List ℕ)) (h : Re) → filled [] xs ≡ Some vs → AreWhole xs h → AreWhole vs h
-kept_whole xs vs h e whole = subst (λ z. AreWhole z h) (sym (filled_some [] xs vs (omega arith) e).0) whole
+kept_whole : (xs vs : List (List ℕ)) (h : Re) → filled greatest_whole [] xs ≡ Some vs → AreWhole xs h → AreWhole vs h
+kept_whole xs vs h e whole = subst (λ z. AreWhole z h) (sym (filled_some greatest_whole [] xs vs (omega arith) e).0) whole
 
 whole_among : (ws vs : List (List ℕ)) (h : Re) → ((w : List ℕ) → IsAmong ws w → IsAmong vs w) → AreWhole ws h → AreWhole vs h
 whole_among ws vs h keeps whole t i j s = let b = whole t i j s in let a = keeps b.1 (b.0, b.2) in (a.0, b.1, a.1, b.3, b.4)
@@ -255,7 +257,7 @@ spelled_whole none vs e = λ t i j never. absurd never
 are_whole : (a : Re) (vs : List (List ℕ)) → whole_bytes a ≡ Some vs → AreWhole vs a
 are_whole a vs e = by_spelled (spelled_bytes a) (λ ws. spelled_whole a ws) e
   where
-    by_spelled : (o : Option (List (List ℕ))) → ((ws : List (List ℕ)) → o ≡ Some ws → AreWhole ws a) → grown [] o ≡ Some vs → AreWhole vs a
+    by_spelled : (o : Option (List (List ℕ))) → ((ws : List (List ℕ)) → o ≡ Some ws → AreWhole ws a) → grown greatest_whole [] o ≡ Some vs → AreWhole vs a
     by_spelled None whole is = absurd (none-some vs is)
     by_spelled (Some ws) whole is = kept_whole ws vs a is (whole ws refl)
 
@@ -327,8 +329,10 @@ first_hold empty ws e = absurd (none-some ws e)
 first_hold (literal bs) ws e =
     subst (λ z. Holds z (literal bs)) (same_Some (take greatest_length bs ∷ []) ws e)
     (holds_literal (take greatest_length bs ∷ []) bs (take greatest_length bs) (drop greatest_length bs) (sym (take-append-drop greatest_length bs)) (0, refl))
-first_hold (byte_in rs) ws e = subst (λ z. Holds z (byte_in rs)) (same_Some (flat_map range_bytes rs) ws e) (holds_bytes rs)
-first_hold (char_in rs) ws e = subst (λ z. Holds z (char_in rs)) (same_Some (flat_map range_chars rs) ws e) (holds_chars rs)
+first_hold (byte_in rs) ws e =
+    subst (λ z. Holds z (byte_in rs)) (sym (filled_some greatest_whole [] (flat_map range_bytes rs) ws (omega arith) e).0) (holds_bytes rs)
+first_hold (char_in rs) ws e =
+    subst (λ z. Holds z (char_in rs)) (sym (filled_some greatest_whole [] (flat_map range_chars rs) ws (omega arith) e).0) (holds_chars rs)
 first_hold (look l) ws e = absurd (none-some ws e)
 first_hold (repeat zero max greedy a) ws e = absurd (none-some ws e)
 first_hold (repeat (suc min) max greedy a) ws e = holds_repeat ws (suc min) max greedy a (omega arith) (first_hold a ws e)
@@ -378,35 +382,35 @@ all_held P xs n le all = subst (All P) (take_all n xs le) all
 
 -- A list that grows.
 
-abbrev then_grown : Option (List (List ℕ)) → Option (List (List ℕ)) → Option (List (List ℕ))
-then_grown None ws = None
-then_grown (Some list) ws = grown list ws
+abbrev then_grown : ℕ → Option (List (List ℕ)) → Option (List (List ℕ)) → Option (List (List ℕ))
+then_grown most None ws = None
+then_grown most (Some list) ws = grown most list ws
 
-then_none : (o : Option (List (List ℕ))) → None ≡ then_grown o None
-then_none None = refl
-then_none (Some list) = refl
+then_none : (most : ℕ) (o : Option (List (List ℕ))) → None ≡ then_grown most o None
+then_none most None = refl
+then_none most (Some list) = refl
 
-filled_append : (list ws vs : List (List ℕ)) → filled list (ws ++ vs) ≡ then_grown (filled list ws) (Some vs)
-filled_append list [] vs = refl
-filled_append list (w ∷ ws) vs =
-    ⊎_elim (λ t. rw t (filled_append (list ++ w ∷ []) ws vs)) (λ f. rw f refl) (cases_Bool (nat_lt (length list) greatest_count))
+filled_append : (most : ℕ) (list ws vs : List (List ℕ)) → filled most list (ws ++ vs) ≡ then_grown most (filled most list ws) (Some vs)
+filled_append most list [] vs = refl
+filled_append most list (w ∷ ws) vs =
+    ⊎_elim (λ t. rw t (filled_append most (list ++ w ∷ []) ws vs)) (λ f. rw f refl) (cases_Bool (nat_lt (length list) most))
 
-grown_both : (list : List (List ℕ)) (o p : Option (List (List ℕ))) → grown list (both o p) ≡ then_grown (grown list o) p
-grown_both list None p = refl
-grown_both list (Some ws) None = then_none (filled list ws)
-grown_both list (Some ws) (Some vs) = filled_append list ws vs
+grown_both : (most : ℕ) (list : List (List ℕ)) (o p : Option (List (List ℕ))) → grown most list (both o p) ≡ then_grown most (grown most list o) p
+grown_both most list None p = refl
+grown_both most list (Some ws) None = then_none most (filled most list ws)
+grown_both most list (Some ws) (Some vs) = filled_append most list ws vs
 
 -- where there was none, they are too many
-pub filled_none : (list ws : List (List ℕ)) → filled list ws ≡ None → greatest_count < length list + length ws
-filled_none list [] e = absurd (none-some list (sym e))
-filled_none list (w ∷ ws) e =
+pub filled_none : (most : ℕ) (list ws : List (List ℕ)) → filled most list ws ≡ None → most < length list + length ws
+filled_none most list [] e = absurd (none-some list (sym e))
+filled_none most list (w ∷ ws) e =
     ⊎_elim
     (λ t.
     let long = length-append list (w ∷ []) in
-    let h = filled_none (list ++ w ∷ []) ws (rw t at e) in
+    let h = filled_none most (list ++ w ∷ []) ws (rw t at e) in
     omega (arith, h, long))
-    (λ f. let full : greatest_count ≤ length list = let r = f in grind (arith, nat_tests) in omega (arith, full))
-    (cases_Bool (nat_lt (length list) greatest_count))
+    (λ f. let full : most ≤ length list = let r = f in grind (arith, nat_tests) in omega (arith, full))
+    (cases_Bool (nat_lt (length list) most))
 
 -- The loops.
 
@@ -416,31 +420,32 @@ module _ {X : Type 0} (f : X → Option (List (List ℕ))) where
   each [] = Some []
   each (x ∷ xs) = both (f x) (each xs)
 
+module _ (most : ℕ) {X : Type 0} (f : X → Option (List (List ℕ))) where
   -- so many are added, and these are left
   abbrev pub IsLeft : List (List ℕ) → List (List ℕ) → List X → ℕ → Type 0
-  IsLeft begun list xs i = grown begun (each xs) ≡ grown list (each (drop i xs))
+  IsLeft begun list xs i = grown most begun (each f xs) ≡ grown most list (each f (drop i xs))
 
   turned : (begun list new : List (List ℕ)) (xs : List X) (i : ℕ) (x d : X) (done : Bool) → i < length xs → x ≡ get_or xs i d →
-      IsLeft begun list xs i → Extends done list new (f x) →
-      grown begun (each xs) ≡ then_grown (if done then Some new else None) (each (drop (i + 1) xs))
+      IsLeft begun list xs i → Extends most done list new (f x) →
+      grown most begun (each f xs) ≡ then_grown most (if done then Some new else None) (each f (drop (i + 1) xs))
   turned begun list new xs i x d done inside is inv adds =
-      inv ∙ ap (grown list) (at_drop_more each xs i d inside ∙ ap (λ y. both (f y) (each (drop (i + 1) xs))) (sym is))
-      ∙ grown_both list (f x) (each (drop (i + 1) xs)) ∙ ap (λ o. then_grown o (each (drop (i + 1) xs))) adds
+      inv ∙ ap (grown most list) (at_drop_more (each f) xs i d inside ∙ ap (λ y. both (f y) (each f (drop (i + 1) xs))) (sym is))
+      ∙ grown_both most list (f x) (each f (drop (i + 1) xs)) ∙ ap (λ o. then_grown most o (each f (drop (i + 1) xs))) adds
 
   pub turn_taken : (begun list new : List (List ℕ)) (xs : List X) (i : ℕ) (x d : X) (done : Bool) → i < length xs → x ≡ get_or xs i d →
-      IsLeft begun list xs i → Extends done list new (f x) → done ≡ true → IsLeft begun new xs (i + 1)
+      IsLeft begun list xs i → Extends most done list new (f x) → done ≡ true → IsLeft begun new xs (i + 1)
   turn_taken begun list new xs i x d done inside is inv adds e =
       turned begun list new xs i x d done inside is inv adds
-      ∙ ap (λ b. then_grown (if b then Some new else None) (each (drop (i + 1) xs))) e
+      ∙ ap (λ b. then_grown most (if b then Some new else None) (each f (drop (i + 1) xs))) e
 
   pub turn_failed : (begun list new : List (List ℕ)) (xs : List X) (i : ℕ) (x d : X) (done : Bool) → i < length xs → x ≡ get_or xs i d →
-      IsLeft begun list xs i → Extends done list new (f x) → done ≡ false → grown begun (each xs) ≡ None
+      IsLeft begun list xs i → Extends most done list new (f x) → done ≡ false → grown most begun (each f xs) ≡ None
   turn_failed begun list new xs i x d done inside is inv adds e =
       turned begun list new xs i x d done inside is inv adds
-      ∙ ap (λ b. then_grown (if b then Some new else None) (each (drop (i + 1) xs))) e
+      ∙ ap (λ b. then_grown most (if b then Some new else None) (each f (drop (i + 1) xs))) e
 
-  pub turns_done : (begun list : List (List ℕ)) (xs : List X) (i : ℕ) → length xs ≤ i → IsLeft begun list xs i → grown begun (each xs) ≡ Some list
-  turns_done begun list xs i le inv = inv ∙ ap (λ ys. grown list (each ys)) (drop_all i xs le)
+  pub turns_done : (begun list : List (List ℕ)) (xs : List X) (i : ℕ) → length xs ≤ i → IsLeft begun list xs i → grown most begun (each f xs) ≡ Some list
+  turns_done begun list xs i le inv = inv ∙ ap (λ ys. grown most list (each f ys)) (drop_all i xs le)
 
 pub each_alt : (hs : List Hir) → each (λ h. first_bytes (meaning h)) hs ≡ first_bytes (alt_all (map meaning hs))
 each_alt [] = refl
@@ -460,23 +465,23 @@ each_some r g [] = refl
 each_some r g (x ∷ xs) = ap (both (Some (g (r x)))) (each_some r g xs)
 
 -- one number more of a range
-pub number_taken : (begun list new : List (List ℕ)) (whole : Option (List (List ℕ))) (f : ℕ → List ℕ) (number end : ℕ) → number < end →
-    grown begun whole ≡ filled list (map f (range_with_len number (end - number))) → Extends true list new (Some (f number ∷ [])) →
-    grown begun whole ≡ filled new (map f (range_with_len (number + 1) (end - (number + 1))))
-number_taken begun list new whole f number end inside inv e =
+pub number_taken : (most : ℕ) (begun list new : List (List ℕ)) (whole : Option (List (List ℕ))) (f : ℕ → List ℕ) (number end : ℕ) → number < end →
+    grown most begun whole ≡ filled most list (map f (range_with_len number (end - number))) → Extends most true list new (Some (f number ∷ [])) →
+    grown most begun whole ≡ filled most new (map f (range_with_len (number + 1) (end - (number + 1))))
+number_taken most begun list new whole f number end inside inv e =
     let n : end - number ≡ suc (end - (number + 1)) = omega (arith, inside) in
     let rest = map f (range_with_len (number + 1) (end - (number + 1))) in
-    inv ∙ ap (λ m. filled list (map f (range_with_len number m))) n ∙ filled_append list (f number ∷ []) rest
-    ∙ ap (λ o. then_grown o (Some rest)) e
+    inv ∙ ap (λ m. filled most list (map f (range_with_len number m))) n ∙ filled_append most list (f number ∷ []) rest
+    ∙ ap (λ o. then_grown most o (Some rest)) e
 
-pub number_failed : (begun list new : List (List ℕ)) (whole : Option (List (List ℕ))) (f : ℕ → List ℕ) (number end : ℕ) → number < end →
-    grown begun whole ≡ filled list (map f (range_with_len number (end - number))) → Extends false list new (Some (f number ∷ [])) →
-    grown begun whole ≡ None
-number_failed begun list new whole f number end inside inv e =
+pub number_failed : (most : ℕ) (begun list new : List (List ℕ)) (whole : Option (List (List ℕ))) (f : ℕ → List ℕ) (number end : ℕ) → number < end →
+    grown most begun whole ≡ filled most list (map f (range_with_len number (end - number))) → Extends most false list new (Some (f number ∷ [])) →
+    grown most begun whole ≡ None
+number_failed most begun list new whole f number end inside inv e =
     let n : end - number ≡ suc (end - (number + 1)) = omega (arith, inside) in
     let rest = map f (range_with_len (number + 1) (end - (number + 1))) in
-    inv ∙ ap (λ m. filled list (map f (range_with_len number m))) n ∙ filled_append list (f number ∷ []) rest
-    ∙ ap (λ o. then_grown o (Some rest)) e
+    inv ∙ ap (λ m. filled most list (map f (range_with_len number m))) n ∙ filled_append most list (f number ∷ []) rest
+    ∙ ap (λ o. then_grown most o (Some rest)) e
 
 -- the scalars from a number up to an end, as UTF-8
 abbrev pub scalars_left : ℕ → ℕ → List (List ℕ)
@@ -487,27 +492,27 @@ scalars_one number end inside is =
     let n : end - number ≡ suc (end - (number + 1)) = omega (arith, inside) in
     ap (λ m. map encode_utf8 (filter scalar (range_with_len number m))) n ∙ rw is refl
 
-scalar_turned : (begun list new : List (List ℕ)) (whole : Option (List (List ℕ))) (w : List ℕ) (number end : ℕ) (done : Bool) → number < end →
-    IsScalar number → w ≡ encode_utf8 number → grown begun whole ≡ filled list (scalars_left number end) → Extends done list new (Some (w ∷ [])) →
-    grown begun whole ≡ then_grown (if done then Some new else None) (Some (scalars_left (number + 1) end))
-scalar_turned begun list new whole w number end done inside is same inv adds =
+scalar_turned : (most : ℕ) (begun list new : List (List ℕ)) (whole : Option (List (List ℕ))) (w : List ℕ) (number end : ℕ) (done : Bool) → number < end →
+    IsScalar number → w ≡ encode_utf8 number → grown most begun whole ≡ filled most list (scalars_left number end) → Extends most done list new (Some (w ∷ [])) →
+    grown most begun whole ≡ then_grown most (if done then Some new else None) (Some (scalars_left (number + 1) end))
+scalar_turned most begun list new whole w number end done inside is same inv adds =
     let rest = scalars_left (number + 1) end in
-    inv ∙ ap (filled list) (scalars_one number end inside is ∙ ap (λ z. z ∷ rest) (sym same)) ∙ filled_append list (w ∷ []) rest
-    ∙ ap (λ o. then_grown o (Some rest)) adds
+    inv ∙ ap (filled most list) (scalars_one number end inside is ∙ ap (λ z. z ∷ rest) (sym same)) ∙ filled_append most list (w ∷ []) rest
+    ∙ ap (λ o. then_grown most o (Some rest)) adds
 
-pub scalar_taken : (begun list new : List (List ℕ)) (whole : Option (List (List ℕ))) (w : List ℕ) (number end : ℕ) (done : Bool) → number < end →
-    IsScalar number → w ≡ encode_utf8 number → grown begun whole ≡ filled list (scalars_left number end) → Extends done list new (Some (w ∷ [])) →
-    done ≡ true → grown begun whole ≡ filled new (scalars_left (number + 1) end)
-scalar_taken begun list new whole w number end done inside is same inv adds e =
-    scalar_turned begun list new whole w number end done inside is same inv adds
-    ∙ ap (λ b. then_grown (if b then Some new else None) (Some (scalars_left (number + 1) end))) e
+pub scalar_taken : (most : ℕ) (begun list new : List (List ℕ)) (whole : Option (List (List ℕ))) (w : List ℕ) (number end : ℕ) (done : Bool) → number < end →
+    IsScalar number → w ≡ encode_utf8 number → grown most begun whole ≡ filled most list (scalars_left number end) → Extends most done list new (Some (w ∷ [])) →
+    done ≡ true → grown most begun whole ≡ filled most new (scalars_left (number + 1) end)
+scalar_taken most begun list new whole w number end done inside is same inv adds e =
+    scalar_turned most begun list new whole w number end done inside is same inv adds
+    ∙ ap (λ b. then_grown most (if b then Some new else None) (Some (scalars_left (number + 1) end))) e
 
-pub scalar_failed : (begun list new : List (List ℕ)) (whole : Option (List (List ℕ))) (w : List ℕ) (number end : ℕ) (done : Bool) → number < end →
-    IsScalar number → w ≡ encode_utf8 number → grown begun whole ≡ filled list (scalars_left number end) → Extends done list new (Some (w ∷ [])) →
-    done ≡ false → grown begun whole ≡ None
-scalar_failed begun list new whole w number end done inside is same inv adds e =
-    scalar_turned begun list new whole w number end done inside is same inv adds
-    ∙ ap (λ b. then_grown (if b then Some new else None) (Some (scalars_left (number + 1) end))) e
+pub scalar_failed : (most : ℕ) (begun list new : List (List ℕ)) (whole : Option (List (List ℕ))) (w : List ℕ) (number end : ℕ) (done : Bool) → number < end →
+    IsScalar number → w ≡ encode_utf8 number → grown most begun whole ≡ filled most list (scalars_left number end) → Extends most done list new (Some (w ∷ [])) →
+    done ≡ false → grown most begun whole ≡ None
+scalar_failed most begun list new whole w number end done inside is same inv adds e =
+    scalar_turned most begun list new whole w number end done inside is same inv adds
+    ∙ ap (λ b. then_grown most (if b then Some new else None) (Some (scalars_left (number + 1) end))) e
 
 pub scalar_passed : (number end : ℕ) → number < end → ¬ IsScalar number → scalars_left number end ≡ scalars_left (number + 1) end
 scalar_passed number end inside never =
@@ -577,30 +582,47 @@ module _ (h : Hir) (k : HirKind) (subs : Vec Hir Global) (value : kind_meaning k
 
 -- The prefixes of patterns.
 
+-- those of a class are its members, if these are kept
+class_first : (class : Class) → first_bytes (class_meaning class) ≡ whole_bytes (class_meaning class)
+class_first (Unicode rs) = refl
+class_first (Bytes rs) = refl
+
+module _ (class : Class) (empty members : List (List ℕ)) (none : empty ≡ []) (done : Bool)
+    (adds : Extends greatest_whole done empty members (spelled_bytes (class_meaning class))) where
+  members_first : first_bytes (class_meaning class) ≡ (if done then Some members else None)
+  members_first = class_first class ∙ ap (λ z. grown greatest_whole z (spelled_bytes (class_meaning class))) (sym none) ∙ adds
+
+  pub members_unknown : (list : List (List ℕ)) → done ≡ false → grown greatest_count list (first_bytes (class_meaning class)) ≡ None
+  members_unknown list f = ap (grown greatest_count list) (members_first ∙ ap (λ b. if b then Some members else None) f)
+
+  pub members_known : done ≡ true → Some members ≡ first_bytes (class_meaning class)
+  members_known t = sym (members_first ∙ ap (λ b. if b then Some members else None) t)
+
 pub literal_prefix : (bs : List ℕ) (n : ℕ) → n ≡ min (length bs) greatest_length → take n bs ≡ take greatest_length bs
 literal_prefix bs n e = ap (λ m. take m bs) (e ∙ min_comm (length bs) greatest_length) ∙ take_min greatest_length bs
 
-module _ (hs : List Re) (begun new : List (List ℕ)) (done : Bool) (empty : begun ≡ []) (adds : Extends done begun new (first_bytes (alt_all hs))) where
-  whole_list : (found : Option (List (List ℕ))) → grown begun found ≡ Some new → found ≡ Some new × (length new ≤ greatest_count)
+module _ (hs : List Re) (begun new : List (List ℕ)) (done : Bool) (empty : begun ≡ []) (adds : Extends greatest_count done begun new (first_bytes (alt_all hs))) where
+  whole_list : (found : Option (List (List ℕ))) → grown greatest_count begun found ≡ Some new → found ≡ Some new × (length new ≤ greatest_count)
   whole_list None e = absurd (none-some new e)
   whole_list (Some ws) e =
       let none : length begun ≡ 0 = ap length empty in
-      let h = filled_some begun ws new (omega (arith, none)) e in
+      let h = filled_some greatest_count begun ws new (omega (arith, none)) e in
       (ap Some (sym (h.0 ∙ ap (λ z. z ++ ws) empty)), h.1)
 
-  pub are_prefixes : done ≡ true → IsUsable new → ArePrefixes hs new
-  are_prefixes t usable =
+  pub are_prefixes : done ≡ true → IsUsable new → are_too_many new ≡ false → ArePrefixes hs new
+  are_prefixes t usable kept =
       let h = whole_list (first_bytes (alt_all hs)) (adds ∙ ap (λ b. if b then Some new else None) t) in record {
         are = h.0;
         usable = usable;
         few = h.1;
+        kept = kept;
       }
 
   pub no_room : done ≡ false → (ws : List (List ℕ)) → ¬ ArePrefixes hs ws
   no_room f ws p =
-      let e : filled begun ws ≡ None = ap (grown begun) (sym p.are) ∙ adds ∙ ap (λ b. if b then Some new else None) f in
+      let e : filled greatest_count begun ws ≡ None = ap (grown greatest_count begun) (sym p.are) ∙ adds ∙ ap (λ b. if b then Some new else None) f in
       let none : length begun ≡ 0 = ap length empty in
-      let many = filled_none begun ws e in
+      let many = filled_none greatest_count begun ws e in
       let few = p.few in
       absurd (omega (arith, many, few, none))
 
@@ -608,3 +630,8 @@ module _ (hs : List Re) (begun new : List (List ℕ)) (done : Bool) (empty : beg
   not_usable t never ws p =
       let h = whole_list (first_bytes (alt_all hs)) (adds ∙ ap (λ b. if b then Some new else None) t) in
       absurd (never (subst IsUsable (same_Some ws new (sym p.are ∙ h.0)) p.usable))
+
+  pub not_kept : done ≡ true → are_too_many new ≡ true → (ws : List (List ℕ)) → ¬ ArePrefixes hs ws
+  not_kept t many ws p =
+      let h = whole_list (first_bytes (alt_all hs)) (adds ∙ ap (λ b. if b then Some new else None) t) in
+      false≢true (sym p.kept ∙ ap are_too_many (same_Some ws new (sym p.are ∙ h.0)) ∙ many)

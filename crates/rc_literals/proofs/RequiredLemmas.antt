@@ -12,13 +12,13 @@ use Rattle.rc_pattern.specs.declared.hir.Hir.{Hir}
 use Rattle.rc_program.specs.Text.{Text}
 use Rattle.rc_program.specs.Spells.{Stands, Turns, Spells, SpelledBy}
 use Rattle.rc_needles.specs.Needles.{StandsAt}
-use Rattle.rc_literals.specs.Extraction.{both, first_bytes, greatest_count, greatest_length}
+use Rattle.rc_literals.specs.Extraction.{are_too_many, both, first_bytes, greatest_few, greatest_length, has_short}
 use Rattle.rc_literals.specs.Literals.{literal_bytes}
 use Rattle.rc_literals.specs.Prefixes.{ArePrefixes}
 use Rattle.rc_needles.specs.Tables.{AreSome, IsUsable}
 use Rattle.rc_literals.proofs.ExtractionLemmas.{IsBegun, first_hold, holds_literal, literal_prefix, spells_on}
 use Rattle.rc_literals.specs.Needs.{Holds}
-use Rattle.rc_literals.specs.Required.{better, few, greatest_rest, joined, literal_needle, needed, next_bytes, only_byte, shortest, with_each, with_rest}
+use Rattle.rc_literals.specs.Required.{better, few, greatest_needed, greatest_rest, joined, literal_needle, needed, next_bytes, only_byte, shortest, with_each, with_rest}
 
 -- a needle stands in the content from i to j
 abbrev pub HasOne : List (List ℕ) → List ℕ → ℕ → ℕ → Type 0
@@ -161,7 +161,7 @@ needed_held longer (alt a rest) ws e =
         (λ y.
         subst (λ z. AreHeld z (alt a rest)) (same_Some (us ++ vs) ws (rw y at is)) (held_either us vs a rest (one us refl) (other vs refl)))
         (λ f. absurd (none-some ws (rw f at is)))
-        (cases_Bool (nat_le (length (us ++ vs)) greatest_count))
+        (cases_Bool (nat_le (length (us ++ vs)) greatest_needed))
 needed_held longer none ws e = λ t i j never. absurd never
 
 spelled_alt : (t : Text) (n : ℕ) (hs : List Re) (p i j : ℕ) → SpelledBy t n hs p i j → Spells t (alt_all hs) i j
@@ -254,6 +254,11 @@ both_one : (o : Option (List (List ℕ))) (ws : List (List ℕ)) → both o (Som
 both_one None ws e = e
 both_one (Some us) ws e = ap Some (no_more us) ∙ e
 
+few_kept : (ws : List (List ℕ)) → length ws ≤ greatest_rest → are_too_many ws ≡ false
+few_kept ws le =
+    let f : nat_lt greatest_few (length ws) ≡ false = grind (arith, nat_tests) in
+    ap (λ b. b && has_short ws) f
+
 -- the next member has no prefixes
 pub next_none : (hs : List Hir) → ((ws : List (List ℕ)) → ¬ ArePrefixes (map meaning (take 1 hs)) ws) → None ≡ next_bytes (cat_all (map meaning hs))
 next_none [] never = refl
@@ -265,7 +270,7 @@ next_none (h ∷ hs) never = by_first (first_bytes (meaning h)) refl
         ⊎_elim
         (λ y.
         let u = few_usable ws y in
-        absurd (never ws (record { are = ap (λ o. both o (Some [])) e ∙ ap Some (sym (no_more ws)); usable = u.0; few = omega (arith, u.1) })))
+        absurd (never ws (record { are = ap (λ o. both o (Some [])) e ∙ ap Some (sym (no_more ws)); usable = u.0; few = omega (arith, u.1); kept = few_kept ws u.1 })))
         (λ f. rw f refl)
         (cases_Bool (is_few ws))
 

@@ -6,7 +6,15 @@ use Rattle.rc_pattern.specs.Re.{Re, Range, empty, literal, byte_in, char_in, loo
 
 -- The most prefixes that are kept.
 abbrev pub greatest_count : ℕ
-greatest_count = 64
+greatest_count = 16384
+
+-- The most prefixes that are kept if one of them is short.
+abbrev pub greatest_few : ℕ
+greatest_few = 64
+
+-- The most texts of a pattern that are kept whole.
+abbrev pub greatest_whole : ℕ
+greatest_whole = 64
 
 -- A shorter needle is lengthened by what is read after it.
 abbrev pub short_length : ℕ
@@ -44,15 +52,15 @@ both None ws = None
 both (Some vs) None = None
 both (Some vs) (Some ws) = Some (vs ++ ws)
 
--- The list with these at its end, one after another, if there is room for each.
-abbrev pub filled : List (List ℕ) → List (List ℕ) → Option (List (List ℕ))
-filled list [] = Some list
-filled list (w ∷ ws) = if nat_lt (length list) greatest_count then filled (list ++ w ∷ []) ws else None
+-- The list with these at its end, one after another, if there is room for each. It takes so many.
+abbrev pub filled : ℕ → List (List ℕ) → List (List ℕ) → Option (List (List ℕ))
+filled most list [] = Some list
+filled most list (w ∷ ws) = if nat_lt (length list) most then filled most (list ++ w ∷ []) ws else None
 
 -- The list with what is added, if that is known and there is room for it.
-abbrev pub grown : List (List ℕ) → Option (List (List ℕ)) → Option (List (List ℕ))
-grown list None = None
-grown list (Some ws) = filled list ws
+abbrev pub grown : ℕ → List (List ℕ) → Option (List (List ℕ)) → Option (List (List ℕ))
+grown most list None = None
+grown most list (Some ws) = filled most list ws
 
 -- Each text that is spelled by literals and classes, in groups and alternations as they come. None
 -- for other patterns, and if a literal is too long to be kept.
@@ -67,7 +75,7 @@ spelled_bytes _ = None
 
 -- Each text that the pattern spells, if all of it can be kept.
 abbrev pub whole_bytes : Re → Option (List (List ℕ))
-whole_bytes a = grown [] (spelled_bytes a)
+whole_bytes a = grown greatest_whole [] (spelled_bytes a)
 
 -- Each of the first list with each of the second after it.
 abbrev pub crossed : List (List ℕ) → List (List ℕ) → List (List ℕ)
@@ -77,6 +85,10 @@ crossed ws vs = flat_map (λ w. map (λ v. w ++ v) vs) ws
 abbrev pub has_short : List (List ℕ) → Bool
 has_short [] = false
 has_short (w ∷ ws) = nat_lt (length w) short_length || has_short ws
+
+-- They are many, and one of them is short.
+abbrev pub are_too_many : List (List ℕ) → Bool
+are_too_many ws = nat_lt greatest_few (length ws) && has_short ws
 
 -- One of them is short, and there are few enough once each has each of the others after it.
 abbrev pub may_cross : List (List ℕ) → Option (List (List ℕ)) → Bool
@@ -97,12 +109,12 @@ begun_by None first rest = first
 begun_by (Some ws) first rest = Some (lengthened ws rest)
 
 -- The beginnings of the texts that the pattern spells: the literals and classes that may be read
--- first. None if an optional body, or nothing but assertions, may come first.
+-- first. None if an optional body, a large class, or nothing but assertions may come first.
 abbrev pub first_bytes : Re → Option (List (List ℕ))
 first_bytes empty = None
 first_bytes (literal bs) = Some (take greatest_length bs ∷ [])
-first_bytes (byte_in rs) = Some (flat_map range_bytes rs)
-first_bytes (char_in rs) = Some (flat_map range_chars rs)
+first_bytes (byte_in rs) = whole_bytes (byte_in rs)
+first_bytes (char_in rs) = whole_bytes (char_in rs)
 first_bytes (look l) = None
 first_bytes (repeat zero max greedy a) = None
 first_bytes (repeat (suc min) max greedy a) = first_bytes a
@@ -111,7 +123,7 @@ first_bytes (cat a rest) = if is_still a then first_bytes rest else begun_by (wh
 first_bytes (alt a rest) = both (first_bytes a) (first_bytes rest)
 first_bytes none = Some []
 
--- If it is done, the new list is the old one with these prefixes. If it isn't, there are none or
--- there is no room for them.
-abbrev pub Extends : Bool → List (List ℕ) → List (List ℕ) → Option (List (List ℕ)) → Type 0
-Extends done old new found = grown old found ≡ (if done then Some new else None)
+-- If it is done, the new list is the old one with these prefixes. If it isn't, there are none, or
+-- there is no room for them in a list that takes so many.
+abbrev pub Extends : ℕ → Bool → List (List ℕ) → List (List ℕ) → Option (List (List ℕ)) → Type 0
+Extends most done old new found = grown most old found ≡ (if done then Some new else None)

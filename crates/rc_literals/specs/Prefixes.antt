@@ -1,5 +1,5 @@
 -- Prefix literals: lists of prefixes that cover patterns, and how one list replaces another.
-use Rattle.std.specs.Prelude.{◌≡◌, ◌≤◌, ℕ, List, ◌++◌, All, Bool, Some, length, slice_get}
+use Rattle.std.specs.Prelude.{◌≡◌, ◌≤◌, ℕ, List, ◌++◌, All, Bool, false, Some, length, slice_get}
 use Rattle.rc_pattern.specs.Re.{Re}
 use Rattle.rc_pattern.specs.Meaning.{alt_all}
 use Rattle.rc_pattern.specs.WellFormed.{HasBounds}
@@ -7,15 +7,16 @@ use Rattle.rc_program.specs.Text.{Text}
 use Rattle.rc_program.specs.Program.{program, shown}
 use Rattle.rc_literals.specs.Literals.{Covers}
 use Rattle.rc_needles.specs.Guards.{Guards}
-use Rattle.rc_literals.specs.Extraction.{first_bytes, greatest_count}
+use Rattle.rc_literals.specs.Extraction.{are_too_many, first_bytes, greatest_count}
 use Rattle.rc_needles.specs.Tables.{IsUsable}
 
 -- These are the prefixes of the patterns: what may be read first in them, none of it empty, and no
--- more than are kept.
+-- more than are kept. If one of them is short, they are few.
 pub record ArePrefixes (hs : List Re) (ws : List (List ℕ)) : Type 0 where
   pub are : first_bytes (alt_all hs) ≡ Some ws
   pub usable : IsUsable ws
   pub few : length ws ≤ greatest_count
+  pub kept : are_too_many ws ≡ false
 
 -- The bytes begin with the needle.
 abbrev pub BeginsWith : List ℕ → List ℕ → Type 0

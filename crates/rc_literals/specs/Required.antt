@@ -3,7 +3,7 @@
 use Rattle.std.specs.Prelude.{◌≡◌, ℕ, zero, suc, Bool, ◌&&◌, List, [], ◌∷◌, ◌++◌, length, map, min, take, Option, Some, None, nat_lt, nat_le, if◌then◌else◌}
 use Rattle.rc_pattern.specs.Re.{Re, empty, literal, byte_in, char_in, look, repeat, capture, cat, alt, none}
 use Rattle.rc_pattern.specs.Meaning.{alt_all}
-use Rattle.rc_literals.specs.Extraction.{greatest_count, greatest_length, first_bytes}
+use Rattle.rc_literals.specs.Extraction.{greatest_length, first_bytes}
 use Rattle.rc_literals.specs.Literals.{literal_bytes}
 use Rattle.rc_needles.specs.Tables.{IsUsable}
 
@@ -19,11 +19,15 @@ better None ws = ws
 better (Some vs) None = Some vs
 better (Some vs) (Some ws) = if nat_lt (shortest vs) (shortest ws) then Some ws else Some vs
 
+-- The most needles that are kept.
+abbrev pub greatest_needed : ℕ
+greatest_needed = 64
+
 -- The needles of both, if both have some and these are no more than are kept.
 abbrev pub joined : Option (List (List ℕ)) → Option (List (List ℕ)) → Option (List (List ℕ))
 joined None ws = None
 joined (Some vs) None = None
-joined (Some vs) (Some ws) = if nat_le (length (vs ++ ws)) greatest_count then Some (vs ++ ws) else None
+joined (Some vs) (Some ws) = if nat_le (length (vs ++ ws)) greatest_needed then Some (vs ++ ws) else None
 
 -- The first bytes of a literal, if it has some.
 abbrev pub literal_needle : List ℕ → Option (List (List ℕ))

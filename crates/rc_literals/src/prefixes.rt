@@ -4,7 +4,7 @@ ghost use Rattle.std.specs.Bool.{Decides};
 ghost use Rattle.rc_pattern.specs.Meaning.{alt_all, byte_range, cat_all, char_range, class_meaning, meaning};
 ghost use Rattle.rc_pattern.specs.Re.{byte_in, char_in, literal};
 ghost use Rattle.rc_program.specs.Text.{Text};
-ghost use Rattle.rc_literals.specs.Extraction.{Extends, begun_by, crossed, first_bytes, has_short, is_still, lengthened, may_cross, range_bytes, range_chars, spelled_bytes, whole_bytes};
+ghost use Rattle.rc_literals.specs.Extraction.{Extends, are_too_many, begun_by, crossed, first_bytes, greatest_count, greatest_whole, has_short, is_still, lengthened, may_cross, range_bytes, range_chars, spelled_bytes, whole_bytes};
 ghost use Rattle.rc_literals.specs.Literals.{Covers};
 ghost use Rattle.rc_needles.specs.Prefilters.{needles_of};
 ghost use Rattle.rc_literals.specs.Prefixes.{ArePrefixes, BeginsWithOne, EachBegins};
@@ -15,7 +15,13 @@ use rc_pattern::hir::{Class, ClassBytesRange, ClassUnicodeRange, Hir, HirKind};
 use std::alloc::{AllocError, Global};
 
 /// The most prefixes that are kept.
-const GREATEST_COUNT: usize = 64;
+const GREATEST_COUNT: usize = 16_384;
+
+/// The most prefixes that are kept if one of them is short.
+const GREATEST_FEW: usize = 64;
+
+/// The most texts of a pattern that are kept whole.
+const GREATEST_WHOLE: usize = 64;
 
 /// The most bytes of a literal that are kept.
 const GREATEST_LENGTH: usize = 32;
@@ -34,9 +40,10 @@ const GREATEST_VARIANTS: usize = 32;
 /// classes that follow, also in groups and alternations, as long as that makes at most 32. So
 /// `[ab]cd` has `acd` and `bcd`.
 ///
-/// Returns None if there is no prefix, if there are more than 64, or if in some pattern an optional
-/// body or nothing but assertions may come first. `Err` means out of memory. It takes time linear
-/// in the patterns' size, and recurses as deep as a pattern is nested.
+/// Returns None if there is no prefix, if there are more than 16,384, or more than 64 and one of
+/// them has fewer than 3 bytes, or if in some pattern an optional body, a class of more than 64
+/// members or nothing but assertions may come first. `Err` means out of memory. It takes time
+/// linear in the patterns' size, and recurses as deep as a pattern is nested.
 pub fn prefixes(alloc: Global, hirs: &[Hir]) -> Result<Option<Vec<Vec<u8>>>, AllocError>
     ensures usable { IfOk result (λ found. IfSome found (λ v. IsUsable (needles_in v.items))) }
     ensures exact { IfOk result (λ found. MatchOption found
@@ -49,19 +56,29 @@ pub fn prefixes(alloc: Global, hirs: &[Hir]) -> Result<Option<Vec<Vec<u8>>>, All
     if !add_alternation(alloc, hirs, &mut list)? || !is_usable(&list) {
         return Ok(None);
     }
+    if are_too_many(&list) {
+        return Ok(None);
+    }
     Ok(Some(list))
+}
+
+/// Whether the prefixes are many, and one of them is short.
+fn are_too_many(prefixes: &[Vec<u8>]) -> bool
+    ensures { result ≡ are_too_many (needles_in prefixes.now) }
+{
+    prefixes.len() > GREATEST_FEW && has_short(prefixes)
 }
 
 /// Adds the prefixes of a pattern. Returns false if it has none of use.
 #[cycle(add)]
 fn add(alloc: Global, hir: &Hir, list: &mut Vec<Vec<u8>>) -> Result<bool, AllocError>
-    ensures { IfOk result (λ done. Extends done (needles_in list.old.items)
+    ensures { IfOk result (λ done. Extends greatest_count done (needles_in list.old.items)
         (needles_in list.new.items) (first_bytes (meaning hir.now))) }
 {
     match hir.kind() {
         HirKind::Empty | HirKind::Look(_) => Ok(false),
         HirKind::Literal(bytes) => add_literal(alloc, bytes, list),
-        HirKind::Class(class) => add_class(alloc, class, list),
+        HirKind::Class(class) => add_members(alloc, class, list),
         HirKind::Repetition(repetition) => {
             if repetition.min == 0 {
                 return Ok(false);
@@ -83,7 +100,7 @@ fn add(alloc: Global, hir: &Hir, list: &mut Vec<Vec<u8>>) -> Result<bool, AllocE
 /// Adds the prefixes of each pattern. Returns false if one has none of use.
 #[cycle(add)]
 fn add_alternation(alloc: Global, subs: &[Hir], list: &mut Vec<Vec<u8>>) -> Result<bool, AllocError>
-    ensures { IfOk result (λ done. Extends done (needles_in list.old.items)
+    ensures { IfOk result (λ done. Extends greatest_count done (needles_in list.old.items)
         (needles_in list.new.items) (first_bytes (alt_all (map meaning subs.now)))) }
 {
     for sub in subs {
@@ -103,7 +120,7 @@ fn add_begun(
     rest: &[Hir],
     list: &mut Vec<Vec<u8>>,
 ) -> Result<bool, AllocError>
-    ensures { IfOk result (λ done. Extends done (needles_in list.old.items)
+    ensures { IfOk result (λ done. Extends greatest_count done (needles_in list.old.items)
         (needles_in list.new.items)
         (begun_by (whole_bytes (meaning first.now)) (first_bytes (meaning first.now))
         (cat_all (map meaning rest.now)))) }
@@ -134,7 +151,7 @@ fn whole_bytes(alloc: Global, hir: &Hir) -> Result<Option<Vec<Vec<u8>>>, AllocEr
 /// Adds each text that a pattern spells. Returns false if these aren't known, or there is no room.
 #[cycle(add_whole)]
 fn add_whole(alloc: Global, hir: &Hir, list: &mut Vec<Vec<u8>>) -> Result<bool, AllocError>
-    ensures { IfOk result (λ done. Extends done (needles_in list.old.items)
+    ensures { IfOk result (λ done. Extends greatest_whole done (needles_in list.old.items)
         (needles_in list.new.items) (spelled_bytes (meaning hir.now))) }
 {
     match hir.kind() {
@@ -156,7 +173,7 @@ fn add_whole_alternation(
     subs: &[Hir],
     list: &mut Vec<Vec<u8>>,
 ) -> Result<bool, AllocError>
-    ensures { IfOk result (λ done. Extends done (needles_in list.old.items)
+    ensures { IfOk result (λ done. Extends greatest_whole done (needles_in list.old.items)
         (needles_in list.new.items) (spelled_bytes (alt_all (map meaning subs.now)))) }
 {
     for sub in subs {
@@ -173,13 +190,13 @@ fn add_whole_literal(
     bytes: &[u8],
     list: &mut Vec<Vec<u8>>,
 ) -> Result<bool, AllocError>
-    ensures { IfOk result (λ done. Extends done (needles_in list.old.items)
+    ensures { IfOk result (λ done. Extends greatest_whole done (needles_in list.old.items)
         (needles_in list.new.items) (spelled_bytes (literal bytes.now))) }
 {
     if bytes.len() > GREATEST_LENGTH {
         return Ok(false);
     }
-    add_needle(alloc, bytes, list)
+    add_needle(alloc, bytes, GREATEST_WHOLE, list)
 }
 
 /// Returns the needles, lengthened by what is read after them.
@@ -278,11 +295,11 @@ fn add_needles(
     needles: &[Vec<u8>],
     list: &mut Vec<Vec<u8>>,
 ) -> Result<bool, AllocError>
-    ensures { IfOk result (λ done. Extends done (needles_in list.old.items)
+    ensures { IfOk result (λ done. Extends greatest_count done (needles_in list.old.items)
         (needles_in list.new.items) (Some (needles_in needles.now))) }
 {
     for needle in needles {
-        if !add_needle(alloc, needle, list)? {
+        if !add_needle(alloc, needle, GREATEST_COUNT, list)? {
             return Ok(false);
         }
     }
@@ -323,16 +340,29 @@ fn is_still(hir: &Hir) -> bool
 
 /// Adds the first bytes of a literal. Returns false if there is no room.
 fn add_literal(alloc: Global, bytes: &[u8], list: &mut Vec<Vec<u8>>) -> Result<bool, AllocError>
-    ensures { IfOk result (λ done. Extends done (needles_in list.old.items)
+    ensures { IfOk result (λ done. Extends greatest_count done (needles_in list.old.items)
         (needles_in list.new.items) (first_bytes (literal bytes.now))) }
 {
-    add_needle(alloc, &bytes[..bytes.len().min(GREATEST_LENGTH)], list)
+    let first = &bytes[..bytes.len().min(GREATEST_LENGTH)];
+    add_needle(alloc, first, GREATEST_COUNT, list)
+}
+
+/// Adds each member of a class. Returns false if there are too many, or there is no room.
+fn add_members(alloc: Global, class: &Class, list: &mut Vec<Vec<u8>>) -> Result<bool, AllocError>
+    ensures { IfOk result (λ done. Extends greatest_count done (needles_in list.old.items)
+        (needles_in list.new.items) (first_bytes (class_meaning class.now))) }
+{
+    let mut members = Vec::new(alloc);
+    if !add_class(alloc, class, &mut members)? {
+        return Ok(false);
+    }
+    add_needles(alloc, &members, list)
 }
 
 /// Adds each member of a class. Returns false if there are too many.
 fn add_class(alloc: Global, class: &Class, list: &mut Vec<Vec<u8>>) -> Result<bool, AllocError>
-    ensures { IfOk result (λ done. Extends done (needles_in list.old.items)
-        (needles_in list.new.items) (first_bytes (class_meaning class.now))) }
+    ensures { IfOk result (λ done. Extends greatest_whole done (needles_in list.old.items)
+        (needles_in list.new.items) (spelled_bytes (class_meaning class.now))) }
 {
     match class {
         Class::Bytes(ranges) => add_byte_ranges(alloc, ranges, list),
@@ -346,8 +376,8 @@ fn add_byte_ranges(
     ranges: &[ClassBytesRange],
     list: &mut Vec<Vec<u8>>,
 ) -> Result<bool, AllocError>
-    ensures { IfOk result (λ done. Extends done (needles_in list.old.items)
-        (needles_in list.new.items) (first_bytes (byte_in (map byte_range ranges.now)))) }
+    ensures { IfOk result (λ done. Extends greatest_whole done (needles_in list.old.items)
+        (needles_in list.new.items) (spelled_bytes (byte_in (map byte_range ranges.now)))) }
 {
     for range in ranges {
         if !add_bytes(alloc, *range, list)? {
@@ -363,8 +393,8 @@ fn add_char_ranges(
     ranges: &[ClassUnicodeRange],
     list: &mut Vec<Vec<u8>>,
 ) -> Result<bool, AllocError>
-    ensures { IfOk result (λ done. Extends done (needles_in list.old.items)
-        (needles_in list.new.items) (first_bytes (char_in (map char_range ranges.now)))) }
+    ensures { IfOk result (λ done. Extends greatest_whole done (needles_in list.old.items)
+        (needles_in list.new.items) (spelled_bytes (char_in (map char_range ranges.now)))) }
 {
     for range in ranges {
         if !add_chars(alloc, *range, list)? {
@@ -380,11 +410,11 @@ fn add_bytes(
     range: ClassBytesRange,
     list: &mut Vec<Vec<u8>>,
 ) -> Result<bool, AllocError>
-    ensures { IfOk result (λ done. Extends done (needles_in list.old.items)
+    ensures { IfOk result (λ done. Extends greatest_whole done (needles_in list.old.items)
         (needles_in list.new.items) (Some (range_bytes (byte_range range)))) }
 {
     for byte in range.start as usize..range.end as usize + 1 {
-        if !add_needle(alloc, &[byte as u8], list)? {
+        if !add_needle(alloc, &[byte as u8], GREATEST_WHOLE, list)? {
             return Ok(false);
         }
     }
@@ -397,13 +427,14 @@ fn add_chars(
     range: ClassUnicodeRange,
     list: &mut Vec<Vec<u8>>,
 ) -> Result<bool, AllocError>
-    ensures { IfOk result (λ done. Extends done (needles_in list.old.items)
+    ensures { IfOk result (λ done. Extends greatest_whole done (needles_in list.old.items)
         (needles_in list.new.items) (Some (range_chars (char_range range)))) }
 {
     for code in range.start as u32..range.end as u32 + 1 {
         if let Some(scalar) = char::from_u32(code) {
             let mut buffer = [0; 4];
-            if !add_needle(alloc, scalar.encode_utf8(&mut buffer).as_bytes(), list)? {
+            let bytes = scalar.encode_utf8(&mut buffer).as_bytes();
+            if !add_needle(alloc, bytes, GREATEST_WHOLE, list)? {
                 return Ok(false);
             }
         }
@@ -411,12 +442,17 @@ fn add_chars(
     Ok(true)
 }
 
-/// Adds these bytes. Returns false if the list is full.
-fn add_needle(alloc: Global, needle: &[u8], list: &mut Vec<Vec<u8>>) -> Result<bool, AllocError>
-    ensures { IfOk result (λ done. Extends done (needles_in list.old.items)
+/// Adds these bytes. Returns false if the list is full: it takes `most`.
+fn add_needle(
+    alloc: Global,
+    needle: &[u8],
+    most: usize,
+    list: &mut Vec<Vec<u8>>,
+) -> Result<bool, AllocError>
+    ensures { IfOk result (λ done. Extends most done (needles_in list.old.items)
         (needles_in list.new.items) (Some (needle.now ∷ []))) }
 {
-    if list.len() >= GREATEST_COUNT {
+    if list.len() >= most {
         return Ok(false);
     }
     list.push(needle.to_vec(alloc)?)?;

@@ -20,6 +20,7 @@ use rc_dfa::automaton::Automaton;
 use rc_dfa_search::build::automaton_of;
 use rc_lazy_dfa::error::LazyError;
 use rc_lazy_dfa::lazy::Lazy;
+use rc_needles::prefilter::Prefilter;
 use rc_pikevm_search::engine::Engine;
 use rc_pikevm_search::literals::{Literals, guards_of, literals_of};
 use std::alloc::{AllocError, Global};
@@ -41,25 +42,34 @@ fn exceeds(places: usize, limit: Option<usize>) -> bool
     }
 }
 
-/// Whether the search for prefix literals is fast, so that DFA searches go from one to the next. If
-/// that search went by a table of first bytes, a DFA would read a byte as fast, and need not begin
-/// anew at each literal.
+/// Whether a table of bits rules out most positions before the trie of the needles is asked.
+fn have_openings(needles: &Prefilter) -> bool {
+    match &needles.searcher.table.trie {
+        Some(trie) => !trie.openings.is_empty(),
+        None => false,
+    }
+}
+
+/// Whether DFA searches go from one prefix literal to the next: the search for these is fast, or
+/// they are many and few positions are left to their trie. Patterns with many literals have a DFA
+/// of large states, of which few are met then. If the search went by a table of first bytes, a DFA
+/// would read a byte as fast, and need not begin anew at each literal.
 pub(crate) fn are_fast(literals: &Literals) -> bool {
     match guards_of(literals) {
-        Some(needles) => needles.is_fast(),
+        Some(needles) => needles.is_fast() || have_openings(needles),
         None => false,
     }
 }
 
 /// Whether DFA searches are to rest between literals. They are if there are required literals, or
-/// if the search for prefix literals is fast. They are too if some byte may not be read, since a
+/// if they go from one prefix literal to the next. They are too if some byte may not be read, since a
 /// search that came to one goes from literal to literal.
 fn are_to_rest(literals: &Literals, needed: bool, automaton: &Automaton) -> bool {
     if needed {
         return true;
     }
     match guards_of(literals) {
-        Some(needles) => needles.is_fast() || !automaton.may_read(Some(128)),
+        Some(_) => are_fast(literals) || !automaton.may_read(Some(128)),
         None => false,
     }
 }
