@@ -25,6 +25,7 @@ use Rattle.rc_pikevm.specs.PatternSpans.{AddsSpelled}
 use Rattle.rc_pikevm_search.specs.Engine.{engine_search}
 use Rattle.rc_pikevm_search.specs.declared.engine.Engine.{Engine}
 use Rattle.rc_strategy.specs.Lengths.{BoundsWalks, IsHeld, SeeksFromStart}
+use Rattle.rc_strategy.specs.Starts.{unpassed}
 use Rattle.rc_strategy.specs.declared.lengths.Lengths.{Lengths}
 use Rattle.rc_strategy.proofs.SpanLemmas.{begins_at_bound}
 
@@ -160,6 +161,23 @@ module _ (e : Engine) (k : Lengths) (s : Searched) (bound : BoundsWalks k (place
   start_adds set new h =
       subst (λ a. AddsSpelled (engine_search e (anchored_so s a)) set new) (sym from.0)
       (held_adds (places_of e.program.places.items) (text_of e.program.terminator s) (low s) (high s) e.program.passes_over first_at set new h)
+
+  -- where none is passed over, the match is the same
+  pub start_unpassed : (o : Option Found) → o ≡ answer_by e.kind (unpassed (engine_search e (anchored_so s Yes))) →
+      o ≡ answer_by e.kind (unpassed (engine_search e s))
+  start_unpassed o h =
+      let places = places_of e.program.places.items in
+      subst (λ a. o ≡ answer_by e.kind (unpassed (engine_search e (anchored_so s a)))) (sym from.0)
+      (held_match places (text_of e.program.terminator s) (low s) (high s) false
+      (begins_at_bound k places e.program.terminator false (anchored_so s No) bound from.1.0 from.1.1) e.kind o (sym h))
+
+-- the match where none is passed over is that of the input, where it is anchored if each match begins at its start
+pub unpassed_held : (e : Engine) (k : Lengths) (s t : Searched) (r : Result (Option Found) MatchError) → BoundsWalks k (places_of e.program.places.items) →
+    IsHeld k s t → IfOk r (λ o. o ≡ answer_by e.kind (unpassed (engine_search e t))) → IfOk r (λ o. o ≡ answer_by e.kind (unpassed (engine_search e s)))
+unpassed_held e k s t r bound held h =
+    ⊎_elim (λ is. subst (λ x. IfOk r (λ o. o ≡ answer_by e.kind (unpassed (engine_search e x)))) is h)
+    (λ q. IfOk-weaker r _ _ (start_unpassed e k s bound q.0)
+    (subst (λ x. IfOk r (λ o. o ≡ answer_by e.kind (unpassed (engine_search e x)))) q.1 h)) held
 
 -- a pass over the input adds what is spelled, where it is anchored if each match begins at its start
 pub adds_held : (e : Engine) (k : Lengths) (s t : Searched) (set new : List Bool) → BoundsWalks k (places_of e.program.places.items) → IsHeld k s t →

@@ -28,7 +28,7 @@ use Rattle.rc_pikevm_search.specs.Literals.{AreAnswers}
 use Rattle.rc_pikevm_search.specs.declared.engine.Engine.{Engine}
 use Rattle.rc_pikevm.specs.PatternSpans.{AddsSpelled, AreOfFirst}
 use Rattle.rc_strategy.specs.Lengths.{BoundsWalks, is_leftmost, leave_none}
-use Rattle.rc_strategy.specs.Starts.{IsFirstStart}
+use Rattle.rc_strategy.specs.Starts.{IsFirstStart, unpassed}
 use Rattle.rc_strategy.specs.declared.lengths.Lengths.{Lengths}
 use Rattle.rc_strategy.proofs.SpanLemmas.{none_left}
 
@@ -76,6 +76,11 @@ something (Some m) e = (m, refl)
 -- a search that tells whether there is one tells none
 pub no_span_told : (kind : MatchKind) (s : Search) (b : Bool) → s.passes_over ≡ false → b ≡ is_some (answer_by kind s) → b ≡ false → HasNoSpan s
 no_span_told kind s b off is none = no_span kind s off (nothing (answer_by kind s) (sym is ∙ none))
+
+-- for `MatchKind::All`, whether or not matches are passed over
+pub no_span_of_all : (kind : MatchKind) (s : Search) (b : Bool) → kind ≡ all_matches → b ≡ is_some (answer_by kind s) → b ≡ false → HasNoSpan s
+no_span_of_all kind s b all is none =
+    (greatest_law.none s).0 (sym (nothing (answer_by all_matches s) (ap (λ k. is_some (answer_by k s)) (sym all) ∙ sym is ∙ none)))
 
 -- WHERE LITERALS DECIDE
 
@@ -156,6 +161,35 @@ first_told all_matches s m l off e = absurd (true≢false (sym l))
 pub least_told : (kind : MatchKind) (s : Search) (o : Option Found) (m : Found) (x : ℕ) → is_leftmost kind ≡ true → s.passes_over ≡ false → o ≡ answer_by kind s → o ≡ Some m →
     x ≡ m.start → IsFirstStart s (Some x)
 least_told kind s o m x leftmost off is some at = subst (λ y. IsFirstStart s (Some y)) (sym at) (first_told kind s m leftmost off (sym is ∙ some))
+
+-- WHERE NONE IS PASSED OVER
+
+same_spelled : (s : Search) (over : Bool) (m : Found) → IsSpelledIn s m → IsSpelledIn (record s { passes_over = over }) m
+same_spelled s over m h = record { is_start = h.is_start; walk = h.walk; is_walk = h.is_walk; pattern = h.pattern; position = h.position }
+
+spelled_same : (s : Search) (over : Bool) (m : Found) → IsSpelledIn (record s { passes_over = over }) m → IsSpelledIn s m
+spelled_same s over m h = record { is_start = h.is_start; walk = h.walk; is_walk = h.is_walk; pattern = h.pattern; position = h.position }
+
+-- there is no match where none is passed over
+pub none_unpassed : (kind : MatchKind) (s : Search) → None ≡ answer_by kind (unpassed s) → HasNoSpan s
+none_unpassed kind s e m h = no_span kind (unpassed s) refl e m (same_spelled s false m h)
+
+-- where the leftmost match begins, if none is passed over
+pub first_unpassed : (kind : MatchKind) (s : Search) (o : Option Found) (m : Found) (x : ℕ) → is_leftmost kind ≡ true → o ≡ answer_by kind (unpassed s) → o ≡ Some m →
+    x ≡ m.start → IsFirstStart s (Some x)
+first_unpassed kind s o m x leftmost is some at =
+    let first = least_told kind (unpassed s) o m x leftmost refl is some at in (first.0, λ n h. first.1 n (same_spelled s false n h))
+
+-- where the one pattern has a match, if none is passed over
+pub one_unpassed : (kind : MatchKind) (s : Search) (o : Option Found) (m : Found) (marks : List Bool) → AreOfFirst 1 s.places → o ≡ answer_by kind (unpassed s) →
+    o ≡ Some m → AddsSpelled s marks (set marks 0 true)
+one_unpassed kind s o m marks few is some =
+    one_adds s 1 marks m few refl (spelled_same s false m (kind_spelled kind (unpassed s) m (sym is ∙ some)))
+
+-- that is the match, where the program passes none over
+pub passes_none : (e : Engine) (s : Searched) → e.program.passes_over ≡ false →
+    answer_by e.kind (engine_search e s) ≡ answer_by e.kind (unpassed (engine_search e s))
+passes_none e s off = ap (λ b. answer_by e.kind (search_over (places_of e.program.places.items) e.program.terminator b s)) off
 
 -- where the shown chunk and the position alone change, the search is the same
 pub kept_search : (e : Engine) (a b : Searched) → Keeps a b → engine_search e b ≡ engine_search e a

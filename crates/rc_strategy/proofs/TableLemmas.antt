@@ -31,6 +31,7 @@ use Rattle.rc_pikevm_search.specs.declared.engine.Engine.{Engine}
 use Rattle.rc_strategy.specs.Slots.{NamesGroups}
 use Rattle.rc_strategy.specs.Lengths.{BoundsWalks, SeeksFromEnd, SeeksGreatestFromEnd, is_leftmost}
 use Rattle.rc_strategy.specs.declared.lengths.Lengths.{Lengths}
+use Rattle.rc_strategy.specs.Starts.{unpassed}
 use Rattle.rc_strategy.specs.Tables.{AreHalvesFor, aim_of}
 use Rattle.rc_strategy.proofs.SettleLemmas.{answers_so, settled_by, settled_prop}
 use Rattle.rc_strategy.proofs.SlotLemmas.{program_names}
@@ -102,6 +103,17 @@ module _ (e : Engine) (patterns : ℕ) {AreOf : Machine → Machine → Type 0} 
   tables_tell (Err x) tells = tt
   tables_tell (Ok found) tells =
       told (hlevel props) (λ x hs. IsAnswerBy x.kind x.earliest (search_for x hs e.program.terminator s) found) tells (λ hs same h. h ∙ same_answer hs same)
+
+  -- where none is passed over too
+  pub tables_tell_unpassed : (r : Result (Option Found) MatchError) →
+      ((hs : List Re) → places_of e.program.places.items ≡ program hs → AreHalvesOf AreOf (record a { passes_over = false }) hs e.program.terminator →
+      IfOk r (IsAnswerBy a.kind a.earliest (search_over (program hs) e.program.terminator false s))) →
+      IfOk r (λ found. found ≡ answer_by e.kind (unpassed (engine_search e s)))
+  tables_tell_unpassed (Err x) tells = tt
+  tables_tell_unpassed (Ok found) tells =
+      told (hlevel props) (λ x hs. IsAnswerBy x.kind x.earliest (search_over (program hs) e.program.terminator false s) found)
+      (λ hs same h. tells hs same (record { ahead = h.ahead; back = h.back; are_of = h.are_of; machines = h.machines; counted = h.counted; few = h.few }))
+      (λ hs same h. h ∙ ap (λ places. answer_by e.kind (search_over places e.program.terminator false s)) (sym same))
 
   -- and a search forwards its end, where it is that of the least start
   pub tables_tell_end : is_leftmost e.kind ≡ true → (r : Result (Option HalfFound) MatchError) →

@@ -1,11 +1,15 @@
 -- Only proofs use this file.
 -- Overlapping search: from where on a search finds each walk, and what it finds before a position.
-use Rattle.std.specs.Prelude.{◌≡◌, ◌↔◌, ◌⊎◌, ℕ, ◌<◌, ◌≤◌, Bool, List, length, Option, Some, None}
+use Rattle.std.specs.Prelude.{◌≡◌, ◌↔◌, ◌⊎◌, ℕ, ◌<◌, ◌≤◌, Bool, false, List, length, Option, Some, None}
 use Rattle.rc_text.specs.Found.{Found}
 use Rattle.rc_pattern_set.specs.Sets.{Has}
 use Rattle.rc_program.specs.Answer.{Search, IsStart}
 use Rattle.rc_program.specs.Greatest.{HasNoSpan, IsSpelledIn}
 use Rattle.rc_pikevm.specs.PatternSpans.{AddsSpelled}
+
+-- The same search, but it passes no match over.
+abbrev pub unpassed : Search → Search
+unpassed s = record s { passes_over = false }
 
 -- It is a start, and no span that is spelled begins at a lesser one; or nothing is spelled.
 abbrev pub IsFirstStart : Search → Option ℕ → Type 0

@@ -18,4 +18,5 @@ mod route;
 mod slots;
 mod starts;
 mod tables;
+mod unpassed;
 mod which;

@@ -106,7 +106,6 @@ impl Engines {
     ) -> Option<usize>
         requires made { IsCacheIn self.now 0 cache.old }
         requires first { AreOfFirst patterns (places_of self.now.engine.program.places.items) }
-        requires all { self.now.engine.program.passes_over ≡ false }
         requires leftmost { is_leftmost self.now.engine.kind ≡ true }
         requires free { input.old.anchored ≡ No }
         ensures keeps { Keeps input.old input.new }
@@ -145,7 +144,6 @@ impl Engines {
     ) -> Option<usize>
         requires made { IsCacheIn self.now 0 cache.old }
         requires first { AreOfFirst patterns (places_of self.now.engine.program.places.items) }
-        requires all { self.now.engine.program.passes_over ≡ false }
         requires leftmost { is_leftmost self.now.engine.kind ≡ true }
         requires free { input.old.anchored ≡ No }
         requires from { low input.old ≤ at }
@@ -174,7 +172,6 @@ impl Engines {
     )
         requires made { IsCacheIn self.now 0 cache.old }
         requires first { AreOfFirst patterns (places_of self.now.engine.program.places.items) }
-        requires all { self.now.engine.program.passes_over ≡ false }
         requires leftmost { is_leftmost self.now.engine.kind ≡ true }
         requires free { input.old.anchored ≡ No }
         ensures keeps { Keeps input.old input.new }

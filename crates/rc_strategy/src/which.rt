@@ -82,18 +82,18 @@ pub(crate) fn has_all(set: &PatternSet, patterns: usize) -> bool
 }
 
 impl Engines {
-    ghost use Rattle.std.specs.Prelude.{◌≡◌, ◌≤◌, false, IfSome};
+    ghost use Rattle.std.specs.Prelude.{◌≡◌, ◌≤◌, false, IfSome, IsTrue};
     ghost use Rattle.rc_text.specs.Text.{Keeps, low, high};
     ghost use Rattle.rc_program.specs.Kinds.{answer_by};
     ghost use Rattle.rc_program.specs.Places.{places_of};
     ghost use Rattle.rc_pikevm_search.specs.Engine.{engine_search};
     ghost use Rattle.rc_strategy.specs.Caches.{IsCacheIn, IsSameCacheIn};
     ghost use Rattle.rc_strategy.specs.Limits.{NoneServe};
-    ghost use Rattle.rc_strategy.specs.Starts.{IsFirstStart};
+    ghost use Rattle.rc_strategy.specs.Starts.{IsFirstStart, unpassed};
     ghost use Rattle.rc_pikevm.specs.PatternSpans.{AddsSpelled, AreOfFirst};
 
-    /// Returns the match by literals alone, or by a DFA. Returns None if there is neither, or it
-    /// has no answer.
+    /// Returns the match by literals alone, or by a DFA, as if no match were passed over. Returns
+    /// None if there is neither, or it has no answer.
     pub(crate) fn find_told<C: Cursor>(
         &self,
         cache: &mut Cache,
@@ -101,10 +101,13 @@ impl Engines {
     ) -> Option<Option<Match>>
         requires made { IsCacheIn self.now 0 cache.old }
         ensures keeps { Keeps input.old input.new }
-        ensures found { IfSome result (λ found. found
-            ≡ answer_by self.now.engine.kind (engine_search self.now.engine input.old)) }
+        ensures found { IfSome result (λ found. found ≡ answer_by self.now.engine.kind
+            (unpassed (engine_search self.now.engine input.old))) }
         ensures cache { IsSameCacheIn self.now cache.old cache.new }
     {
+        if self.engine.program.passes_over {
+            return self.find_unpassed(&mut cache.lazy, input);
+        }
         if literals_of(&self.engine.literals, self.engine.kind).is_some() {
             return Some(self.engine.find(&mut cache.pass, input));
         }
@@ -119,7 +122,6 @@ impl Engines {
     fn least_start<C: Cursor>(&self, cache: &mut Cache, input: &mut Input<C>) -> Option<usize>
         requires made { IsCacheIn self.now 0 cache.old }
         requires ordered { low input.old ≤ high input.old }
-        requires all { self.now.engine.program.passes_over ≡ false }
         ensures keeps { Keeps input.old input.new }
         ensures first { IsFirstStart (engine_search self.now.engine input.old) result }
         ensures cache { IsSameCacheIn self.now cache.old cache.new }
@@ -152,6 +154,40 @@ impl Engines {
         }
     }
 
+    /// Whether literals alone decide each answer, and none is passed over.
+    fn goes_by_literals(&self) -> bool
+        ensures { IsTrue result → NoneServe self.now.engine
+            × (self.now.engine.program.passes_over ≡ false) }
+    {
+        if self.engine.program.passes_over {
+            return false;
+        }
+        literals_of(&self.engine.literals, self.engine.kind).is_some()
+    }
+
+    /// Inserts the only pattern that there is, if it has a match and the set can hold it.
+    fn mark_only<C: Cursor>(&self, cache: &mut Cache, input: &mut Input<C>, set: &mut PatternSet)
+        requires made { IsCacheIn self.now 0 cache.old }
+        requires first { AreOfFirst 1 (places_of self.now.engine.program.places.items) }
+        ensures keeps { Keeps input.old input.new }
+        ensures adds { AddsSpelled (engine_search self.now.engine input.old) set.old set.new }
+        ensures cache { IsSameCacheIn self.now cache.old cache.new }
+    {
+        if !self.engine.program.passes_over {
+            if self.is_match(cache, input) {
+                set.insert(PatternID::ZERO);
+            }
+            return;
+        }
+        match self.find_told(cache, input) {
+            Some(Some(_)) => {
+                set.insert(PatternID::ZERO);
+            }
+            Some(None) => {}
+            None => mark(self, &mut cache.pass, input, 1, set),
+        }
+    }
+
     /// Inserts each pattern, of `patterns` that there are, that has a match within the bounds, as
     /// far as the set can hold it. The set keeps what it has. It allocates only what `find` does.
     ///
@@ -159,8 +195,8 @@ impl Engines {
     /// rule a match out between the bounds, nothing is searched. If literals alone decide each
     /// answer, they are searched for. Else a search finds where the first match begins, if there is
     /// one, and a pass from there on finds all patterns with a match; for a leftmost kind, passes
-    /// go from start to start while matches are few. With one pattern, the search alone decides. If
-    /// matches are passed over, which count here, the pass does all.
+    /// go from start to start while matches are few. With one pattern, the search alone decides.
+    /// Matches that other searches pass over count here.
     pub fn which_patterns<C: Cursor>(
         &self,
         cache: &mut Cache,
@@ -180,18 +216,12 @@ impl Engines {
         if self.spans.leave_none(input) {
             return;
         }
-        if self.engine.program.passes_over {
-            mark(self, &mut cache.pass, input, patterns, set);
-            return;
-        }
-        if literals_of(&self.engine.literals, self.engine.kind).is_some() {
+        if self.goes_by_literals() {
             self.mark_by_literals(input, set);
             return;
         }
         if patterns == 1 {
-            if self.is_match(cache, input) {
-                set.insert(PatternID::ZERO);
-            }
+            self.mark_only(cache, input, set);
             return;
         }
         if self.seeks_starts(input) {

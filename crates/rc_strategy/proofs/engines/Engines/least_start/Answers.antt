@@ -1,22 +1,22 @@
 use Rattle.std.proofs.Common.{◌∙◌, ap, sym, ⊎_elim}
 use Rattle.rc_pikevm_search.specs.Engine.{engine_search}
 use Rattle.rc_strategy.specs.Lengths.{is_leftmost}
-use Rattle.rc_strategy.proofs.PatternLemmas.{least_told, no_span, no_span_told}
+use Rattle.rc_strategy.proofs.PatternLemmas.{first_unpassed, no_span_of_all, none_unpassed}
 use Rattle.rc_strategy.proofs.engines.Engines.least_start.Goals as goal
 
 pub returns-in-Some-Some-clause-first : goal.returns-in-Some-Some-clause-first
 returns-in-Some-Some-clause-first g c =
     let e = c.args.self.now.engine in
-    least_told e.kind (engine_search e c.args.input.now) c.in-Some-Some.field-0 c.in-Some-Some.found c.start.result (⊎_elim (λ a. ap is_leftmost a) (λ b. ap is_leftmost b) c.in-LeftmostFirst.is)
-    c.requires.all
+    first_unpassed e.kind (engine_search e c.args.input.now) c.in-Some-Some.field-0 c.in-Some-Some.found c.start.result
+    (⊎_elim (λ a. ap is_leftmost a) (λ b. ap is_leftmost b) c.in-LeftmostFirst.is)
     c.in-Some-Some.ensures.found c.in-Some-Some.field-0-is c.start.ensures.value
 
 pub returns-in-Some-None-clause-first : goal.returns-in-Some-None-clause-first
 returns-in-Some-None-clause-first g c =
     let e = c.args.self.now.engine in
-    no_span e.kind (engine_search e c.args.input.now) c.requires.all (sym c.in-Some-None.field-0-is ∙ c.in-Some-None.ensures.found)
+    none_unpassed e.kind (engine_search e c.args.input.now) (sym c.in-Some-None.field-0-is ∙ c.in-Some-None.ensures.found)
 
 pub returns-in-Some-false-clause-first : goal.returns-in-Some-false-clause-first
 returns-in-Some-false-clause-first g c =
     let e = c.args.self.now.engine in
-    no_span_told e.kind (engine_search e c.args.input.now) c.in-Some-false.field-0 c.requires.all c.in-Some-false.ensures.found c.in-Some-false.field-0-test
+    no_span_of_all e.kind (engine_search e c.args.input.now) c.in-Some-false.field-0 c.in-All.is c.in-Some-false.ensures.found c.in-Some-false.field-0-test

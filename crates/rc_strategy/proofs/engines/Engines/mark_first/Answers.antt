@@ -3,14 +3,14 @@ use Rattle.rc_program.specs.Answer.{Search}
 use Rattle.rc_pikevm.specs.PatternSpans.{AddsSpelled}
 use Rattle.rc_pikevm_search.specs.Engine.{engine_search}
 use Rattle.rc_strategy.specs.Starts.{AddsBefore, IsFirstStart}
-use Rattle.rc_strategy.proofs.PatternLemmas.{kept_search, least_told, no_span, none_adds}
+use Rattle.rc_strategy.proofs.PatternLemmas.{first_unpassed, kept_search, none_adds, none_unpassed}
 use Rattle.rc_strategy.proofs.engines.Engines.mark_first.Goals as goal
 
 pub mark_at-requires-clause-start : goal.mark_at-requires-clause-start
 mark_at-requires-clause-start g c =
     let e = c.args.self.now.engine in
     subst (λ (q : Search). IsFirstStart q (Some c.start-start.result)) (sym (kept_search e c.args.input.now c.find_told.new.input c.find_told.ensures.keeps))
-    (least_told e.kind (engine_search e c.args.input.now) c.in-Some-Some.field-0 c.in-Some-Some.found c.start-start.result c.requires.leftmost c.requires.all
+    (first_unpassed e.kind (engine_search e c.args.input.now) c.in-Some-Some.field-0 c.in-Some-Some.found c.start-start.result c.requires.leftmost
     c.in-Some-Some.ensures.found c.in-Some-Some.field-0-is c.start-start.ensures.value)
 
 pub returns-in-Some-Some-clause-adds : goal.returns-in-Some-Some-clause-adds
@@ -22,7 +22,7 @@ pub returns-in-Some-Some-clause-ahead : goal.returns-in-Some-Some-clause-ahead
 returns-in-Some-Some-clause-ahead g c =
     let e = c.args.self.now.engine in
     let first =
-    least_told e.kind (engine_search e c.args.input.now) c.in-Some-Some.field-0 c.in-Some-Some.found c.start-start.result c.requires.leftmost c.requires.all
+    first_unpassed e.kind (engine_search e c.args.input.now) c.in-Some-Some.field-0 c.in-Some-Some.found c.start-start.result c.requires.leftmost
     c.in-Some-Some.ensures.found c.in-Some-Some.field-0-is c.start-start.ensures.value in
     let from = first.0.0 in
     omega (arith, from)
@@ -31,7 +31,7 @@ pub overflow_add-result : goal.overflow_add-result
 overflow_add-result g c =
     let e = c.args.self.now.engine in
     let first =
-    least_told e.kind (engine_search e c.args.input.now) c.in-Some-Some.field-0 c.in-Some-Some.found c.start-start.result c.requires.leftmost c.requires.all
+    first_unpassed e.kind (engine_search e c.args.input.now) c.in-Some-Some.field-0 c.in-Some-Some.found c.start-start.result c.requires.leftmost
     c.in-Some-Some.ensures.found c.in-Some-Some.field-0-is c.start-start.ensures.value in
     let most = first.0.1 in
     let same = ap (λ l. length l) c.find_told.ensures.keeps.content in
@@ -42,7 +42,7 @@ pub returns-in-Some-None-clause-adds : goal.returns-in-Some-None-clause-adds
 returns-in-Some-None-clause-adds g c =
     let e = c.args.self.now.engine in
     none_adds (engine_search e c.args.input.now) c.args.set.now
-    (no_span e.kind (engine_search e c.args.input.now) c.requires.all (sym c.in-Some-None.field-0-is ∙ c.in-Some-None.ensures.found))
+    (none_unpassed e.kind (engine_search e c.args.input.now) (sym c.in-Some-None.field-0-is ∙ c.in-Some-None.ensures.found))
 
 pub returns-in-None-clause-adds : goal.returns-in-None-clause-adds
 returns-in-None-clause-adds g c =

@@ -1,14 +1,12 @@
-use Rattle.std.proofs.Common.{◌≡◌, Some, subst, sym}
-use Rattle.std.specs.Prelude.{is_some}
+use Rattle.std.proofs.Common.{Some, subst, sym}
 use Rattle.rc_program.specs.Answer.{Search}
 use Rattle.rc_program.specs.Greatest.{HasNoSpan}
-use Rattle.rc_program.specs.Kinds.{answer_by}
+use Rattle.rc_program.specs.Places.{places_of}
 use Rattle.rc_pikevm_search.specs.Engine.{engine_search}
-use Rattle.rc_pikevm.specs.PatternSpans.{AddsSpelled}
+use Rattle.rc_pikevm.specs.PatternSpans.{AddsSpelled, AreOfFirst}
 use Rattle.rc_strategy.specs.Starts.{IsFirstStart}
 use Rattle.rc_strategy.proofs.CacheLemmas.{same_in}
-use Rattle.rc_strategy.proofs.LimitLemmas.{is_answered}
-use Rattle.rc_strategy.proofs.PatternLemmas.{early_adds, full_adds, kept_search, no_span_told, none_adds, one_told}
+use Rattle.rc_strategy.proofs.PatternLemmas.{early_adds, full_adds, kept_search, none_adds}
 use Rattle.rc_strategy.proofs.engines.Engines.which_patterns.Goals as goal
 
 pub returns-then-has_all-clause-adds : goal.returns-then-has_all-clause-adds
@@ -27,32 +25,27 @@ pub returns-then-leave_none-clause-cache : goal.returns-then-leave_none-clause-c
 returns-then-leave_none-clause-cache g c = same_in c.args.self.now 0 c.args.cache.now c.requires.made
 
 pub mark_by_literals-requires-clause-literals : goal.mark_by_literals-requires-clause-literals
-mark_by_literals-requires-clause-literals g c =
-    is_answered _ c.literals_of.result c.is_some.ensures c.if-is_some.true c.literals_of.ensures.value
+mark_by_literals-requires-clause-literals g c = (c.goes_by_literals.ensures c.if-goes_by_literals.true).0
 
-pub returns-then-is_some-clause-adds : goal.returns-then-is_some-clause-adds
-returns-then-is_some-clause-adds g c =
+pub mark_by_literals-requires-clause-all : goal.mark_by_literals-requires-clause-all
+mark_by_literals-requires-clause-all g c = (c.goes_by_literals.ensures c.if-goes_by_literals.true).1
+
+pub returns-then-goes_by_literals-clause-adds : goal.returns-then-goes_by_literals-clause-adds
+returns-then-goes_by_literals-clause-adds g c =
     subst (λ q. AddsSpelled q c.args.set.now c.mark_by_literals.new.set)
     (kept_search c.args.self.now.engine c.args.input.now c.leave_none.new.input c.leave_none.ensures.keeps) c.mark_by_literals.ensures.adds
 
-pub returns-then-is_some-clause-cache : goal.returns-then-is_some-clause-cache
-returns-then-is_some-clause-cache g c = same_in c.args.self.now 0 c.args.cache.now c.requires.made
+pub returns-then-goes_by_literals-clause-cache : goal.returns-then-goes_by_literals-clause-cache
+returns-then-goes_by_literals-clause-cache g c = same_in c.args.self.now 0 c.args.cache.now c.requires.made
 
-pub returns-then-is_match-clause-adds : goal.returns-then-is_match-clause-adds
-returns-then-is_match-clause-adds g c =
-    let e = c.args.self.now.engine in
-    let told =
-    subst (λ (q : Search). c.is_match.result ≡ is_some (answer_by e.kind q)) (kept_search e c.args.input.now c.leave_none.new.input c.leave_none.ensures.keeps) c.is_match.ensures.found in
-    subst (AddsSpelled (engine_search e c.args.input.now) c.args.set.now) (sym c.insert.ensures.set)
-    (one_told e.kind (engine_search e c.args.input.now) c.is_match.result c.args.patterns c.args.set.now c.requires.first c.if-patterns-eq1.true told c.if-is_match.true)
+pub mark_only-requires-clause-first : goal.mark_only-requires-clause-first
+mark_only-requires-clause-first g c =
+    subst (λ n. AreOfFirst n (places_of c.args.self.now.engine.program.places.items)) c.if-patterns-eq1.true c.requires.first
 
-pub returns-else-is_match-clause-adds : goal.returns-else-is_match-clause-adds
-returns-else-is_match-clause-adds g c =
-    let e = c.args.self.now.engine in
-    let told =
-    subst (λ (q : Search). c.is_match.result ≡ is_some (answer_by e.kind q)) (kept_search e c.args.input.now c.leave_none.new.input c.leave_none.ensures.keeps) c.is_match.ensures.found in
-    none_adds (engine_search e c.args.input.now) c.args.set.now
-    (no_span_told e.kind (engine_search e c.args.input.now) c.is_match.result c.if-self.false told c.if-is_match.false)
+pub returns-then-patterns-eq1-clause-adds : goal.returns-then-patterns-eq1-clause-adds
+returns-then-patterns-eq1-clause-adds g c =
+    subst (λ q. AddsSpelled q c.args.set.now c.mark_only.new.set)
+    (kept_search c.args.self.now.engine c.args.input.now c.leave_none.new.input c.leave_none.ensures.keeps) c.mark_only.ensures.adds
 
 pub mark_by_starts-requires-clause-leftmost : goal.mark_by_starts-requires-clause-leftmost
 mark_by_starts-requires-clause-leftmost g c = (c.seeks_starts.ensures c.if-seeks_starts.true).0
