@@ -267,12 +267,10 @@ module _ (ps : List code.BytePlace) (test : Look → Bool) (after : Option ℕ) 
           ⊎_elim (λ x. inl (kept k x))
           (λ y. ⊎_elim (λ z. inr (to_stack k (inl z))) (λ b. inl (subst (λ n. HasPlace n entered2.items) b here)) (popped_has old popped q k e y)) h
 
-  pub all_entered : (entered wanted : Members) (stack : List ℕ) (least : Option ℕ) → stack ≡ [] → IsCollecting entered wanted stack least →
-      IsGathered out (places_of ps) list wanted.items least
-  all_entered entered wanted stack least e v = record {
-    listed = λ q. ((λ h. let r = (v.wants q).0 h in (r.0, v.sound r.0 (inl r.1), r.2)), (λ h. (v.wants q).1 (h.0, is_in h.1, h.2)));
-    least = by_least least v.lowest;
-  }
+  -- the places that were entered are those to which ways lead
+  pub entered_are : (entered wanted : Members) (stack : List ℕ) (least : Option ℕ) → stack ≡ [] → IsCollecting entered wanted stack least →
+      (q : ℕ) → HasPlace q entered.items ↔ ComesBy out list q
+  entered_are entered wanted stack least e v q = ((λ h. v.sound q (inl h)), (λ h. is_in h))
     where
       none_left : (k : ℕ) → HasPlace k entered.items ⊎ HasPlace k stack → HasPlace k entered.items
       none_left k h = ⊎_elim (λ x. x) (λ y. absurd (subst (λ l. HasPlace k l) e y)) h
@@ -281,9 +279,22 @@ module _ (ps : List code.BytePlace) (test : Look → Bool) (after : Option ℕ) 
       is_in (listed q h) = none_left q (v.start q h)
       is_in (follows q p c w) = none_left q (v.spent p q (is_in c) w)
 
+  pub all_entered : (entered wanted : Members) (stack : List ℕ) (least : Option ℕ) → stack ≡ [] → IsCollecting entered wanted stack least →
+      IsGathered out (places_of ps) list wanted.items least
+  all_entered entered wanted stack least e v = record {
+    listed = λ q. (
+      (λ h. let r = (v.wants q).0 h in (r.0, (entered_here r.0).0 r.1, r.2)),
+      (λ h. (v.wants q).1 (h.0, (entered_here h.0).1 h.1, h.2)),
+    );
+    least = by_least least v.lowest;
+  }
+    where
+      entered_here : (q : ℕ) → HasPlace q entered.items ↔ ComesBy out list q
+      entered_here = entered_are entered wanted stack least e v
+
       by_least : (o : Option ℕ) → IsLeastMatch (places_of ps) (λ q. HasPlace q entered.items) o → IsLeastMatch (places_of ps) (ComesBy out list) o
-      by_least None m = λ q h t. m q (is_in h) t
-      by_least (Some q) m = (m.0, v.sound q (inl m.1), λ p h t. m.2 p (is_in h) t)
+      by_least None m = λ q h t. m q ((entered_here q).1 h) t
+      by_least (Some q) m = (m.0, (entered_here q).0 m.1, λ p h t. m.2 p ((entered_here p).1 h) t)
 
 -- what was gathered is the step
 pub collected : (g : Setting) (root : ℕ) (s : State) (after : Option ℕ) (t : State) (got : List ℕ) →

@@ -15,6 +15,8 @@ use Rattle.rc_determinize.specs.Steps.{HasWay}
 use Rattle.rc_determinize.specs.Backward.{LeadsBy, LeadsHere, still_out, IsPrior, IsFirstRoot, ReadsTo}
 use Rattle.rc_determinize.specs.Laws.{GatherLaw, IsRaised, IsSettingOf, ForwardLaw, BackwardLaw, SpanLaw}
 use Rattle.rc_determinize.proofs.ForwardLemmas as forward
+use Rattle.rc_determinize.specs.Sets.{ComesBy}
+use Rattle.rc_determinize.proofs.SidesLemmas.{alike_out}
 use Rattle.rc_determinize.proofs.SetLemmas as sets
 use Rattle.rc_determinize.specs.Gives.{starts}
 use Rattle.rc_determinize.proofs.BackwardLemmas as backward
@@ -122,6 +124,8 @@ starts_in root x (suc count) y a b =
 pub gather_law : GatherLaw
 gather_law = record {
   tells = λ g t hi root origin i s s2 ok e here inside c r n. sets.ends_here g ok t e hi origin i here inside.high inside.bounded s c r root s2 n;
+  comes = λ g t hi origin i s ok e here inside c r q. sets.gathers g ok t e hi origin i here inside.high inside.bounded s c r q;
+  alike = λ g b c s q a h. subst (λ o. ComesBy o s.list q) (alike_out g.places g.needs g.terminator b c s.beside a) h;
   goes = λ g t hi root origin i s s2 ok e lt inside first c r n.
       sets.gathers_on g ok t e hi origin i (omega (arith, lt)) inside.high inside.bounded s c r root s2 inside.low lt first n;
   dies = λ g t hi origin i s ok c empty started q y le h. sets.nothing_later g ok t hi origin i s c empty started h le;

@@ -10,6 +10,7 @@ pub mod PositionLemmas
 pub mod ForwardLemmas
 pub mod AnswerLemmas
 pub mod MachineLemmas
+pub mod MatchLemmas
 pub mod LimitLemmas
 pub mod UnderLemmas
 pub mod BackwardLemmas

@@ -11,7 +11,7 @@ use Rattle.rc_determinize.specs.Sides.{AreAlike, byte_of, IsReadable}
 use Rattle.rc_determinize.specs.States.{Setting, IsSetting, State, IsNext, IsFirst, IsInside, IsUnderWay, Stops, all_starts, best_at}
 use Rattle.rc_walks.specs.Walks.{IsIn}
 use Rattle.rc_determinize.specs.Gives.{starts}
-use Rattle.rc_determinize.specs.Sets.{Comes, IsNextOfAll, IsLeastMatch, IsGathering}
+use Rattle.rc_determinize.specs.Sets.{Comes, ComesHere, IsNextOfAll, IsLeastMatch, IsGathering}
 use Rattle.rc_determinize.specs.Backward.{IsPrior, IsLast, IsComing, IsFirstRoot, ReachesEnd, IsLeastSoFar, least_at}
 
 -- Forwards.
@@ -98,6 +98,12 @@ pub record GatherLaw : Type 0 where
   pub tells : (g : Setting) (t : Text) (hi root : ℕ) (origin : List Pair) (i : ℕ) (s s2 : State) → IsSetting g → g.terminator ≡ t.terminator → i ≤ hi →
       IsInside t i hi → IsGathering g t hi origin i s → IsReadable g.needs (byte_of (after_at t i)) → IsNextOfAll g root s (byte_of (after_at t i)) s2 →
       IsLeastMatch g.places (λ q. Comes (ways g.places t hi) origin (q, i)) s2.matched
+  -- To which places walks from the first pairs come here.
+  pub comes : (g : Setting) (t : Text) (hi : ℕ) (origin : List Pair) (i : ℕ) (s : State) → IsSetting g → g.terminator ≡ t.terminator → i ≤ hi →
+      IsInside t i hi → IsGathering g t hi origin i s → IsReadable g.needs (byte_of (after_at t i)) →
+      (q : ℕ) → ComesHere g s (byte_of (after_at t i)) q ↔ Comes (ways g.places t hi) origin (q, i)
+  -- A byte stands for all bytes that are alike.
+  pub alike : (g : Setting) (b c : ℕ) (s : State) (q : ℕ) → AreAlike g.places g.needs g.terminator b c → ComesHere g s (Some b) q → ComesHere g s (Some c) q
   -- Over one byte.
   pub goes : (g : Setting) (t : Text) (hi root : ℕ) (origin : List Pair) (i : ℕ) (s s2 : State) → IsSetting g → g.terminator ≡ t.terminator → i < hi →
       IsInside t i hi → ((q : ℕ) → IsIn (q, i + 1) origin ↔ ((s2.goes_on ≡ true) × (q ≡ root))) →

@@ -20,6 +20,10 @@ pub data ComesBy (out : ℕ → List Way) (list : List ℕ) : ℕ → Type 0 whe
 abbrev pub ComesHere : Setting → State → Option ℕ → ℕ → Type 0
 ComesHere g s after = ComesBy (out_seen g.places g.needs g.terminator s.beside after) s.list
 
+-- It is a match place to which some walk comes at the state's position.
+abbrev pub EndsHere : Setting → State → Option ℕ → ℕ → Type 0
+EndsHere g s after q = ComesHere g s after q × IsTrue (is_match g.places q)
+
 -- The least match place of which it holds, if there is one.
 abbrev pub IsLeastMatch : List Place → (ℕ → Type 0) → Option ℕ → Type 0
 IsLeastMatch places Holds (Some q) = IsTrue (is_match places q) × Holds q × ((p : ℕ) → Holds p → IsTrue (is_match places p) → q ≤ p)

@@ -9,7 +9,7 @@
 //!     [2, 0]  a     2, 1 reads it to 2, 3, 0, 6    [2, 0]
 //!     [2, 0]  b     2, 1, 3 reads it to 4, 0, 6    [4, 0]
 //!     [4, 0]  .     4, 5: a match, one byte late   [], with `matched` 5
-ghost use Rattle.std.specs.Prelude.{ℕ, List, ◌≡◌, ◌<◌, ◌≤◌, ◌++◌, [], ◌∷◌, IfOk, length, reverse, Some, None, ◌&&◌, is_none};
+ghost use Rattle.std.specs.Prelude.{ℕ, List, ◌≡◌, ◌<◌, ◌≤◌, ◌++◌, [], ◌∷◌, IfOk, length, reverse, Some, None, ◌&&◌, is_none, ◌↔◌, IsTrue};
 ghost use Rattle.rc_program.specs.Laws.{IsClosed};
 ghost use Rattle.rc_program.specs.Program.{Place, place_at};
 ghost use Rattle.rc_utf8.specs.Places.{places_of};
@@ -17,7 +17,7 @@ ghost use Rattle.rc_determinize.specs.Places.{state_of, setting_of};
 ghost use Rattle.rc_determinize.specs.Steps.{HasPlace, AreBelow, IsStep, IsRising, HasWay, out_by};
 ghost use Rattle.rc_determinize.specs.Sides.{holds_by};
 ghost use Rattle.rc_determinize.specs.States.{IsNext, IsFirst, is_match};
-ghost use Rattle.rc_determinize.specs.Sets.{ComesBy, IsNextOfAll};
+ghost use Rattle.rc_determinize.specs.Sets.{ComesBy, EndsHere, IsNextOfAll};
 ghost use Rattle.rc_determinize.specs.Kinds.{IsNextBy, bound_of};
 ghost use Rattle.rc_determinize.specs.Machine.{IsGathered};
 
@@ -96,6 +96,9 @@ fn gather(
     ensures step { IfOk result (λ matched. IsGathered
         (out_by (places_of places.now) (holds_by behind ahead) after) (places_of places.now)
         (reverse stack.old.items) listed.new.items matched) }
+    ensures entered { IfOk result (λ _. (q : ℕ) → HasPlace q entered.new.items
+        ↔ ComesBy (out_by (places_of places.now) (holds_by behind ahead) after)
+        (reverse stack.old.items) q) }
 {
     let mut least = None;
     'places: while let Some(place) = stack.pop() {
@@ -196,6 +199,61 @@ fn next_of_all(
     to.goes_on = from.goes_on;
     to.matched = matched;
     Ok(())
+}
+
+/// Replaces `ends` by the match places in the set. `Err` means out of memory.
+fn matches_of(
+    places: &[BytePlace],
+    entered: &SparseSet,
+    ends: &mut Vec<usize>,
+) -> Result<(), AllocError>
+    requires below { entered.now.capacity ≡ length places.now }
+    ensures { IfOk result (λ _. (q : ℕ) → HasPlace q ends.new.items
+        ↔ (HasPlace q entered.now.items × IsTrue (is_match (places_of places.now) q))) }
+{
+    ends.clear();
+    for index in 0..entered.len() {
+        let place = entered.get(index);
+        if is_match(place_at(places, place)) {
+            ends.push(place)?;
+        }
+    }
+    Ok(())
+}
+
+/// Replaces `ends` by the match places at which walks end at a state's position, for
+/// `MatchKind::All`: those to which ways that read nothing lead if the byte `after` is ahead. The
+/// other arguments are those of `next_by`. `Err` means out of memory; then `ends` is some list.
+pub fn ends_here(
+    places: &[BytePlace],
+    needs: Asked,
+    terminator: u8,
+    scratch: &mut Scratch,
+    from: &State,
+    after: Option<u8>,
+    ends: &mut Vec<usize>,
+) -> Result<(), AllocError>
+    requires closed { IsClosed (places_of places.now) }
+    requires below { AreBelow (length places.now) from.now.list.items }
+    requires scratch { scratch.old ≡ length places.now }
+    ensures scratch { scratch.new ≡ scratch.old }
+    ensures ends { IfOk result (λ _. (q : ℕ) → HasPlace q ends.new.items
+        ↔ EndsHere (setting_of places.now needs terminator) (state_of from.now) after q) }
+{
+    let ahead = told(needs, terminator, after);
+    scratch.entered.clear();
+    scratch.listed.clear();
+    stack_up(&from.list, &mut scratch.stack)?;
+    gather(
+        places,
+        from.beside,
+        ahead,
+        after,
+        &mut scratch.stack,
+        &mut scratch.entered,
+        &mut scratch.listed,
+    )?;
+    matches_of(places, &scratch.entered, ends)
 }
 
 /// Makes `to` the state to which the byte `after` leads from a state. If `after` is None, it is the

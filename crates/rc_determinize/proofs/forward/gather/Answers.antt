@@ -9,7 +9,7 @@ use Rattle.rc_determinize.specs.Sparse.{Members}
 use Rattle.rc_determinize.specs.Machine.{stay_places, read_places, add_all}
 use Rattle.rc_determinize.proofs.OpenLemmas.{empty_of_length}
 use Rattle.rc_determinize.proofs.FollowLemmas.{targets_below}
-use Rattle.rc_determinize.proofs.GatherLemmas.{sets_out, top_below, passes_by, enters, all_entered, IsCollecting, left}
+use Rattle.rc_determinize.proofs.GatherLemmas.{sets_out, top_below, passes_by, enters, all_entered, entered_are, IsCollecting, left}
 use Rattle.rc_determinize.proofs.forward.gather.Goals as goal
 use Rattle.rc_determinize.proofs.forward.gather.Goals.{In-Some, Else-insert, In_ok-open}
 
@@ -38,6 +38,12 @@ open-requires c =
 pub returns-clause-step : goal.returns-clause-step
 returns-clause-step c =
     all_entered c.args.places.now (holds_by c.args.behind c.args.ahead) c.args.after (reverse c.args.stack.now.items)
+    c.places.entered c.places.listed c.places.stack.items c.places.least
+    (empty_of_length c.places.stack.items (let a = c.in_default.ensures.cases.0 in let b = c.places.stack.ok.0 in omega (arith, a, b))) c.places.invariant
+
+pub returns-clause-entered : goal.returns-clause-entered
+returns-clause-entered c =
+    entered_are c.args.places.now (holds_by c.args.behind c.args.ahead) c.args.after (reverse c.args.stack.now.items)
     c.places.entered c.places.listed c.places.stack.items c.places.least
     (empty_of_length c.places.stack.items (let a = c.in_default.ensures.cases.0 in let b = c.places.stack.ok.0 in omega (arith, a, b))) c.places.invariant
 
