@@ -1,8 +1,9 @@
 -- What an automaton's fields tell of its machines.
-use Rattle.std.proofs.Common.{◌≡◌, ℕ, ◌+◌, ◌<◌, Bool, true, false, List, length, map, Some, get_or, slice_get, inl, inr, ⊎_elim, sym, subst, ap, ◌∙◌, if◌then◌else◌, arith}
+use Rattle.std.proofs.Common.{◌≡◌, ℕ, ◌+◌, ◌<◌, Bool, true, false, List, length, map, Option, Some, get_or, slice_get, inl, inr, ⊎_elim, sym, subst, ap, ◌∙◌, if◌then◌else◌, arith}
 use Rattle.std.proofs.lemmas.Bool.{cases_Bool}
 use Rattle.std.proofs.lemmas.List.{length-map}
 use Rattle.std.proofs.lemmas.Option.{slice_get_within, slice_get-get_or, get_or_from_slice_get}
+use Rattle.rc_text.specs.declared.types.MatchKind.{MatchKind}
 use Rattle.rc_text.specs.declared.types.Anchored.{Anchored}
 use Rattle.rc_text.specs.declared.types.Anchored.TheVariants.{No, Yes, Pattern}
 use Rattle.rc_program.specs.Program.{Place}
@@ -21,7 +22,7 @@ use Rattle.rc_determinize.proofs.LawLemmas.{backward_law}
 use Rattle.rc_determinize.proofs.ClassLemmas.{class_law}
 use Rattle.rc_dfa.specs.declared.automaton.Direction as code
 use Rattle.rc_dfa.specs.declared.automaton.Automaton.{Automaton}
-use Rattle.rc_dfa.specs.Machine.{Direction, forwards, backwards, Machine, leads_by, begins_by, IsMachine, AreOfOneClass, IsClassing}
+use Rattle.rc_dfa.specs.Machine.{Direction, forwards, backwards, Machine, leads_by, begins_by, IsAsked, IsMachine, AreOfOneClass, IsClassing}
 use Rattle.rc_dfa.specs.Samples.{AreClassesBy, IsCounted}
 use Rattle.rc_dfa.specs.Automata.{machine_of, classes_of, samples_of}
 
@@ -75,6 +76,19 @@ begin_alike (forwards kind) g entries b c (Pattern p) s x h =
 begin_alike backwards g entries b c No s x h = record { list = h.list; rising = h.rising; matched = h.matched; goes_on = h.goes_on; beside = h.beside ∙ x.told_same }
 begin_alike backwards g entries b c Yes s x h = record { list = h.list; rising = h.rising; matched = h.matched; goes_on = h.goes_on; beside = h.beside ∙ x.told_same }
 begin_alike backwards g entries b c (Pattern p) s x h = record { list = h.list; rising = h.rising; matched = h.matched; goes_on = h.goes_on; beside = h.beside ∙ x.told_same }
+
+-- forwards, a search of each kind begins alike
+pub begin_same : (kind other : MatchKind) (g : Setting) (entries : List ℕ) (beside : Option ℕ) (anchored : Anchored) (s : State) →
+    begins_by (forwards kind) g entries anchored beside s → begins_by (forwards other) g entries anchored beside s
+begin_same kind other g entries beside No s h = h
+begin_same kind other g entries beside Yes s h = h
+begin_same kind other g entries beside (Pattern p) s h = h
+
+-- what may be asked for doesn't depend on the direction
+pub asked_same : (a : Automaton) (d e : code.Direction) (anchored : Anchored) → IsAsked (machine_of a d) anchored → IsAsked (machine_of a e) anchored
+asked_same a d e No h = h
+asked_same a d e Yes h = h
+asked_same a d e (Pattern p) h = h
 
 of_one_class : (m : Machine) (b c : ℕ) → AreAlike m.setting.places m.setting.needs m.setting.terminator b c → AreOfOneClass m b c
 of_one_class m b c x = record {

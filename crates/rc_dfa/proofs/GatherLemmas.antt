@@ -9,7 +9,7 @@ use Rattle.rc_program.specs.Program.{ways}
 use Rattle.rc_determinize.specs.Steps.{HasPlace}
 use Rattle.rc_determinize.specs.Sides.{told, byte_of, IsReadable}
 use Rattle.rc_determinize.specs.States.{Setting, IsSetting, State, IsFirst, IsInside, Stops, all_starts, best_at}
-use Rattle.rc_determinize.specs.Sets.{Comes, IsNextOfAll, IsLeastMatch, IsGathering, ArrivesAt}
+use Rattle.rc_determinize.specs.Sets.{Comes, ComesHere, IsNextOfAll, IsLeastMatch, IsGathering, ArrivesAt}
 use Rattle.rc_determinize.specs.Sets as sets
 use Rattle.rc_determinize.specs.Spans.{IsLastSoFar, last_at}
 use Rattle.rc_determinize.proofs.TextLemmas.{near}
@@ -64,7 +64,7 @@ module _ (g : Setting) (entries : List ℕ) (ok : IsSetting g) (t : Text) (same 
   rises : (n k : Pair) → IsIn k (W n) → n.1 ≤ k.1
   rises n k h = ⊎_elim (λ e. omega (arith, e)) (λ e. omega (arith, e)) (near g.places t hi ok.by_bytes n k h)
 
-  behind : {n : Pair} → Comes W origin n → from ≤ n.1
+  pub behind : {n : Pair} → Comes W origin n → from ≤ n.1
   behind c = comes_behind W rises origin from (λ n h. (starts_at once root from hi n.0 n.1 h).1) c
 
   begins : IsGathering g t hi origin from first
@@ -148,23 +148,26 @@ module _ (g : Setting) (entries : List ℕ) (ok : IsSetting g) (t : Text) (same 
     λ y a lt h. ⊎_elim (λ b. l.2 y a b h) (λ ge. none h.0 y ge h.1) (cases_lt y i),
   )
 
-  dies : (i : ℕ) (s : State) (met : Option Pair) → IsUp i s met → is_dead s ≡ true → IsLastSoFar g t hi origin (hi + 1) (position_of met)
-  dies i s met v d =
+  later_none : (i : ℕ) (s : State) (met : Option Pair) → IsUp i s met → is_dead s ≡ true → (q y : ℕ) → i ≤ y → ¬ Comes W origin (q, y)
+  later_none i s met v d =
       let n = no_list s d in
       let low = v.low in
-      let le : i ≤ hi = ⊎_elim (λ e. absurd (some_none (sym e ∙ n.0))) (λ x. x) v.high in
       let anchored : once ≡ true = not_not once (sym v.on ∙ n.1) in
-      stays_last i (position_of met) (omega (arith, le))
-      (gather_law.dies g t hi origin i s ok v.gathers n.0
-      (λ q y h. let e = once_start once root from hi q y anchored h in omega (arith, e, low)))
-      v.last
+      gather_law.dies g t hi origin i s ok v.gathers n.0
+      (λ q y h. let e = once_start once root from hi q y anchored h in omega (arith, e, low))
     where
-      some_none : root ∷ [] ≡ [] → ⊥
-      some_none e = cc
-
       not_not : (b : Bool) → not b ≡ false → b ≡ true
       not_not true e = refl
       not_not false e = absurd (true≢false e)
+
+  dies : (i : ℕ) (s : State) (met : Option Pair) → IsUp i s met → is_dead s ≡ true → IsLastSoFar g t hi origin (hi + 1) (position_of met)
+  dies i s met v d =
+      let n = no_list s d in
+      let le : i ≤ hi = ⊎_elim (λ e. absurd (some_none (sym e ∙ n.0))) (λ x. x) v.high in
+      stays_last i (position_of met) (omega (arith, le)) (later_none i s met v d) v.last
+    where
+      some_none : root ∷ [] ≡ [] → ⊥
+      some_none e = cc
 
   pub ends : (earliest : Bool) (e : RunEnd) (r : Option Pair) → EndsSo m t hi from first earliest e → e ≡ met_last r → (earliest ≡ false) ⊎ (r ≡ None) →
       IsLastSoFar g t hi origin (hi + 1) (position_of r)
@@ -176,6 +179,16 @@ module _ (g : Setting) (entries : List ℕ) (ok : IsSetting g) (t : Text) (same 
   ends earliest e r (early {met} i s t2 runs) is (inr z) = absurd (none-some met (sym z ∙ sym (same_met is)))
   ends earliest e r (quit i s runs le unread) is k = absurd (stop_no_met is)
   ends earliest e r (rests i s runs le idle) is k = absurd (rest_no_met is)
+
+  -- to which places walks come at a position
+  pub comes_here : (i q : ℕ) (s : State) (met : Option Pair) → i ≤ hi → Runs m t hi from first i s met → IsReadable g.needs (byte_of (after_at t i)) →
+      ComesHere g s (byte_of (after_at t i)) q ↔ Comes W origin (q, i)
+  comes_here i q s met le runs may =
+      let v = runs_up runs in gather_law.comes g t hi origin i s ok same le (within i v.low) v.gathers may q
+
+  -- from where nothing goes on, none comes to any
+  pub none_comes : (i : ℕ) (s : State) (met : Option Pair) → Runs m t hi from first i s met → is_dead s ≡ true → (q y : ℕ) → i ≤ y → ¬ Comes W origin (q, y)
+  none_comes i s met runs d = later_none i s met (runs_up runs) d
 
   -- what is met at a position is met by a walk that ends there
   pub meets : (i q : ℕ) (s next : State) (met : Option Pair) → i ≤ hi → Runs m t hi from first i s met → IsReadable g.needs (byte_of (after_at t i)) →

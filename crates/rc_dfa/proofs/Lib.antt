@@ -10,6 +10,7 @@ pub mod MetLemmas
 pub mod NarrowLemmas
 pub mod DownLemmas
 pub mod StopLemmas
+pub mod OverlapLemmas
 pub mod RunLemmas
 pub mod EntryLemmas
 pub mod KeyLemmas

@@ -146,7 +146,7 @@ module _ (g : Setting) (entries : List ℕ) (ok : IsSetting g) (t : Text) (same 
   none_run all_matches earliest e k (unread p q may) is n c matched = stop_no_met is
 
 -- in this direction
-turned : (m : Machine) (d : Direction) → m.direction ≡ d → (P : Machine → Type 0) → P m → P (record m { direction = d })
+pub turned : (m : Machine) (d : Direction) → m.direction ≡ d → (P : Machine → Type 0) → P m → P (record m { direction = d })
 turned m d e P h = subst (λ x. P (record m { direction = x })) e h
 
 pub run_law : RunLaw

@@ -1,6 +1,7 @@
 -- Determinizers: what an automaton is.
 use Rattle.std.specs.Prelude.{◌≡◌, ℕ, Bool, List}
 use Rattle.rc_text.specs.declared.types.MatchKind.{MatchKind}
+use Rattle.rc_text.specs.declared.types.MatchKind.TheVariants.{All as all_matches}
 use Rattle.rc_program.specs.Program.{Place}
 use Rattle.rc_determinize.specs.declared.sides.Asked.{Asked}
 use Rattle.rc_determinize.specs.Places.{setting_of}
@@ -13,6 +14,7 @@ use Rattle.rc_dfa.specs.Samples.{AreClassesBy}
 
 abbrev pub direction_of : MatchKind → code.Direction → Direction
 direction_of kind code_variants.Forwards = forwards kind
+direction_of kind code_variants.Overlapping = forwards all_matches
 direction_of kind code_variants.Backwards = backwards
 
 -- The machine that it is in this direction.

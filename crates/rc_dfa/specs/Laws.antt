@@ -1,5 +1,5 @@
 -- Laws of determinizers and of their runs.
-use Rattle.std.specs.Prelude.{◌≡◌, ℕ, ◌+◌, ◌<◌, ◌≤◌, Bool, true, false, List, [], ◌∷◌, length, Option, Some, None, IsTrue, slice_get, slice_index}
+use Rattle.std.specs.Prelude.{◌≡◌, ℕ, ◌+◌, ◌<◌, ◌≤◌, ◌↔◌, Bool, true, false, List, [], ◌∷◌, length, Option, Some, None, IsTrue, slice_get, slice_index}
 use Rattle.std.specs.Option.{option_map}
 use Rattle.rc_text.specs.declared.types.MatchKind.{MatchKind}
 use Rattle.rc_text.specs.declared.types.MatchKind.TheVariants.{All as all_matches, LeftmostFirst as leftmost_first, LeftmostLongest as leftmost_longest}
@@ -13,12 +13,12 @@ use Rattle.rc_determinize.specs.Gives.{Gives}
 use Rattle.rc_determinize.specs.LongestLaws.{GivesLongest}
 use Rattle.rc_determinize.specs.Run.{Reaches, IsGoal}
 use Rattle.rc_determinize.specs.Steps.{AreBelow}
-use Rattle.rc_determinize.specs.Sets.{Comes}
+use Rattle.rc_determinize.specs.Sets.{Comes, ComesHere, EndsHere}
 use Rattle.rc_determinize.specs.States.{Setting, State, IsInside, Stops, all_starts}
 use Rattle.rc_determinize.specs.Backward.{IsFirstRoot, IsLeastSoFar}
 use Rattle.rc_determinize.specs.Spans.{IsLastSoFar}
-use Rattle.rc_dfa.specs.Machine.{Machine, forwards, backwards, entry_bound, longest_in, IsListIn, Leads, Begins, IsMachine}
-use Rattle.rc_dfa.specs.Runs.{met_last, stopped_at, SearchEnds, SearchEndsDown}
+use Rattle.rc_dfa.specs.Machine.{Machine, forwards, backwards, entry_bound, longest_in, IsListIn, Leads, Begins, IsMachine, is_dead}
+use Rattle.rc_dfa.specs.Runs.{met_last, stopped_at, MayRead, Runs, SearchEnds, SearchEndsDown, ahead_at, behind_at}
 
 -- The state has places of the program, each once. So it is no longer than the program, or than
 -- twice the program if it has marks.
@@ -109,3 +109,22 @@ pub record RunLaw : Type 0 where
   pub stops_down : (m : Machine) (t : Text) (hi lo end : ℕ) (anchored : Anchored) (earliest : Bool) (p : ℕ) → IsInside t lo hi → lo ≤ end → end ≤ hi →
       SearchEndsDown m t lo end anchored earliest (stopped_at p) →
       (lo ≤ p + 1) × (p ≤ end) × IsUnread m t (λ y. (p < y) × (y ≤ end)) p
+
+-- The law of what runs for `MatchKind::All` tell of walks at each position.
+pub record OverlapLaw : Type 0 where
+  -- To which places walks come.
+  pub comes : (m : Machine) (t : Text) (hi from : ℕ) (anchored : Anchored) (first s : State) (i : ℕ) (met : Option Pair) → IsMachine m →
+      m.direction ≡ forwards all_matches → m.setting.terminator ≡ t.terminator → IsInside t from hi → MayRead m (behind_at t from) →
+      Begins m anchored (behind_at t from) first → Runs m t hi from first i s met → i ≤ hi → MayRead m (ahead_at t i) →
+      (q : ℕ) → ComesHere m.setting s (ahead_at t i) q ↔ Comes (ways m.setting.places t hi) (starts_of m anchored from hi) (q, i)
+  -- From where nothing goes on, none comes to any.
+  pub dies : (m : Machine) (t : Text) (hi from : ℕ) (anchored : Anchored) (first s : State) (i : ℕ) (met : Option Pair) → IsMachine m →
+      m.direction ≡ forwards all_matches → m.setting.terminator ≡ t.terminator → IsInside t from hi → MayRead m (behind_at t from) →
+      Begins m anchored (behind_at t from) first → Runs m t hi from first i s met → is_dead s ≡ true →
+      (q y : ℕ) → i ≤ y → ¬ Comes (ways m.setting.places t hi) (starts_of m anchored from hi) (q, y)
+  -- None comes to a position outside the bounds.
+  pub within : (m : Machine) (t : Text) (hi from : ℕ) (anchored : Anchored) (q y : ℕ) → IsMachine m → from ≤ hi →
+      Comes (ways m.setting.places t hi) (starts_of m anchored from hi) (q, y) → (from ≤ y) × (y ≤ hi)
+  -- On the way to a state with nothing met, no walk ended.
+  pub unmet : (m : Machine) (s next : State) (beside : Option ℕ) → m.direction ≡ forwards all_matches → Leads m s beside next → next.matched ≡ None →
+      (q : ℕ) → ¬ EndsHere m.setting s beside q

@@ -13,7 +13,7 @@ use crate::matches::{last_of, pattern_of};
 use crate::samples::samples_of;
 use rc_determinize::backward::{Reversed, last, prior};
 use rc_determinize::classes::{classes, single_classes};
-use rc_determinize::forward::{first, next_by};
+use rc_determinize::forward::{ends_here, first, next_by};
 use rc_determinize::scratch::Scratch;
 use rc_determinize::sides::{Asked, needs_of};
 use rc_determinize::state::State;
@@ -26,6 +26,8 @@ use std::alloc::{AllocError, Global};
 pub enum Direction {
     /// From a start to an end.
     Forwards,
+    /// From a start to each end, as for `MatchKind::All`, whatever the automaton's kind.
+    Overlapping,
     /// From an end to a start.
     Backwards,
 }
@@ -71,14 +73,15 @@ fn classes_by(
 }
 
 impl Automaton {
-    ghost use Rattle.std.specs.Prelude.{◌≡◌, ◌<◌, ◌↔◌, IsTrue, length, IfOk};
+    ghost use Rattle.std.specs.Prelude.{◌≡◌, ◌<◌, ◌↔◌, ℕ, IsTrue, length, IfOk};
     ghost use Rattle.rc_program.specs.Laws.{IsClosed};
     ghost use Rattle.rc_utf8.specs.Places.{places_of};
     ghost use Rattle.rc_determinize.specs.Places.{state_of};
-    ghost use Rattle.rc_determinize.specs.Steps.{AreBelow};
+    ghost use Rattle.rc_determinize.specs.Sets.{EndsHere};
+    ghost use Rattle.rc_determinize.specs.Steps.{AreBelow, HasPlace};
     ghost use Rattle.rc_determinize.specs.Sides.{IsReadable};
     ghost use Rattle.rc_dfa.specs.declared.automaton.Direction.{Direction};
-    ghost use Rattle.rc_dfa.specs.declared.automaton.Direction.TheVariants.{Forwards, Backwards};
+    ghost use Rattle.rc_dfa.specs.declared.automaton.Direction.TheVariants.{Forwards, Overlapping, Backwards};
     ghost use Rattle.rc_dfa.specs.Machine.{IsAsked, Begins, Leads, IsMachine, IsClassing, entry_bound, longest_in};
     ghost use Rattle.rc_dfa.specs.Automata.{machine_of, IsMadeOf, classes_of, samples_of};
     ghost use Rattle.rc_program.specs.Program.{place_at};
@@ -210,6 +213,7 @@ impl Automaton {
     {
         match direction {
             Direction::Forwards => self.begin_forwards(anchored, beside, to),
+            Direction::Overlapping => self.begin_forwards(anchored, beside, to),
             Direction::Backwards => self.begin_backwards(anchored, beside, to),
         }
     }
@@ -290,6 +294,17 @@ impl Automaton {
                 beside,
                 to,
             ),
+            Direction::Overlapping => next_by(
+                MatchKind::All,
+                &self.places,
+                self.needs,
+                self.terminator,
+                0,
+                scratch,
+                from,
+                beside,
+                to,
+            ),
             Direction::Backwards => prior(
                 &self.reversed,
                 self.needs,
@@ -301,5 +316,31 @@ impl Automaton {
                 to,
             ),
         }
+    }
+    /// Replaces `ends` by the match places of the walks that end at a state's position, if this
+    /// byte is ahead, or none. `Err` means out of memory; then `ends` is some list.
+    pub fn ends_here(
+        &self,
+        scratch: &mut Scratch,
+        from: &State,
+        beside: Option<u8>,
+        ends: &mut Vec<usize>,
+    ) -> Result<(), AllocError>
+        requires below { AreBelow (length (machine_of self.now Overlapping).setting.places)
+            from.now.list.items }
+        requires scratch { scratch.old ≡ length (machine_of self.now Overlapping).setting.places }
+        ensures scratch { scratch.new ≡ scratch.old }
+        ensures ends { IfOk result (λ _. (q : ℕ) → HasPlace q ends.new.items
+            ↔ EndsHere (machine_of self.now Overlapping).setting (state_of from.now) beside q) }
+    {
+        ends_here(
+            &self.places,
+            self.needs,
+            self.terminator,
+            scratch,
+            from,
+            beside,
+            ends,
+        )
     }
 }

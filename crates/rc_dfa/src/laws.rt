@@ -1,5 +1,5 @@
 //! Laws of determinizers and of their runs. The functions do nothing: their contracts are the laws.
-ghost use Rattle.rc_dfa.specs.Laws.{MachineLaw, RunLaw};
+ghost use Rattle.rc_dfa.specs.Laws.{MachineLaw, OverlapLaw, RunLaw};
 
 /// The states of a determinizer list places of its program, each once.
 pub fn machines_keep_places()
@@ -11,4 +11,9 @@ pub fn machines_keep_places()
 /// first byte that may not be read.
 pub fn runs_meet_walks()
     ensures { RunLaw }
+{}
+
+/// For `MatchKind::All`, each state of a DFA search tells to which places walks come.
+pub fn runs_overlap()
+    ensures { OverlapLaw }
 {}

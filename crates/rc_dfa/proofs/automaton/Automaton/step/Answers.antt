@@ -3,7 +3,8 @@ use Rattle.std.proofs.lemmas.List.{length-map}
 use Rattle.std.proofs.lemmas.Result.{IfOk-weaker}
 use Rattle.rc_utf8.specs.Places.{place_of, places_of}
 use Rattle.rc_determinize.specs.Kinds.{bound_of}
-use Rattle.rc_determinize.specs.Places.{state_of}
+use Rattle.rc_determinize.specs.Places.{setting_of, state_of}
+use Rattle.rc_determinize.specs.Sets.{IsNextOfAll}
 use Rattle.rc_determinize.specs.Steps.{AreBelow}
 use Rattle.rc_determinize.specs.Backward.{IsPrior}
 use Rattle.rc_determinize.specs.States.{Setting}
@@ -41,3 +42,19 @@ returns-in-Backwards-clause-leads c =
     subst (λ es. IsPrior g es (state_of c.args.from.now) c.args.beside (state_of c.prior.new.to)) c.deref-in-Backwards.ensures.value
     (h (places_of c.args.self.now.places.items) (is_reversed c.args.self.now))))
     c.prior.ensures.prior
+
+pub next_by-requires-in-Overlapping-clause-below : goal.next_by-requires-in-Overlapping-clause-below
+next_by-requires-in-Overlapping-clause-below c =
+    subst (λ n. AreBelow n c.args.from.now.list.items)
+    (length-map c.args.self.now.places.items place_of ∙ sym (ap length c.deref-in-Overlapping.ensures.value))
+    (subst (λ d. AreBelow (entry_bound (direction_of c.args.self.now.kind d) (length (places_of c.args.self.now.places.items))) c.args.from.now.list.items)
+    c.in-Overlapping.is c.requires.below)
+
+pub returns-in-Overlapping-clause-leads : goal.returns-in-Overlapping-clause-leads
+returns-in-Overlapping-clause-leads c =
+    let a = c.args.self.now in
+    IfOk-weaker c.next_by-in-Overlapping.result _ _
+    (λ x h. subst (λ d. Leads (machine_of a d) (state_of c.args.from.now) c.args.beside (state_of c.next_by-in-Overlapping.new.to)) (sym c.in-Overlapping.is)
+    (subst (λ ps. IsNextOfAll (setting_of ps a.needs a.terminator) 0 (state_of c.args.from.now) c.args.beside (state_of c.next_by-in-Overlapping.new.to))
+    c.deref-in-Overlapping.ensures.value h))
+    c.next_by-in-Overlapping.ensures.next
