@@ -1,5 +1,5 @@
 -- What is met, whatever the kind, and whether or not the first that is met is enough.
-use Rattle.std.proofs.Common.{◌≡◌, ℕ, ◌+◌, ◌-◌, ◌<◌, ◌≤◌, Bool, true, false, true≢false, IsTrue, List, length, Option, Some, None, inl, ⊎_elim, sym, subst, ap, ap₂, ◌∙◌, refl, arith, eq-eqb, eqb-true}
+use Rattle.std.proofs.Common.{◌≡◌, ℕ, ◌+◌, ◌-◌, ◌<◌, ◌≤◌, ◌↔◌, Bool, true, false, true≢false, IsTrue, List, length, Option, Some, None, inl, ⊎_elim, sym, subst, ap, ap₂, ◌∙◌, refl, arith, eq-eqb, eqb-true}
 use Rattle.std.specs.Prelude.{slice_index}
 use Rattle.std.proofs.lemmas.Bool.{cases_eq}
 use Rattle.rc_text.specs.Found.{Found}
@@ -11,7 +11,7 @@ use Rattle.rc_pattern.specs.Re.{Re}
 use Rattle.rc_walks.specs.Walks.{Pair, IsIn}
 use Rattle.rc_program.specs.Text.{Text}
 use Rattle.rc_program.specs.Program.{Place, accept, place_at, ways, is_match_place, program, entry}
-use Rattle.rc_program.specs.Answer.{Search, next_of, ends, only, answer}
+use Rattle.rc_program.specs.Answer.{Search, next_of, ends, only, answer, pattern_at}
 use Rattle.rc_program.specs.Greatest.{IsSpelledIn, HasNoSpan, greatest}
 use Rattle.rc_program.proofs.AnswerLemmas.{walk_ends, match_place_is}
 use Rattle.rc_program.proofs.GreatestLemmas.{greatest_law, other_ends}
@@ -210,6 +210,31 @@ module _ (hs : List Re) (kind : MatchKind) (m n : Machine) (anchored : Anchored)
       no_answer None e none = e
       no_answer (Some f) e none = absurd (none f (greatest_law.answer_spelled s f e))
 
+  -- where walks come to a match place
+  walks_spell : (p e : ℕ) →
+      ((q : ℕ) × Comes (ways m.setting.places s.text s.hi) (starts_of m anchored s.lo s.hi) (q, e) × (place_at m.setting.places q ≡ accept p))
+      ↔ ((x : ℕ) × IsSpelledIn s (record { pattern = p; start = x; end = e }))
+  walks_spell p e = (
+    (λ h. let places = m.setting.places in
+        let there : IsGoal (MayEnd places (Some p)) e (h.0, e) = (subst (λ z. IsTrue (is_match_place (Some p) z)) (sym h.2) (own_allowed p), refl) in
+        let back = comes_back (ways places s.text s.hi) (IsGoal (MayEnd places (Some p)) e) (starts_of m anchored s.lo s.hi) h.1 (arrived (h.0, e) there) in
+        let enters = entered hs m s.text s.lo s.hi c.ordered (ahead_entries c) anchored p e back.0 c.asked back.1
+        (subst (λ ps. LeadsTo ps s.text s.hi (Some p) e back.0) places_of back.2) in
+        (enters.start, spells p e enters)),
+    (λ h. let places = m.setting.places in
+        let f : Found = record { pattern = p; start = h.0; end = e } in
+        let l = leaves hs m s.text s.lo s.hi c.ordered (ahead_entries c) anchored p e (spelled_enters f h.1) in
+        let on = comes_on (ways places s.text s.hi) (IsGoal (MayEnd places (Some p)) e) (starts_of m anchored s.lo s.hi) (sets.begins l.0 l.1)
+        (subst (λ ps. LeadsTo ps s.text s.hi (Some p) e l.0) (sym places_of) l.2) in
+        let place = place_at places on.0.0 in
+        let is = match_place_is (Some p) place on.2.0 in
+        let own : pattern_at place ≡ p = eqb-true (pattern_at place) p (subst (λ z. IsTrue (is_match_place (Some p) z)) is on.2.0) in (
+          on.0.0,
+          subst (λ y. Comes (ways places s.text s.hi) (starts_of m anchored s.lo s.hi) (on.0.0, y)) on.2.1 on.1,
+          is ∙ ap (λ k. accept k) own,
+        )),
+  )
+
   -- BACKWARDS
 
   starts_so : (earliest early : Bool) (q e x k : ℕ) → anchors anchored ≡ false → SearchEnds m s.text s.hi s.lo anchored earliest (met_last (Some (q, e))) →
@@ -253,5 +278,6 @@ met_law = record {
   ends = λ hs kind m n anchored s earliest q e c run. ends_so hs kind m n anchored s c earliest q e run;
   starts = λ hs kind m n anchored s earliest early q e x k c free run down. starts_so hs kind m n anchored s c earliest early q e x k free run down;
   some_start = λ hs kind m n anchored s earliest early q e c run down. some_start_so hs kind m n anchored s c earliest early q e run down;
+  comes = λ hs kind m n anchored s p e c. walks_spell hs kind m n anchored s c p e;
   none = λ hs kind m n anchored s earliest c run. none_so hs kind m n anchored s c earliest run;
 }

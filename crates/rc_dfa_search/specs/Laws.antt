@@ -1,6 +1,6 @@
 -- Laws of DFA searches: what runs over the byte program of patterns find of the matches of a
 -- search.
-use Rattle.std.specs.Prelude.{◌≡◌, ℕ, ◌+◌, ◌<◌, ◌≤◌, ◌⊎◌, Bool, true, false, IsTrue, List, Option, Some, None}
+use Rattle.std.specs.Prelude.{◌≡◌, ℕ, ◌+◌, ◌<◌, ◌≤◌, ◌⊎◌, ◌↔◌, Bool, true, false, IsTrue, List, Option, Some, None}
 use Rattle.rc_pattern.specs.Re.{Re}
 use Rattle.rc_text.specs.Found.{Found}
 use Rattle.rc_text.specs.declared.types.MatchKind.{MatchKind}
@@ -8,13 +8,15 @@ use Rattle.rc_text.specs.declared.types.MatchKind.TheVariants.{All as all_matche
 use Rattle.rc_text.specs.declared.types.Anchored.{Anchored}
 use Rattle.rc_text.specs.declared.types.Anchored.TheVariants.{No}
 use Rattle.rc_text.specs.Plain.{is_anchored as anchors}
-use Rattle.rc_program.specs.Program.{place_at, program}
+use Rattle.rc_program.specs.Program.{accept, place_at, program, ways}
 use Rattle.rc_program.specs.Answer.{Search, answer, anywhere, pattern_at}
 use Rattle.rc_program.specs.Greatest.{IsSpelledIn, HasNoSpan, greatest}
 use Rattle.rc_utf8.specs.Laws.{by_bytes}
+use Rattle.rc_determinize.specs.Sets.{Comes}
 use Rattle.rc_determinize.specs.States.{IsInside}
 use Rattle.rc_determinize.specs.Laws.{may_end_at}
 use Rattle.rc_program.specs.Kinds.{answer_by}
+use Rattle.rc_dfa.specs.Laws.{starts_of}
 use Rattle.rc_dfa.specs.Machine.{Machine}
 use Rattle.rc_dfa.specs.Runs.{met_last, stopped_at, SearchEnds, SearchEndsDown}
 use Rattle.rc_dfa_search.specs.Leftmost.{IsLeftmost, IsRaisedBy}
@@ -77,6 +79,10 @@ pub record MetLaw : Type 0 where
       SearchEndsDown n s.text s.lo e anchored early (met_last (Some (x, k))) → IsSpelledIn s (record { pattern = k; start = x; end = e })
   pub some_start : (hs : List Re) (kind : MatchKind) (m n : Machine) (anchored : Anchored) (s : Search) (earliest early : Bool) (q e : ℕ) → IsCase hs kind m n anchored s →
       SearchEnds m s.text s.hi s.lo anchored earliest (met_last (Some (q, e))) → ¬ SearchEndsDown n s.text s.lo e anchored early (met_last None)
+  -- A walk comes to a match place of a pattern exactly where one is spelled that ends there.
+  pub comes : (hs : List Re) (kind : MatchKind) (m n : Machine) (anchored : Anchored) (s : Search) (p e : ℕ) → IsCase hs kind m n anchored s →
+      ((q : ℕ) × Comes (ways m.setting.places s.text s.hi) (starts_of m anchored s.lo s.hi) (q, e) × (place_at m.setting.places q ≡ accept p))
+      ↔ ((x : ℕ) × IsSpelledIn s (record { pattern = p; start = x; end = e }))
   -- If nothing is found, nothing is spelled.
   pub none : (hs : List Re) (kind : MatchKind) (m n : Machine) (anchored : Anchored) (s : Search) (earliest : Bool) → IsCase hs kind m n anchored s →
       SearchEnds m s.text s.hi s.lo anchored earliest (met_last None) → HasNoSpan s × (answer s ≡ None) × (greatest s ≡ None)
