@@ -1,5 +1,5 @@
 -- Searches that ask first whether a match begins where the first one may.
-use Rattle.std.proofs.Common.{◌≡◌, ◌↔◌, ◌∙◌, ℕ, ◌+◌, ◌-◌, ◌<◌, ◌≤◌, Bool, true, false, not, ◌||◌, true≢false, List, length, Option, Some, None, Result, Ok, Err, IfOk, sym, subst, ap, ap₂, refl, arith, inl, inr, slice_get, slice_range, take, min, max}
+use Rattle.std.proofs.Common.{◌≡◌, ◌↔◌, ◌∙◌, ℕ, ◌+◌, ◌-◌, ◌<◌, ◌≤◌, Bool, true, false, not, ◌||◌, true≢false, List, length, Option, Some, None, Result, Ok, Err, IfOk, sym, subst, ap, ap₂, refl, arith, inl, inr, ⊎_elim, slice_get, slice_range, take, min, max}
 use Rattle.std.specs.Prelude.{slice_index}
 use Rattle.std.proofs.lemmas.Bool.{cases_lt}
 use Rattle.std.proofs.lemmas.List.{get_or-take, length-take-le}
@@ -15,7 +15,7 @@ use Rattle.rc_pattern.specs.Re.{Re}
 use Rattle.rc_program.specs.Text.{Text}
 use Rattle.rc_program.specs.Program.{Place, program}
 use Rattle.rc_program.specs.Answer.{Search, Chosen, HasNoWalkFrom, IsFirstFrom, anywhere, answer, at_start, found}
-use Rattle.rc_program.specs.Longest.{HasNoAnswerOf, IsAnswerOf, IsLongestFrom, longest}
+use Rattle.rc_program.specs.Longest.{HasNoAnswerOf, IsAnswerOf, IsLongestFrom, IsPassedOf, longest}
 use Rattle.rc_program.specs.Sought.{anchoring_of, search_over, text_of}
 use Rattle.rc_program.proofs.AnswerLemmas.{answer_law}
 use Rattle.rc_program.proofs.ReachLemmas.{longest_law}
@@ -162,6 +162,17 @@ module _ (places : List Place) (text : Text) (lo hi : ℕ) where
         later_of (IsLongestFrom (Any lo)) longest (λ x. longest_law.answer_some (Any x)) (λ x. longest_law.answer_none (Any x))
         (λ x. longest_law.answer_some (Here x)) from above none
 
+  -- no match begins at a position, so no walk does
+  none_passed : (Counts : ℕ → List Pair → Type 0) (from : ℕ) → IsPassedOf (Here from) Counts from → HasNoWalkFrom (Any lo) from
+  none_passed Counts from passed = ⊎_elim (λ none. none) (λ r. absurd (true≢false r.2)) passed
+
+  pub not_here : (kind : MatchKind) → IsLeftmost kind → (from : ℕ) → from ≤ hi → None ≡ answer_by kind (Here from) → HasNoWalkFrom (Any lo) from
+  not_here all_matches l = absurd l
+  not_here leftmost_first l = λ from le e. none_passed (IsFirstFrom (Any lo)) from
+      ((answer_law.answer_none (Here from)).0 (sym e) from (omega arith, le, λ t. refl))
+  not_here leftmost_longest l = λ from le e. none_passed (IsLongestFrom (Any lo)) from
+      ((longest_law.answer_none (Here from)).0 (sym e) from (omega arith, le, λ t. refl))
+
 -- in the terms of an input
 pub as_any : (aim : Aim) (hs : List Re) (terminator : ℕ) (s : Searched) → AsksFirst aim s.anchored →
     search_for aim hs terminator s ≡ Any (program hs) (text_of terminator s) (low s) (high s) (low s)
@@ -277,6 +288,13 @@ module _ (aim : Aim) (hs : List Re) (terminator : ℕ) (s t : Searched) (keeps :
   no_first none =
       none_anywhere (program hs) (text_of terminator s) (low s) (high s) aim.kind goes.kind (λ x low le. moved x (none x (omega (arith, low, is_lo)) (omega (arith, le, is_hi))))
       ∙ sym (ap (answer_by aim.kind) same)
+
+  pub not_begun : (u : Searched) → Keeps s u → (from : ℕ) → from ≤ hi →
+      None ≡ answer_by aim.kind (starting_at from (search_for aim hs terminator u)) → HasNoWalkFrom (search_for aim hs terminator s) from
+  not_begun u kept from le h =
+      subst (λ (q : Search). HasNoWalkFrom q from) (sym same)
+      (not_here (program hs) (text_of terminator s) (low s) (high s) aim.kind goes.kind from (omega (arith, le, is_hi))
+      (h ∙ ap (λ q. answer_by aim.kind (starting_at from q)) (kept_search aim hs terminator s u kept ∙ same)))
 
   module _ (from : ℕ) (above : lo ≤ from) (none : (x : ℕ) → lo ≤ x → x < from → HasNoWalkFrom (search_for aim hs terminator t) x) where
     passed : (x : ℕ) → low s ≤ x → x < from → HasNoWalkFrom (T (low s)) x

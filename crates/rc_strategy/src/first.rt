@@ -14,6 +14,7 @@ ghost use Rattle.rc_program.specs.Kinds.{IsAnswerBy, answer_by};
 ghost use Rattle.rc_dfa_search.specs.Aims.{AreHalvesOf, search_for};
 ghost use Rattle.rc_strategy.specs.Firsts.{AsksFirst, starting_at};
 
+use crate::tables::have_openings;
 use rc_dfa::halves::Halves;
 use rc_dfa_search::guarded::find_guarded;
 use rc_dfa_search::search::{Aim, find, id_of, told};
@@ -25,6 +26,9 @@ use rc_text::types::{Anchored, Match, MatchError, MatchKind, Span};
 
 /// How many bytes are checked one by one, before the next needle is looked for.
 const NEAR: usize = 16;
+
+/// How many anchored runs are tried after the first, if there are many needles.
+const MORE_RUNS: usize = 16;
 
 /// Whether a search tries an anchored run first. It must not be anchored, its kind must be
 /// leftmost-first or leftmost-longest, the earliest flag must be off, and no match may be passed
@@ -39,6 +43,16 @@ fn asks_first(aim: Aim, anchored: Anchored) -> bool
         }
         _ => false,
     }
+}
+
+/// Returns how many anchored runs are tried after the first. With many needles they reach fewer and
+/// smaller states than a run that may begin anywhere.
+#[inline(always)]
+fn more_runs(needles: &Prefilter) -> usize {
+    if have_openings(needles) {
+        return MORE_RUNS;
+    }
+    0
 }
 
 /// Returns how many bytes of a piece are skipped: those before the first with which a needle
@@ -238,7 +252,8 @@ fn find_on<H: Halves, C: Cursor>(
 }
 
 /// Returns the leftmost match, if each match begins with a needle. It first tries an anchored run
-/// where the first match may begin. If none begins there, it searches on from there.
+/// where the first match may begin, and with many needles some more, where the next ones may. If
+/// none begins there, it searches on from the last of these positions.
 #[inline(always)]
 fn find_by_first<H: Halves, C: Cursor>(
     halves: &H,
@@ -264,13 +279,21 @@ fn find_by_first<H: Halves, C: Cursor>(
     if lo > hi {
         return Ok(None);
     }
-    let Some(from) = start_by(input, needles, are_fast, lo, hi) else {
-        return Ok(None);
-    };
-    if let Some(found) = find_here(halves, cache, input, from, hi)? {
-        return Ok(Some(found));
+    let mut at = lo;
+    let mut left = more_runs(needles);
+    'runs: loop {
+        let Some(from) = start_by(input, needles, are_fast, at, hi) else {
+            return Ok(None);
+        };
+        if let Some(found) = find_here(halves, cache, input, from, hi)? {
+            return Ok(Some(found));
+        }
+        if left == 0 || from >= hi {
+            return find_on(halves, cache, input, aim, needles, are_fast, from);
+        }
+        left -= 1;
+        at = from + 1;
     }
-    find_on(halves, cache, input, aim, needles, are_fast, from)
 }
 
 /// Returns the match that `find` returns, if each match begins with a needle. A leftmost search

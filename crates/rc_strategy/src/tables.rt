@@ -43,7 +43,7 @@ fn exceeds(places: usize, limit: Option<usize>) -> bool
 }
 
 /// Whether a table of bits rules out most positions before the trie of the needles is asked.
-fn have_openings(needles: &Prefilter) -> bool {
+pub(crate) fn have_openings(needles: &Prefilter) -> bool {
     match &needles.searcher.table.trie {
         Some(trie) => !trie.openings.is_empty(),
         None => false,
@@ -62,8 +62,8 @@ pub(crate) fn are_fast(literals: &Literals) -> bool {
 }
 
 /// Whether DFA searches are to rest between literals. They are if there are required literals, or
-/// if they go from one prefix literal to the next. They are too if some byte may not be read, since a
-/// search that came to one goes from literal to literal.
+/// if they go from one prefix literal to the next. They are too if some byte may not be read,
+/// since a search that came to one goes from literal to literal.
 fn are_to_rest(literals: &Literals, needed: bool, automaton: &Automaton) -> bool {
     if needed {
         return true;
