@@ -69,10 +69,10 @@ more_fits greedy n m k a one now mid total some e long longer =
     omega (arith, s, above, held, long, longer)
 
 -- one more optional copy is appended
-pub emits_more : (slots next : ℕ) (begun : Vec code.Place Global) (all : Part) (old mid new : Vec code.Place Global) (a one two : Part) (greedy : Bool) (n m after : ℕ) (q : code.Place) →
+pub emits_more : (slots next : ℕ) (begun : Vec code.Place Global) (all : Part) (old mid new : Vec code.Place Global) (a one two : Part) (greedy : Bool) (n m after : ℕ) (q : Place) →
     Emits slots next begun all old (up_to greedy n a) → n ≡ suc m → one ≡ a → two ≡ a →
-    after ≡ vec_len old + 1 + one.size → place_of q ≡ body_or_out greedy (vec_len old + 1) next →
-    vec_len mid ≡ vec_len old + 1 → places_of mid.items ≡ places_of old.items ++ place_of q ∷ [] →
+    after ≡ vec_len old + 1 + one.size → q ≡ body_or_out greedy (vec_len old + 1) next →
+    vec_len mid ≡ vec_len old + 1 → places_of mid.items ≡ places_of old.items ++ q ∷ [] →
     vec_len new ≡ vec_len mid + two.size → places_of new.items ≡ places_of mid.items ++ two.places slots (vec_len mid) after →
     Emits slots next begun all new (up_to greedy m a)
 emits_more slots next begun all old mid new a one two greedy n m after q e count f g at is l1 p1 l2 p2 =
@@ -97,9 +97,9 @@ pub emits_trans : (slots next : ℕ) (begun : Vec code.Place Global) (all : Part
 emits_trans slots next begun all mid part now left e f = record { long = f.long ∙ e.long; more = f.more ∙ e.more }
 
 -- without a bound, and no turn wanted: a choice stands before the turns
-pub begins_none : (slots next : ℕ) (old new : Vec code.Place Global) (all a : Part) (greedy : Bool) (n body : ℕ) (q : code.Place) →
-    all ≡ at_least n greedy a → n ≡ 0 → body ≡ vec_len old + 1 → place_of q ≡ body_or_out greedy body next →
-    vec_len new ≡ vec_len old + 1 → places_of new.items ≡ places_of old.items ++ place_of q ∷ [] →
+pub begins_none : (slots next : ℕ) (old new : Vec code.Place Global) (all a : Part) (greedy : Bool) (n body : ℕ) (q : Place) →
+    all ≡ at_least n greedy a → n ≡ 0 → body ≡ vec_len old + 1 → q ≡ body_or_out greedy body next →
+    vec_len new ≡ vec_len old + 1 → places_of new.items ≡ places_of old.items ++ q ∷ [] →
     Emits slots next old all new (copies (n - 1) a (plus greedy a))
 begins_none slots next old new all a greedy n body q e nil at is l p =
     let f : all ≡ optional greedy (plus greedy a) = e ∙ ap (λ k. at_least k greedy a) nil in
@@ -120,10 +120,10 @@ begins_some slots next old all a greedy n e some =
 
 -- the last turn is appended, and the choice behind it
 pub ends_plus : (slots next : ℕ) (begun : Vec code.Place Global) (all : Part) (old : Vec code.Place Global) (a one two : Part) (greedy : Bool) (n body after : ℕ)
-    (p : List Place) (q : code.Place) → Emits slots next begun all old (copies n a (plus greedy a)) → n ≡ 0 → one ≡ a → two ≡ a →
-    body ≡ vec_len old → after ≡ body + one.size → place_of q ≡ body_or_out greedy body next →
+    (p : List Place) (q : Place) → Emits slots next begun all old (copies n a (plus greedy a)) → n ≡ 0 → one ≡ a → two ≡ a →
+    body ≡ vec_len old → after ≡ body + one.size → q ≡ body_or_out greedy body next →
     p ≡ places_of old.items ++ two.places slots (vec_len old) after →
-    p ++ place_of q ∷ [] ≡ places_of begun.items ++ all.places slots (vec_len begun) next
+    p ++ q ∷ [] ≡ places_of begun.items ++ all.places slots (vec_len begun) next
 ends_plus slots next begun all old a one two greedy n body after p q e nil f g at behind is p2 =
     let held : Emits slots next begun all old (plus greedy a) = subst (λ k. Emits slots next begun all old (copies k a (plus greedy a))) nil e in
     let s : one.size ≡ a.size = ap (λ (x : Part). x.size) f in

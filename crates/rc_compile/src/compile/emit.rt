@@ -25,14 +25,24 @@ pub(super) fn append(places: &mut Vec<Place>, place: Place) -> Result<(), AllocE
     Ok(())
 }
 
-/// Returns the choice of a body and the way out: the body comes first if greedy.
-fn choice_of(greedy: bool, body: usize, out: usize) -> Place
-    ensures { place_of result ≡ body_or_out greedy body out }
+/// Appends the choice of a body and the way out: the body comes first if greedy.
+///
+/// It isn't inlined, so that a level of nesting takes little stack.
+#[inline(never)]
+fn append_choice(
+    places: &mut Vec<Place>,
+    greedy: bool,
+    body: usize,
+    out: usize,
+) -> Result<(), AllocError>
+    ensures long { IfOk result (λ _. vec_len places.new ≡ vec_len places.old + 1) }
+    ensures more { IfOk result (λ _. places_of places.new.items ≡ places_of places.old.items
+        ++ body_or_out greedy body out ∷ []) }
 {
     if greedy {
-        return Place::Choice(body, out);
+        return append(places, Place::Choice(body, out));
     }
-    Place::Choice(out, body)
+    append(places, Place::Choice(out, body))
 }
 
 /// Appends the places of a literal, which leads to `next`.
@@ -222,7 +232,7 @@ fn emit_repetition(
             let length = size(&repetition.sub, groups);
             if min == 0 {
                 let body = places.len() + 1;
-                append(places, choice_of(repetition.greedy, body, next))?;
+                append_choice(places, repetition.greedy, body, next)?;
             }
             'first: for k in 1..min {
                 let after = places.len() + length;
@@ -230,7 +240,7 @@ fn emit_repetition(
             }
             let body = places.len();
             emit(places, &repetition.sub, groups, slots, body + length)?;
-            append(places, choice_of(repetition.greedy, body, next))
+            append_choice(places, repetition.greedy, body, next)
         }
         Some(max) => {
             if min.max(max) == 0 {
@@ -243,7 +253,7 @@ fn emit_repetition(
             }
             'more: for k in min..max {
                 let body = places.len() + 1;
-                append(places, choice_of(repetition.greedy, body, next))?;
+                append_choice(places, repetition.greedy, body, next)?;
                 emit(places, &repetition.sub, groups, slots, body + length)?;
             }
             append(places, Place::Pass(next))

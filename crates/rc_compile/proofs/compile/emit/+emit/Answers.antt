@@ -1,4 +1,4 @@
-use Rattle.std.proofs.Common.{rules, ◌++◌, vec_len, ◌≡◌, ◌+◌, ◌-◌, List, sym, ap, ◌∙◌, arith, max, subst}
+use Rattle.std.proofs.Common.{rules, ◌++◌, vec_len, ◌≡◌, ◌+◌, ◌-◌, List, sym, ap, refl, ◌∙◌, arith, max, subst}
 use Rattle.std.proofs.lemmas.Grind.{common_steps}
 use Rattle.std.proofs.lemmas.List.{get_or_read}
 use Rattle.rc_pattern.specs.Re.{Re, literal}
@@ -13,7 +13,7 @@ use Rattle.rc_compile.specs.Shown.{laid}
 use Rattle.rc_compile.proofs.SizeLemmas.{literal_size, on_part, to_part, on_body, to_body}
 use Rattle.rc_program.proofs.ResultLemmas.{IfOk_to}
 use Rattle.rc_compile.proofs.EmitLemmas.{Emits, emits_copy, copy_fits, literal_slots, emits_more, more_fits, emits_trans, begins_none, begins_some, ends_plus}
-use Rattle.rc_compile.proofs.compile.emit.+emit.Goals.{emit_repetition-then-min-eq0+in_ok-append-in-None, emit_repetition-else-min-eq0}
+use Rattle.rc_compile.proofs.compile.emit.+emit.Goals.{emit_repetition-then-min-eq0+in_ok-append_choice-in-None, emit_repetition-else-min-eq0}
 use Rattle.rc_compile.proofs.compile.emit.+emit.Goals as goal
 
 pub emit-emit_literal-requires : goal.emit-emit_literal-requires
@@ -55,24 +55,24 @@ emit_repetition-returns-in_ok-emit-in-None-2-clause-more t c =
     let is = on_part c.args.groups c.args.repetition.now c.in-None.is in
     let begun : Emits c.args.slots c.args.next c.args.places.now all c.if-min-eq0.places (copies (o.min - 1) a (plus o.greedy a)) =
     elim c.if-min-eq0.branch as (λ _. Emits c.args.slots c.args.next c.args.places.now all c.if-min-eq0.places (copies (o.min - 1) a (plus o.greedy a))) [
-      | emit_repetition-then-min-eq0+in_ok-append-in-None w ↦
+      | emit_repetition-then-min-eq0+in_ok-append_choice-in-None w ↦
           subst (λ ps. Emits c.args.slots c.args.next c.args.places.now all ps (copies (o.min - 1) a (plus o.greedy a))) (sym w.places-is)
-          (begins_none c.args.slots c.args.next c.args.places.now w.append.new.places all a o.greedy o.min _ w.choice_of.result
-          is w.if-min-eq0.true (omega (arith, w.len-body.ensures)) w.choice_of.ensures
-          w.in_ok-append-in-None.ensures.long w.in_ok-append-in-None.ensures.more)
+          (begins_none c.args.slots c.args.next c.args.places.now w.append_choice.new.places all a o.greedy o.min _ _
+          is w.if-min-eq0.true (omega (arith, w.len-body.ensures)) refl
+          w.in_ok-append_choice-in-None.ensures.long w.in_ok-append_choice-in-None.ensures.more)
       | emit_repetition-else-min-eq0 w ↦
           subst (λ ps. Emits c.args.slots c.args.next c.args.places.now all ps (copies (o.min - 1) a (plus o.greedy a))) (sym w.places-is)
           (begins_some c.args.slots c.args.next c.args.places.now all a o.greedy o.min is w.if-min-eq0.false)
     ] in
     let done = emits_trans c.args.slots c.args.next c.args.places.now all c.if-min-eq0.places (copies (o.min - 1) a (plus o.greedy a))
     c.first.places (copies (o.min - c.first.k) a (plus o.greedy a)) begun c.first.invariant in
-    IfOk_to c.append-in-None.result _ _ c.append-in-None.ensures.more
+    IfOk_to c.append_choice-in-None.result _ _ c.append_choice-in-None.ensures.more
     (λ h. h ∙ ends_plus c.args.slots c.args.next c.args.places.now all c.first.places a
     (laid c.args.groups (meaning c.deref.result.now)) (laid c.args.groups (meaning c.deref-in-None.result.now))
     o.greedy (o.min - c.first.k) c.len-body-in-None.result (c.len-body-in-None.result + c.size-length.result)
-    (places_of c.emit-in-None.new.places.items) c.choice_of-in-None.result done (omega (arith, c.first-test.false, c.first.auto.k-end))
+    (places_of c.emit-in-None.new.places.items) _ done (omega (arith, c.first-test.false, c.first.auto.k-end))
     (ap (λ (h : Hir). laid c.args.groups (meaning h)) c.deref.ensures) (ap (λ (h : Hir). laid c.args.groups (meaning h)) c.deref-in-None.ensures)
-    c.len-body-in-None.ensures (omega (arith, c.size-length.ensures)) c.choice_of-in-None.ensures c.in_ok-emit-in-None-2.ensures.more)
+    c.len-body-in-None.ensures (omega (arith, c.size-length.ensures)) refl c.in_ok-emit-in-None-2.ensures.more)
 
 pub emit_repetition-size-length-requires-in-Some : goal.emit_repetition-size-length-requires-in-Some
 emit_repetition-size-length-requires-in-Some t c =
@@ -120,19 +120,19 @@ emit_repetition-emit-requires-in-more t c =
     let is : (laid c.args.groups (repetition_meaning c.args.repetition.now)).size ≡ (copies o.min a (up_to o.greedy (c.in-Some.max - o.min) a)).size =
     ap (λ (q : Part). q.size) (to_part c.args.groups c.args.repetition.now c.in-Some.max c.in-Some.is) in (
       first_of (search (rules, TheFolds.the_lemmas, get_or_read), grind (TheFolds.the_lemmas, arith, common_steps) steps 2000000),
-      (omega (arith, h, is, c.requires.fits, c.in_ok-append-in-Some.ensures.long), c.requires.slots_fit),
+      (omega (arith, h, is, c.requires.fits, c.in_ok-append_choice-in-Some.ensures.long), c.requires.slots_fit),
     )
 
 pub emit_repetition-more-preserved : goal.emit_repetition-more-preserved
 emit_repetition-more-preserved t c =
     let o = out-Repetition c.args.repetition.now in
     let a : Part = laid c.args.groups (meaning o.sub.value) in
-    emits_more c.args.slots c.args.next c.copies.places _ c.more.places c.append-in-more.new.places c.emit-in-more.new.places a
+    emits_more c.args.slots c.args.next c.copies.places _ c.more.places c.append_choice-in-more.new.places c.emit-in-more.new.places a
     (laid c.args.groups (meaning c.deref-in-Some.result.now)) (laid c.args.groups (meaning c.deref-in-more.result.now))
     o.greedy (c.in-Some.max - c.more.k) (c.in-Some.max - (c.more.k + 1))
-    (c.len-body-in-more.result + 1 + c.size-length-in-Some.result) c.choice_of-in-more.result
+    (c.len-body-in-more.result + 1 + c.size-length-in-Some.result) _
     c.more.invariant (omega (arith, c.more-test.true))
     (ap (λ (h : Hir). laid c.args.groups (meaning h)) c.deref-in-Some.ensures) (ap (λ (h : Hir). laid c.args.groups (meaning h)) c.deref-in-more.ensures)
     (omega (arith, c.len-body-in-more.ensures, c.size-length-in-Some.ensures))
-    (c.choice_of-in-more.ensures ∙ ap (λ k. body_or_out o.greedy (k + 1) c.args.next) c.len-body-in-more.ensures)
-    c.in_ok-append-in-Some.ensures.long c.in_ok-append-in-Some.ensures.more c.in_ok-emit-in-Some-2.ensures.long c.in_ok-emit-in-Some-2.ensures.more
+    (ap (λ k. body_or_out o.greedy (k + 1) c.args.next) c.len-body-in-more.ensures)
+    c.in_ok-append_choice-in-Some.ensures.long c.in_ok-append_choice-in-Some.ensures.more c.in_ok-emit-in-Some-2.ensures.long c.in_ok-emit-in-Some-2.ensures.more
