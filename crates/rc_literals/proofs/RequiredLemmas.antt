@@ -1,5 +1,5 @@
 -- What each match of patterns holds, and the loops that gather it.
-use Rattle.std.proofs.Common.{◌≡◌, ℕ, zero, suc, ◌+◌, ◌<◌, ◌≤◌, List, [], ◌∷◌, ◌++◌, length, map, min, take, drop, get_or, Bool, true, false, Option, Some, None, option_map, ◌&&◌, take-append-drop, nat_le, nat_lt, sym, ap, ap₂, subst, ◌∙◌, refl, arith, inl, inr, ⊎_elim, slice_get}
+use Rattle.std.proofs.Common.{◌≡◌, ℕ, zero, suc, ◌+◌, ◌<◌, ◌≤◌, List, [], ◌∷◌, ◌++◌, length, map, min, take, drop, get_or, Bool, true, false, Option, Some, None, is_some, not, true≢false, option_map, ◌&&◌, take-append-drop, nat_le, nat_lt, sym, ap, ap₂, subst, ◌∙◌, refl, arith, inl, inr, ⊎_elim, slice_get}
 use Rattle.std.proofs.lemmas.Bool.{cases_Bool, and_parts, false≢true}
 use Rattle.std.proofs.lemmas.Bool.Decides.{nat_tests}
 use Rattle.std.specs.Bool.{◌==◌}
@@ -192,23 +192,22 @@ module _ (longer : Bool) where
   each_more hs i d inside = at_drop_more of_each hs i d inside
 
   -- where the members from a place on have none, the alternation has none
-  pub none_before : (hs : List Hir) (i : ℕ) → of_each (drop i hs) ≡ None → of_each hs ≡ None
+  none_before : (hs : List Hir) (i : ℕ) → of_each (drop i hs) ≡ None → of_each hs ≡ None
   none_before hs zero e = e
   none_before [] (suc i) e = e
   none_before (h ∷ hs) (suc i) e = ap (joined (needed longer (meaning h))) (none_before hs i e) ∙ joined_none (needed longer (meaning h))
 
-  -- one member has none
-  pub none_there : (hs : List Hir) (i : ℕ) (x d : Hir) → i < length hs → x ≡ get_or hs i d → needed longer (meaning x) ≡ None → None ≡ of_each hs
-  none_there hs i x d inside is e =
-      sym (none_before hs i (each_more hs i d inside ∙ ap (λ y. joined (needed longer (meaning y)) (of_each (drop (i + 1) hs))) (sym is)
-      ∙ ap (λ o. joined o (of_each (drop (i + 1) hs))) e))
+  -- where a member and those behind it have none together, the alternation has none
+  pub none_from : (hs : List Hir) (i n : ℕ) (x d : Hir) (vs ws all : Option (List (List ℕ))) → i < length hs → n ≡ i + 1 → x ≡ get_or hs i d →
+      vs ≡ needed longer (meaning x) → ws ≡ of_each (drop n hs) → all ≡ joined vs ws → all ≡ None → all ≡ of_each hs
+  none_from hs i n x d vs ws all inside next is one others e nil =
+      nil ∙ sym (none_before hs i (each_more hs i d inside ∙ ap (λ y. joined (needed longer (meaning y)) (of_each (drop (i + 1) hs))) (sym is)
+      ∙ ap (λ m. joined (needed longer (meaning x)) (of_each (drop m hs))) (sym next) ∙ ap₂ joined (sym one) (sym others) ∙ sym e ∙ nil))
 
-  -- those from a place on are too many
-  pub too_many : (hs : List Hir) (i n : ℕ) (x d : Hir) (vs ws : List (List ℕ)) → i < length hs → n ≡ i + 1 → x ≡ get_or hs i d →
-      Some vs ≡ needed longer (meaning x) → Some ws ≡ of_each (drop n hs) → None ≡ joined (Some vs) (Some ws) → None ≡ of_each hs
-  too_many hs i n x d vs ws inside next is one others e =
-      sym (none_before hs i (each_more hs i d inside ∙ ap (λ y. joined (needed longer (meaning y)) (of_each (drop (i + 1) hs))) (sym is)
-      ∙ ap (λ m. joined (needed longer (meaning x)) (of_each (drop m hs))) (sym next) ∙ ap₂ joined (sym one) (sym others) ∙ sym e))
+-- what isn't there has no image
+pub no_image : {A B : Type 0} (f : A → B) (o : Option A) (b : Bool) → is_some o ≡ not b → b ≡ true → option_map f o ≡ None
+no_image f None b e t = refl
+no_image f (Some x) b e t = absurd (true≢false (e ∙ ap not t))
 
 -- The prefixes of the next member.
 

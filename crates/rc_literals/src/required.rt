@@ -1,5 +1,5 @@
 //! Required literals: each text that one of the patterns spells contains one of them.
-ghost use Rattle.std.specs.Prelude.{◌≡◌, ℕ, List, ◌∷◌, Some, IfOk, IfSome, MatchOption, map, option_map};
+ghost use Rattle.std.specs.Prelude.{◌≡◌, ℕ, List, ◌∷◌, Some, IfOk, IfSome, MatchOption, OnOk, map, option_map};
 ghost use Rattle.rc_pattern.specs.Meaning.{alt_all, cat_all, meaning};
 ghost use Rattle.rc_program.specs.Text.{Text};
 ghost use Rattle.rc_literals.specs.Literals.{literal_bytes};
@@ -11,6 +11,9 @@ use crate::prefixes::prefixes;
 use rc_needles::prefilter::is_usable;
 use rc_pattern::hir::{Hir, HirKind};
 use std::alloc::{AllocError, Global};
+
+/// Needles, or None if there are none to search for.
+type Needles = Option<Vec<Vec<u8>>>;
 
 /// The most needles that are kept.
 const GREATEST_COUNT: usize = 64;
@@ -47,7 +50,9 @@ pub fn required(
     ensures holds { IfOk result (λ found. IfSome found
         (λ v. (t : Text) → Holds t (map meaning hirs.now) (needles_in v.items))) }
 {
-    let Some(needles) = needed_by_each(alloc, hirs, longer)? else {
+    let mut found = None;
+    put_needed_by_each(alloc, hirs, longer, &mut found)?;
+    let Some(needles) = found else {
         return Ok(None);
     };
     if !is_usable(&needles) {
@@ -56,79 +61,97 @@ pub fn required(
     Ok(Some(needles))
 }
 
-/// Returns the needles of a pattern. Returns None if it needs no literal, or there are too many.
+/// Puts the needles of a pattern into `found`, or None if it needs no literal, or there are too
+/// many.
 ///
-/// What it calls isn't inlined, so that a level of nesting takes little stack.
+/// The needles stand where the caller keeps them, and what it calls isn't inlined. So a level of
+/// nesting takes little stack.
 #[cycle(needed)]
-fn needed(alloc: Global, hir: &Hir, longer: bool) -> Result<Option<Vec<Vec<u8>>>, AllocError>
-    ensures { IfOk result (λ found. option_map (λ v. needles_in v.items) found
+fn put_needed(alloc: Global, hir: &Hir, longer: bool, found: &mut Needles) -> Result<(), AllocError>
+    ensures { OnOk result (option_map (λ v. needles_in v.items) found.new
         ≡ needed longer (meaning hir.now)) }
 {
     match hir.kind() {
-        HirKind::Empty | HirKind::Look(_) | HirKind::Class(_) => Ok(None),
-        HirKind::Literal(bytes) => literal_needle(alloc, bytes),
+        HirKind::Empty | HirKind::Look(_) | HirKind::Class(_) => {
+            *found = None;
+            Ok(())
+        }
+        HirKind::Literal(bytes) => put_literal(alloc, bytes, found),
         HirKind::Repetition(repetition) => {
             if repetition.min == 0 {
-                return Ok(None);
+                *found = None;
+                return Ok(());
             }
-            needed(alloc, &repetition.sub, longer)
+            put_needed(alloc, &repetition.sub, longer, found)
         }
-        HirKind::Capture(capture) => needed(alloc, &capture.sub, longer),
-        HirKind::Concat(subs) => needed_by_one(alloc, subs, longer),
-        HirKind::Alternation(subs) => needed_by_each(alloc, subs, longer),
+        HirKind::Capture(capture) => put_needed(alloc, &capture.sub, longer, found),
+        HirKind::Concat(subs) => put_needed_by_one(alloc, subs, longer, found),
+        HirKind::Alternation(subs) => put_needed_by_each(alloc, subs, longer, found),
     }
 }
 
-/// Returns the needles of the member of a concatenation whose shortest is the longest. Returns None
-/// if no member has any.
+/// Puts the needles of the member of a concatenation whose shortest is the longest, or None if no
+/// member has any.
 #[cycle(needed)]
 #[inline(never)]
-fn needed_by_one(
+fn put_needed_by_one(
     alloc: Global,
     subs: &[Hir],
     longer: bool,
-) -> Result<Option<Vec<Vec<u8>>>, AllocError>
-    ensures { IfOk result (λ found. option_map (λ v. needles_in v.items) found
+    found: &mut Needles,
+) -> Result<(), AllocError>
+    ensures { OnOk result (option_map (λ v. needles_in v.items) found.new
         ≡ needed longer (cat_all (map meaning subs.now))) }
 {
-    let mut best = None;
+    *found = None;
+    let mut first = None;
     for i in (0..subs.len()).rev() {
-        let mut first = needed(alloc, &subs[i], longer)?;
+        put_needed(alloc, &subs[i], longer, &mut first)?;
         if longer {
-            first = with_rest(alloc, &subs[i], &subs[i + 1..], first)?;
+            lengthen(alloc, &subs[i], &subs[i + 1..], &mut first)?;
         }
-        best = better(first, best);
+        prefer(&mut first, found);
     }
-    Ok(best)
+    Ok(())
 }
 
-/// Returns the needles of each member of an alternation. Returns None if one has none, or there are
-/// too many.
+/// Puts the needles of each member of an alternation, or None if one has none, or there are too
+/// many.
 #[cycle(needed)]
-fn needed_by_each(
+#[inline(never)]
+fn put_needed_by_each(
     alloc: Global,
     subs: &[Hir],
     longer: bool,
-) -> Result<Option<Vec<Vec<u8>>>, AllocError>
-    ensures { IfOk result (λ found. option_map (λ v. needles_in v.items) found
+    found: &mut Needles,
+) -> Result<(), AllocError>
+    ensures { OnOk result (option_map (λ v. needles_in v.items) found.new
         ≡ needed longer (alt_all (map meaning subs.now))) }
 {
-    let mut list = Vec::new(alloc);
+    *found = Some(Vec::new(alloc));
+    let mut first = None;
     for i in (0..subs.len()).rev() {
-        let Some(first) = needed(alloc, &subs[i], longer)? else {
-            return Ok(None);
-        };
-        match joined(first, list)? {
-            Some(both) => list = both,
-            None => return Ok(None),
+        put_needed(alloc, &subs[i], longer, &mut first)?;
+        join(&mut first, found)?;
+        if found.is_none() {
+            return Ok(());
         }
     }
-    Ok(Some(list))
+    Ok(())
+}
+
+/// Puts the first bytes of a literal, or None if it is empty.
+#[inline(never)]
+fn put_literal(alloc: Global, bytes: &[u8], found: &mut Needles) -> Result<(), AllocError>
+    ensures { OnOk result (option_map (λ v. needles_in v.items) found.new
+        ≡ literal_needle bytes.now) }
+{
+    *found = literal_needle(alloc, bytes)?;
+    Ok(())
 }
 
 /// Returns the first bytes of a literal, or None if it is empty.
-#[inline(never)]
-fn literal_needle(alloc: Global, bytes: &[u8]) -> Result<Option<Vec<Vec<u8>>>, AllocError>
+fn literal_needle(alloc: Global, bytes: &[u8]) -> Result<Needles, AllocError>
     ensures { IfOk result (λ found. option_map (λ v. needles_in v.items) found
         ≡ literal_needle bytes.now) }
 {
@@ -140,26 +163,27 @@ fn literal_needle(alloc: Global, bytes: &[u8]) -> Result<Option<Vec<Vec<u8>>>, A
     Ok(Some(list))
 }
 
-/// Returns the needles of a member of a concatenation, before the others. A literal of one byte is
-/// lengthened by what is read after it, if that begins with few prefixes.
+/// Lengthens the needles of a member of a concatenation by what is read after it, if it is a literal
+/// of one byte, and that begins with few prefixes.
 #[inline(never)]
-fn with_rest(
+fn lengthen(
     alloc: Global,
     member: &Hir,
     rest: &[Hir],
-    needles: Option<Vec<Vec<u8>>>,
-) -> Result<Option<Vec<Vec<u8>>>, AllocError>
-    ensures { IfOk result (λ found. option_map (λ v. needles_in v.items) found
+    needles: &mut Needles,
+) -> Result<(), AllocError>
+    ensures { OnOk result (option_map (λ v. needles_in v.items) needles.new
         ≡ with_rest (meaning member.now) (cat_all (map meaning rest.now))
-        (option_map (λ v. needles_in v.items) needles)) }
+        (option_map (λ v. needles_in v.items) needles.old)) }
 {
     let Some(byte) = only_byte(member) else {
-        return Ok(needles);
+        return Ok(());
     };
     let Some(behind) = next_bytes(alloc, rest)? else {
-        return Ok(needles);
+        return Ok(());
     };
-    Ok(Some(with_each(alloc, byte, &behind)?))
+    *needles = Some(with_each(alloc, byte, &behind)?);
+    Ok(())
 }
 
 /// Returns the byte of a literal that has no other.
@@ -185,7 +209,7 @@ fn only_byte(hir: &Hir) -> Option<u8>
 
 /// Returns the prefixes of a concatenation's first member. Returns None if there is no member, or
 /// it has none or many.
-fn next_bytes(alloc: Global, subs: &[Hir]) -> Result<Option<Vec<Vec<u8>>>, AllocError>
+fn next_bytes(alloc: Global, subs: &[Hir]) -> Result<Needles, AllocError>
     ensures { IfOk result (λ found. option_map (λ v. needles_in v.items) found
         ≡ next_bytes (cat_all (map meaning subs.now))) }
 {
@@ -216,10 +240,20 @@ fn with_each(alloc: Global, byte: u8, behind: &[Vec<u8>]) -> Result<Vec<Vec<u8>>
     Ok(list)
 }
 
+/// Takes those of two members' needles whose shortest is longer, and the first member's if both are
+/// as long.
+#[inline(never)]
+fn prefer(first: &mut Needles, best: &mut Needles)
+    ensures { option_map (λ v. needles_in v.items) best.new
+        ≡ better (option_map (λ v. needles_in v.items) first.old)
+        (option_map (λ v. needles_in v.items) best.old) }
+{
+    *best = better(first.take(), best.take());
+}
+
 /// Returns those of two members' needles whose shortest is longer, and the first member's if both
 /// are as long.
-#[inline(never)]
-fn better(first: Option<Vec<Vec<u8>>>, rest: Option<Vec<Vec<u8>>>) -> Option<Vec<Vec<u8>>>
+fn better(first: Needles, rest: Needles) -> Needles
     ensures { option_map (λ v. needles_in v.items) result
         ≡ better (option_map (λ v. needles_in v.items) first)
         (option_map (λ v. needles_in v.items) rest) }
@@ -247,9 +281,23 @@ fn shortest(needles: &[Vec<u8>]) -> usize
     least
 }
 
-/// Returns the needles of both, or None if there are too many.
+/// Joins the needles of a member to those of the others: None if either are None, or there are too
+/// many.
 #[inline(never)]
-fn joined(first: Vec<Vec<u8>>, rest: Vec<Vec<u8>>) -> Result<Option<Vec<Vec<u8>>>, AllocError>
+fn join(first: &mut Needles, others: &mut Needles) -> Result<(), AllocError>
+    ensures { OnOk result (option_map (λ v. needles_in v.items) others.new
+        ≡ joined (option_map (λ v. needles_in v.items) first.old)
+        (option_map (λ v. needles_in v.items) others.old)) }
+{
+    let (Some(ours), Some(theirs)) = (first.take(), others.take()) else {
+        return Ok(());
+    };
+    *others = joined(ours, theirs)?;
+    Ok(())
+}
+
+/// Returns the needles of both, or None if there are too many.
+fn joined(first: Vec<Vec<u8>>, rest: Vec<Vec<u8>>) -> Result<Needles, AllocError>
     ensures { IfOk result (λ found. option_map (λ v. needles_in v.items) found
         ≡ joined (Some (needles_in first.items)) (Some (needles_in rest.items))) }
 {
