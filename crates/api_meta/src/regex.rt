@@ -21,7 +21,7 @@ use crate::seeker::{GroupSeeker, Seeker, Standing};
 use rc_captures::captures;
 use rc_captures::captures::Captures;
 use rc_captures::groups::GroupInfo;
-use rc_pattern::check::group_count;
+use rc_pattern::check::{group_count, properties_of};
 use rc_pattern::hir::Hir;
 use rc_settings::error::BuildError;
 use rc_settings::meta::Config;
@@ -294,7 +294,7 @@ impl Regex {
         ensures { IsTrue result ↔ ArePlain (regex_patterns self.now) }
     {
         for hir in &self.hirs {
-            if !hir.properties().is_plain() {
+            if !properties_of(hir).is_plain() {
                 return false;
             }
         }
@@ -672,9 +672,9 @@ fn static_groups(hirs: &[Hir]) -> Option<usize>
     if hirs.is_empty() {
         return None;
     }
-    let mut groups = hirs[0].properties().static_explicit_captures_len();
+    let mut groups = properties_of(&hirs[0]).static_explicit_captures_len();
     for hir in &hirs[1..] {
-        groups = common(groups, hir.properties().static_explicit_captures_len());
+        groups = common(groups, properties_of(hir).static_explicit_captures_len());
     }
     groups
 }

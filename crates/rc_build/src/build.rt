@@ -17,7 +17,7 @@ ghost use Rattle.rc_build.specs.Refusals.{IsBuildable, IsRefusal};
 use crate::compile::compile_all;
 use rc_captures::groups::GroupInfo;
 use rc_needles::prefilter::Prefilter;
-use rc_pattern::check::copies_of;
+use rc_pattern::check::{copies_of, properties_of};
 use rc_pattern::hir::Hir;
 use rc_pikevm_search::choice::choose;
 use rc_pikevm_search::engine::Engine;
@@ -141,7 +141,7 @@ fn may_be_empty(hirs: &[Hir]) -> bool
     ensures { result ≡ may_be_empty (map meaning hirs.now) }
 {
     for hir in hirs {
-        if hir.properties().minimum_len() == Some(0) {
+        if properties_of(hir).minimum_len() == Some(0) {
             return true;
         }
     }

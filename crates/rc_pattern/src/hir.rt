@@ -11,8 +11,9 @@ mod dots;
 mod lengths;
 mod look_set;
 mod members;
-mod properties;
+pub(crate) mod properties;
 
+use crate::check::{is_shallow, properties_of};
 use crate::drops::drop_all;
 pub use dots::Dot;
 pub use look_set::{LookSet, LookSetIter};
@@ -86,8 +87,8 @@ pub enum Class {
 /// A pattern.
 ///
 /// It may be nested without bound, and a build refuses one of more than 1,024 levels. It is dropped
-/// in a loop, which takes no memory and as much stack for each pattern. Only `properties` recurses
-/// once for each level.
+/// in a loop, which takes no memory and as much stack for each pattern. No other call recurses past
+/// 1,024 levels.
 #[cycle(hir)]
 pub struct Hir {
     kind: HirKind,
@@ -142,7 +143,9 @@ pub struct Capture {
 }
 
 impl Hir {
-    ghost use Rattle.rc_pattern.specs.PropertiesOf.{IsPropertiesOf};
+    ghost use Rattle.std.specs.Prelude.{◌<◌, ◌≤◌};
+    ghost use Rattle.rc_pattern.specs.PropertiesOf.{IsPropertiesOf, TellNothing};
+    ghost use Rattle.rc_pattern.specs.WellFormed.{depth};
 
     /// Returns the pattern that matches only the empty text.
     pub fn empty() -> Hir
@@ -277,13 +280,18 @@ impl Hir {
     }
 
     /// Returns what is known of the pattern. It is computed at each call, in time linear in the
-    /// size of the pattern. It recurses once for each level, which takes at most some 150 bytes of
-    /// stack. So a stack of 256 KiB is enough for a pattern that a build takes, of at most 1,024
-    /// levels.
+    /// size of the pattern. Nothing is known of a pattern of more than 1,024 levels, which no build
+    /// takes: it may have any length, groups and assertions. So a stack of 256 KiB is enough for
+    /// each pattern.
     pub fn properties(&self) -> Properties
-        ensures { IsPropertiesOf (meaning self.now) result }
+        ensures exact { depth (meaning self.now) ≤ 1024
+            → IsPropertiesOf (meaning self.now) result }
+        ensures unknown { 1024 < depth (meaning self.now) → TellNothing result }
     {
-        properties::properties_of(self)
+        if !is_shallow(self) {
+            return Properties::of_any();
+        }
+        properties_of(self)
     }
 
     /// The root node of the pattern.

@@ -2,6 +2,7 @@
 ghost use Rattle.std.specs.Prelude.{◌≡◌, max};
 ghost use Rattle.rc_pattern.specs.Properties.{both};
 
+use rc_pattern::check::properties_of;
 use rc_pattern::hir::{Hir, Look};
 use rc_text::cursor::Cursor;
 use rc_text::input::{Input, byte_at, high, low};
@@ -41,7 +42,7 @@ impl Lengths {
     fn of_one(hir: &Hir) -> Lengths
         ensures { Bounds result (meaning hir.now) }
     {
-        let properties = hir.properties();
+        let properties = properties_of(hir);
         Lengths {
             least: properties.minimum_len().unwrap_or(usize::MAX),
             greatest: properties.maximum_len(),

@@ -8,7 +8,7 @@ use regex_cursor::Input;
 use regex_cursor::engines::meta::BuildError;
 use regex_cursor::engines::pikevm::PikeVM;
 use regex_cursor::engines::{dfa, hybrid, meta, pikevm};
-use regex_cursor::hir::{Capture, Dot, Hir, Look, Repetition};
+use regex_cursor::hir::{Capture, Dot, Hir, Look, Properties, Repetition};
 use regex_cursor::types::{Match, PatternID};
 use std::alloc::{AllocError, Global};
 use std::slice::from_ref;
@@ -269,6 +269,15 @@ fn deeper(alloc: Global, tree: Hir, level: u32) -> Result<Hir, AllocError> {
     }
 }
 
+/// Whether these properties say nothing of a pattern.
+fn say_nothing(known: &Properties) -> bool {
+    known.minimum_len() == Some(0)
+        && known.maximum_len().is_none()
+        && known.explicit_captures_len() == usize::MAX
+        && known.static_explicit_captures_len().is_none()
+        && !known.is_plain()
+}
+
 #[test]
 fn a_tree_of_any_depth_is_refused_and_dropped(rt: HostRuntime) -> Result<(), Fail> {
     let alloc = rt.alloc();
@@ -276,6 +285,7 @@ fn a_tree_of_any_depth_is_refused_and_dropped(rt: HostRuntime) -> Result<(), Fai
     for level in 0..1_000_000 {
         tree = deeper(alloc, tree, level)?;
     }
+    assert!(rt; say_nothing(&tree.properties()));
     let refused: Result<usize, BuildError> = Err(BuildError::IllFormed {
         pattern: PatternID::ZERO,
     });

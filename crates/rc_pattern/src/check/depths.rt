@@ -25,6 +25,13 @@ pub fn depth_within(hir: &Hir, most: u32) -> bool
     }
 }
 
+/// Whether the pattern is at most 1,024 levels deep, as a well-formed one is.
+pub(crate) fn is_shallow(hir: &Hir) -> bool
+    ensures { IsTrue result ↔ (depth (meaning hir.now) ≤ 1024) }
+{
+    depth_within(hir, 1024)
+}
+
 /// Whether no path from the root of a member to a leaf has more than `most` nodes.
 #[cycle(depth)]
 #[tactic(auto, using(crate::proofs::WellFormedLemmas::member_depth))]

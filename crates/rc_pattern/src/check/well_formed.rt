@@ -8,7 +8,7 @@ ghost use Rattle.rc_pattern.specs.Groups.{number_of};
 
 use super::bounds::has_bounds;
 use super::captures::push_captures;
-use super::depths::depth_within;
+use super::depths::is_shallow;
 use super::names::are_distinct;
 use crate::hir::{Capture, Hir};
 use std::alloc::{AllocError, Global};
@@ -34,7 +34,7 @@ fn are_numbered(captures: &[&Capture]) -> bool
 pub fn is_well_formed(alloc: Global, hir: &Hir) -> Result<bool, AllocError>
     ensures { IfOk result (λ b. IsTrue b ↔ IsWellFormed (meaning hir.now)) }
 {
-    if !depth_within(hir, 1024) {
+    if !is_shallow(hir) {
         return Ok(false);
     }
     if !has_bounds(hir) {

@@ -11,8 +11,8 @@ ghost use Rattle.rc_pattern.specs.PropertiesOf.{IsPropertiesOf};
 use super::Properties;
 use crate::hir::{Class, Hir, HirKind, Look};
 
-/// Returns the properties of the pattern.
-pub(in crate::hir) fn properties_of(hir: &Hir) -> Properties
+/// Returns the properties of the pattern, however deep it is nested. It recurses as deep.
+pub fn properties_of(hir: &Hir) -> Properties
     ensures { IsPropertiesOf (meaning hir.now) result }
 {
     let mut all = Properties::of_empty();

@@ -3,7 +3,7 @@
 ghost use Rattle.std.specs.Prelude.{◌≡◌, Bool, List, Option, ℕ};
 ghost use Rattle.rc_pattern.specs.Re as re;
 ghost use Rattle.rc_pattern.specs.Meaning.{class_meaning};
-ghost use Rattle.rc_pattern.specs.PropertiesOf.{IsPropertiesOf};
+ghost use Rattle.rc_pattern.specs.PropertiesOf.{IsPropertiesOf, TellNothing};
 
 use super::Properties;
 use crate::hir::{Class, Look, LookSet, lengths};
@@ -21,6 +21,22 @@ impl Properties {
             look_prefix: LookSet::empty(),
             look_suffix: LookSet::empty(),
             is_plain: true,
+        }
+    }
+
+    /// What is known of no matter which pattern.
+    pub(in crate::hir) fn of_any() -> Properties
+        ensures { TellNothing result }
+    {
+        Properties {
+            minimum_len: Some(0),
+            maximum_len: None,
+            explicit_captures_len: usize::MAX,
+            static_explicit_captures_len: None,
+            look_set: LookSet::full(),
+            look_prefix: LookSet::empty(),
+            look_suffix: LookSet::empty(),
+            is_plain: false,
         }
     }
 

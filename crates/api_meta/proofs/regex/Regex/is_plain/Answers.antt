@@ -33,7 +33,7 @@ each hirs i h l e all =
 
 pub returns-then-not-is_plain : goal.returns-then-not-is_plain
 returns-then-not-is_plain c =
-    let known = c.is_plain.ensures (meaning c.hir-item.result) c.properties.ensures in (
+    let known = c.is_plain.ensures.exact (meaning c.hir-item.result) c.properties_of.ensures in (
       λ e. absurd (true≢false (sym e)),
       λ all.
           sym c.if-not-is_plain.true ∙ known ∙ each c.deref-hir-items.result.now c.loop-hir.hir-index c.hir-item.result c.loop-hir-test.true c.hir-item.is
@@ -43,7 +43,7 @@ returns-then-not-is_plain c =
 pub loop-hir-preserved : goal.loop-hir-preserved
 loop-hir-preserved c =
     more c.deref-hir-items.result.now c.loop-hir.hir-index c.hir-item.result c.loop-hir-test.true c.hir-item.is
-    (sym (c.is_plain.ensures (meaning c.hir-item.result) c.properties.ensures) ∙ c.if-not-is_plain.false) c.loop-hir.invariant
+    (sym (c.is_plain.ensures.exact (meaning c.hir-item.result) c.properties_of.ensures) ∙ c.if-not-is_plain.false) c.loop-hir.invariant
 
 pub returns : goal.returns
 returns c = (
