@@ -29,7 +29,8 @@ extern "C" {
 #endif
 
 /* Statuses. After any but ZF_DONE and ZF_FOUND nothing was written but what the call says: what was lent to it is as it was. ZF_EMPTY is
- * returned exactly if the handle is empty. A full handle stays full, whatever the status is, but for zf_compile and zf_free. */
+ * returned exactly if the handle is empty. A full handle stays full, whatever the status is, but for zf_compile and zf_free. Each other status
+ * is returned exactly if it applies; if two do, the call says which, and ZF_OUTSIDE comes before ZF_TOO_LONG. */
 enum {
     ZF_DONE = 0,      /* It is done. Of a search: there is no match. */
     ZF_FOUND = 1,     /* There is a match. */

@@ -1,5 +1,5 @@
 -- What a searcher is made of, and what it answers.
-use Rattle.std.specs.Prelude.{◌≡◌, ℕ, ◌<◌, List, length, Option, Some, None}
+use Rattle.std.specs.Prelude.{◌≡◌, ℕ, ◌<◌, ◌≤◌, List, length, Option, Some, None, IsSome}
 use Rattle.std.specs.Borrow.{Bor}
 use Rattle.rc_text.specs.Limits.{most_patterns}
 use Rattle.rc_text.specs.Found.{Found}
@@ -7,11 +7,12 @@ use Rattle.rc_text.specs.declared.types.MatchKind.{MatchKind}
 use Rattle.rc_program.specs.Answer.{Search}
 use Rattle.rc_program.specs.Kinds.{answer_by, matches_by_kind}
 use Rattle.rc_program.specs.Sought.{search_for}
+use Rattle.rc_build.specs.Refusals.{IsBuildable}
 use Rattle.rc_build.specs.TextRefusals.{AllRead, IsTextRefusal, texts_of}
 use Rattle.api_meta.specs.Views.{regex_kind, regex_patterns, regex_settings, sought}
 use Rattle.api_meta.specs.declared.regex.Regex.{Regex}
 use Rattle.searcher.specs.Flags.{kind_of, search_settings, syntax_settings}
-use Rattle.searcher.specs.Ranges.{IsBroken, in_range}
+use Rattle.searcher.specs.Ranges.{AreTexts, IsBroken, in_range}
 use Rattle.searcher.specs.Searching.{Searching}
 use Rattle.searcher.specs.declared.answers.Refusal.{Refusal}
 use Rattle.searcher.specs.declared.answers.Refusal.TheVariants.{Build, Memory, NoKind, NotUtf8, TooMany}
@@ -35,19 +36,32 @@ pub record IsSame (s t : Searching) : Type 0 where
   pub from : t.from ≡ s.from
   pub last : t.last ≡ s.last
 
--- The searcher is of the patterns as which these texts are read, under these settings, and its iteration begins where the text does.
+-- The searcher is of the patterns as which these texts are read, under these settings, and its iteration begins where the text does. No
+-- refusal but out of memory applies.
 pub record IsBuilt (settings : Settings) (patterns : List (Bor (List ℕ))) (s : Searching) : Type 0 where
   pub kind : MatchKind
   pub kinded : kind_of settings.kind ≡ Some kind
+  pub few : length patterns ≤ most_patterns
+  pub texts : AreTexts patterns
   pub read : AllRead (syntax_settings settings) (texts_of patterns) (regex_patterns s.regex)
+  pub buildable : IsBuildable (Some 10485760) (regex_patterns s.regex)
   pub set : regex_settings s.regex ≡ search_settings settings kind
   pub from : s.from ≡ 0
   pub last : s.last ≡ None
 
--- The refusal applies to the texts. Want of memory may come at any time.
+-- some kind has the number
+abbrev pub HasKind : Settings → Type 0
+HasKind settings = IsSome (kind_of settings.kind)
+
+-- some kind has the number, and there aren't too many texts
+abbrev pub IsCounted : Settings → List (Bor (List ℕ)) → Type 0
+IsCounted settings patterns = HasKind settings × (length patterns ≤ most_patterns)
+
+-- The refusal is the first one that applies to the settings and the texts. Out of memory may come at any time.
 abbrev pub IsRefused : Settings → List (Bor (List ℕ)) → Refusal → Type 0
 IsRefused settings patterns NoKind = kind_of settings.kind ≡ None
-IsRefused settings patterns TooMany = most_patterns < length patterns
-IsRefused settings patterns (NotUtf8 p) = IsBroken patterns p
-IsRefused settings patterns (Build e) = IsTextRefusal (Some 10485760) (syntax_settings settings) (texts_of patterns) e
+IsRefused settings patterns TooMany = HasKind settings × (most_patterns < length patterns)
+IsRefused settings patterns (NotUtf8 p) = IsCounted settings patterns × IsBroken patterns p
+IsRefused settings patterns (Build e) =
+    IsCounted settings patterns × AreTexts patterns × IsTextRefusal (Some 10485760) (syntax_settings settings) (texts_of patterns) e
 IsRefused settings patterns Memory = Unit {0}

@@ -1,5 +1,5 @@
 -- What is searched of a text, and what can't be.
-use Rattle.std.specs.Prelude.{ℕ, ◌<◌, List, false, IsUtf8, length, min}
+use Rattle.std.specs.Prelude.{ℕ, ◌+◌, ◌<◌, ◌≤◌, ◌^◌, List, false, IsUtf8, length, min}
 use Rattle.std.specs.Borrow.{Bor}
 use Rattle.rc_text.specs.Joined.{IsTooLong, chunk_at, joined}
 use Rattle.rc_text.specs.Text.{Searched}
@@ -22,10 +22,23 @@ in_range text start end = record {
   earliest = false;
 }
 
--- when a search gives no answer
+-- the range begins where the text has a place for it, and not behind its end
+abbrev pub IsInside : List (Bor (List ℕ)) → ℕ → ℕ → Type 0
+IsInside chunks start end = start ≤ min end (length (joined chunks))
+
+-- A search gives no answer: the range begins behind its end or the text's, or else the chunks are too long.
 abbrev pub IsFault : List (Bor (List ℕ)) → ℕ → ℕ → Fault → Type 0
-IsFault chunks start end TooLong = IsTooLong chunks
+IsFault chunks start end TooLong = IsTooLong chunks × IsInside chunks start end
 IsFault chunks start end Outside = min end (length (joined chunks)) < start
+
+-- neither of them applies
+pub record IsServed (chunks : List (Bor (List ℕ))) (start end : ℕ) : Type 0 where
+  pub fits : length (joined chunks) + 1 < 2 ^ 64
+  pub inside : IsInside chunks start end
+
+-- each text is UTF-8
+abbrev pub AreTexts : List (Bor (List ℕ)) → Type 0
+AreTexts texts = (k : ℕ) → k < length texts → IsUtf8 (chunk_at texts k)
 
 -- the text with this number isn't UTF-8, and those before it are
 pub record IsBroken (texts : List (Bor (List ℕ))) (p : ℕ) : Type 0 where

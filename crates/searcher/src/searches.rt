@@ -1,12 +1,13 @@
 //! Searcher: a regex with its cache, the groups of a match, and the state of an iteration.
-ghost use Rattle.std.specs.Prelude.{◌≡◌, ◌≤◌, IfErr, IfOk, None, length};
+ghost use Rattle.std.specs.Prelude.{◌≡◌, ◌≤◌, IfErr, IfOk, None, OnOk, Some, length};
 ghost use Rattle.rc_text.specs.Limits.{most_patterns};
+ghost use Rattle.rc_build.specs.Refusals.{IsBuildable};
 ghost use Rattle.rc_build.specs.TextRefusals.{AllRead, IsTextRefusal, texts_of};
 ghost use Rattle.api_meta.specs.Views.{regex_patterns, regex_settings};
 ghost use Rattle.rc_text.specs.Joined.{joined};
 ghost use Rattle.searcher.specs.Flags.{search_settings, syntax_settings};
 ghost use Rattle.rc_text.specs.Text.{Keeps};
-ghost use Rattle.searcher.specs.Ranges.{IsFault, IsNotText, in_range};
+ghost use Rattle.searcher.specs.Ranges.{AreTexts, IsFault, IsNotText, IsServed, in_range};
 
 use crate::answers::{Fault, MatchAt, Refusal, write_marks};
 use crate::batch;
@@ -18,7 +19,7 @@ use rc_captures::captures::Captures;
 use rc_pattern_set::sets::PatternSet;
 use rc_settings::error::BuildError;
 use rc_text::chunks::{AtError, ChunkCursor};
-use rc_text::input::Input;
+use rc_text::input::{Input, content_fits};
 use rc_text::types::{Match, MatchKind, Span};
 use std::alloc::{AllocError, Global};
 use std::marker::Model;
@@ -77,7 +78,7 @@ impl Searcher {
     ghost use Rattle.rc_text.specs.Joined.{joined};
     ghost use Rattle.searcher.specs.Answers.{IsBuilt, IsRefused, IsSame, answer_in, left_in, search_in};
     ghost use Rattle.searcher.specs.Places.{AreMarks, IsFilled};
-    ghost use Rattle.searcher.specs.Ranges.{IsFault};
+    ghost use Rattle.searcher.specs.Ranges.{IsFault, IsServed};
 
     /// Returns a searcher for the patterns with these texts, each in UTF-8. Its iteration is before
     /// the first byte of the text.
@@ -138,6 +139,7 @@ impl Searcher {
     pub fn is_match(&mut self, chunks: &[&[u8]], start: usize, end: usize) -> Result<bool, Fault>
         ensures found { IfOk result (λ b. b
             ≡ is_some (answer_in self.old.regex (joined chunks.now) start end)) }
+        ensures served { OnOk result (IsServed chunks.now start end) }
         ensures fault { IfErr result (IsFault chunks.now start end) }
         ensures kept { self.new ≡ self.old }
     {
@@ -155,6 +157,7 @@ impl Searcher {
     ) -> Result<Option<Match>, Fault>
         ensures found { IfOk result (λ m. m
             ≡ answer_in self.old.regex (joined chunks.now) start end) }
+        ensures served { OnOk result (IsServed chunks.now start end) }
         ensures fault { IfErr result (IsFault chunks.now start end) }
         ensures kept { self.new ≡ self.old }
     {
@@ -175,6 +178,7 @@ impl Searcher {
     ) -> Result<(), Fault>
         ensures marked { OnOk result (AreMarks (length (regex_patterns self.old.regex))
             (search_in self.old.regex (joined chunks.now) start end) marks.new) }
+        ensures served { OnOk result (IsServed chunks.now start end) }
         ensures fault { IfErr result (IsFault chunks.now start end) }
         ensures refused { OnErr result (marks.new ≡ marks.old) }
         ensures kept { self.new ≡ self.old }
@@ -199,6 +203,7 @@ impl Searcher {
             (search_in self.old.regex (joined chunks.now) start end) self.new.captures) }
         ensures found { IfOk result (λ m. m
             ≡ answer_in self.old.regex (joined chunks.now) start end) }
+        ensures served { OnOk result (IsServed chunks.now start end) }
         ensures fault { IfErr result (IsFault chunks.now start end) }
         ensures refused { OnErr result (self.new ≡ self.old) }
         ensures whole { OnOk result (KeepsAll (regex_names self.old.regex) self.new.captures) }
@@ -242,7 +247,9 @@ impl Searcher {
     ) -> Result<usize, Fault>
         ensures filled { IfOk result (IsFilled (left_in self.old (joined chunks.now) end)
             (left_in self.new (joined chunks.now) end) batch.new) }
+        ensures served { OnOk result (IsServed chunks.now self.old.from end) }
         ensures fault { IfErr result (IsFault chunks.now self.old.from end) }
+        ensures unfilled { OnErr result (batch.new ≡ batch.old) }
         ensures refused { OnErr result (self.new ≡ self.old) }
         ensures regex { self.new.regex ≡ self.old.regex }
         ensures captures { self.new.captures ≡ self.old.captures }
@@ -277,6 +284,7 @@ pub fn box_of(parts: Parts<Searcher, Global>) -> Box<Searcher>
 /// The texts of these bytes.
 fn texts_of<'p>(alloc: Global, patterns: &[&'p [u8]]) -> Result<Vec<&'p str>, Refusal>
     ensures same { IfOk result (λ v. texts_of v.items ≡ texts_of patterns.now) }
+    ensures texts { OnOk result (AreTexts patterns.now) }
     ensures refused { IfErr result (IsNotText patterns.now) }
 {
     let mut texts = Vec::new(alloc);
@@ -301,6 +309,7 @@ fn build(
     ensures read { IfOk result (λ r. AllRead (syntax_settings settings.now) (texts_of texts.now)
         (regex_patterns r)) }
     ensures set { IfOk result (λ r. regex_settings r ≡ search_settings settings.now kind) }
+    ensures buildable { IfOk result (λ r. IsBuildable (Some 10485760) (regex_patterns r)) }
     ensures refused { IfErr result (λ e. IsTextRefusal (Some 10485760)
         (syntax_settings settings.now) (texts_of texts.now) e) }
 {
@@ -350,6 +359,7 @@ fn input_over<'a>(
     end: usize,
 ) -> Result<Input<ChunkCursor<'a>>, Fault>
     ensures in_range { IfOk result (Keeps (in_range (joined chunks.now) start end)) }
+    ensures served { OnOk result (IsServed chunks.now start end) }
     ensures fault { IfErr result (IsFault chunks.now start end) }
 {
     if start > end {
@@ -359,6 +369,7 @@ fn input_over<'a>(
         Ok(cursor) => {
             let mut input = Input::new(cursor);
             input.set_span(Span { start, end });
+            content_fits(&input);
             Ok(input)
         }
         Err(AtError::TooLong) => Err(Fault::TooLong),

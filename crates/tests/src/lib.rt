@@ -6,6 +6,8 @@ mod builds;
 #[cfg(test)]
 mod chunks;
 #[cfg(test)]
+mod counts;
+#[cfg(test)]
 mod faults;
 #[cfg(test)]
 mod many;

@@ -58,10 +58,12 @@ const NO_TEMPLATE: &str = "error parsing template at byte 2\n";
 const NOT_READ: &str = "read failed\n";
 
 /// The words are read first, then the template, then the input, and then the pattern.
-const ROWS: [Row; 13] = [
+const ROWS: [Row; 15] = [
     (FIND, &["ab", "2"], true, 0, ""),
     (FIND, &["abcd", "1048576"], true, 1, ""),
     (FIND, &["*", "3"], true, 2, NO_PATTERN),
+    (FIND, &["(", "4"], true, 2, NO_PATTERN),
+    (FIND, &["a", "0"], false, 2, FIND_USAGE),
     (FIND, &["(", "+3"], false, 2, FIND_USAGE),
     (FIND, &["a", "1", "1"], false, 2, FIND_USAGE),
     (FIND, &["(", "1"], false, 2, NOT_READ),

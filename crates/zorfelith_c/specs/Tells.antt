@@ -1,25 +1,27 @@
 -- What a search's status tells: 0, there is no match, or a batch is filled; 1, there is one; 3, the chunks are too long; 4, the range is
--- outside of the text. No other comes where the handle is full.
-use Rattle.std.specs.Prelude.{◌≡◌, ℕ, zero, suc, ◌<◌, List, length, min, Option, Some, None, is_some, true, MatchOption}
+-- outside of the text. No other comes where the handle is full. Each comes exactly if that is so, and 4 if both 3 and 4 might.
+use Rattle.std.specs.Prelude.{◌≡◌, ℕ, zero, suc, List, length, Option, Some, None, is_some, true, MatchOption}
 use Rattle.std.specs.Borrow.{Bor}
-use Rattle.rc_text.specs.Joined.{IsTooLong, joined}
+use Rattle.rc_text.specs.Joined.{joined}
 use Rattle.rc_pikevm_search.specs.Tells.{KeepsAll, TellsBy}
 use Rattle.api_meta.specs.Views.{regex_kind, regex_names, regex_patterns}
 use Rattle.api_meta.specs.declared.regex.Regex.{Regex}
 use Rattle.searcher.specs.Answers.{IsSame, answer_in, left_in, search_in}
 use Rattle.searcher.specs.Places.{AreGroups, AreMarks, IsFilled, found_at}
+use Rattle.searcher.specs.Ranges.{IsFault, IsServed}
 use Rattle.searcher.specs.Searching.{Searching}
+use Rattle.searcher.specs.declared.answers.Fault.TheVariants.{Outside, TooLong}
 use Rattle.searcher.specs.declared.answers.GroupAt.{GroupAt}
 use Rattle.searcher.specs.declared.answers.MatchAt.{MatchAt}
 use Rattle.zorfelith_c.specs.declared.search.Progress.{Progress}
 
 -- what a status means where it is of a search from `start` to `end`: `none` of 0, and `some` of 1
 abbrev pub TellsOf : Type 0 → Type 0 → List (Bor (List ℕ)) → ℕ → ℕ → ℕ → Type 0
-TellsOf none some chunks start end zero = none
-TellsOf none some chunks start end (suc zero) = some
+TellsOf none some chunks start end zero = IsServed chunks start end × none
+TellsOf none some chunks start end (suc zero) = IsServed chunks start end × some
 TellsOf none some chunks start end (suc (suc zero)) = ⊥
-TellsOf none some chunks start end (suc (suc (suc zero))) = IsTooLong chunks
-TellsOf none some chunks start end (suc (suc (suc (suc zero)))) = min end (length (joined chunks)) < start
+TellsOf none some chunks start end (suc (suc (suc zero))) = IsFault chunks start end TooLong
+TellsOf none some chunks start end (suc (suc (suc (suc zero)))) = IsFault chunks start end Outside
 TellsOf none some chunks start end (suc (suc (suc (suc (suc n))))) = ⊥
 
 -- whether there is a match in the text
@@ -59,9 +61,9 @@ pub record IsBatch (s : Searching) (text : List ℕ) (end : ℕ) (batch : List M
 
 -- what a call for a batch tells, and what it leaves in the handle: after a fault what was there
 abbrev pub TellsBatch : Searching → List (Bor (List ℕ)) → ℕ → ℕ → List MatchAt → Progress → Option Searching → Type 0
-TellsBatch s chunks end zero batch p t = MatchOption t ⊥ (IsBatch s (joined chunks) end batch p)
+TellsBatch s chunks end zero batch p t = IsServed chunks s.from end × MatchOption t ⊥ (IsBatch s (joined chunks) end batch p)
 TellsBatch s chunks end (suc zero) batch p t = ⊥
 TellsBatch s chunks end (suc (suc zero)) batch p t = ⊥
-TellsBatch s chunks end (suc (suc (suc zero))) batch p t = IsTooLong chunks × (t ≡ Some s)
-TellsBatch s chunks end (suc (suc (suc (suc zero)))) batch p t = (min end (length (joined chunks)) < s.from) × (t ≡ Some s)
+TellsBatch s chunks end (suc (suc (suc zero))) batch p t = IsFault chunks s.from end TooLong × (t ≡ Some s)
+TellsBatch s chunks end (suc (suc (suc (suc zero)))) batch p t = IsFault chunks s.from end Outside × (t ≡ Some s)
 TellsBatch s chunks end (suc (suc (suc (suc (suc n))))) batch p t = ⊥

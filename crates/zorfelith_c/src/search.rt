@@ -188,6 +188,7 @@ pub extern "C" fn zf_next(
         ((result ≡ empty) × (handle.new.held.value ≡ None))
         (λ s. TellsBatch s chunks.now end result batch.new progress.new handle.new.held.value) }
     ensures unwritten { result ≢ done → progress.new ≡ progress.old }
+    ensures unfilled { result ≢ done → batch.new ≡ batch.old }
 {
     if !handle.is_full() {
         return EMPTY;

@@ -1,4 +1,5 @@
 use Rattle.std.proofs.Common.{◌≡◌, ◌∙◌, IfErr, IfOk, ap, rules, subst}
+use Rattle.rc_build.specs.Refusals.{IsBuildable}
 use Rattle.rc_build.specs.TextRefusals.{AllRead, IsTextRefusal, texts_of}
 use Rattle.rc_settings.specs.Settings.{nfa_size_limit_of}
 use Rattle.api_meta.specs.Views.{builder_settings, builder_syntax, regex_patterns}
@@ -9,6 +10,11 @@ pub returns-clause-read : goal.returns-clause-read
 returns-clause-read c =
     subst (λ s. IfOk c.build_many.result (λ r. AllRead s (texts_of c.args.texts.now) (regex_patterns r)))
     (c.syntax-2.ensures.value ∙ c.syntax.ensures) c.build_many.ensures.read
+
+pub returns-clause-buildable : goal.returns-clause-buildable
+returns-clause-buildable c =
+    let set : builder_settings c.syntax-2.result.now ≡ search_settings c.args.settings.now c.args.kind = search rules in
+    subst (λ s. IfOk c.build_many.result (λ r. IsBuildable (nfa_size_limit_of s) (regex_patterns r))) set c.build_many.ensures.buildable
 
 pub returns-clause-refused : goal.returns-clause-refused
 returns-clause-refused c =
