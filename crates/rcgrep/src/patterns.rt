@@ -11,6 +11,7 @@ ghost use Rattle.rcgrep.specs.Local.{HasLineLooks, IsLocalPattern, IsLocalRegex}
 ghost use Rattle.rcgrep.specs.Picked.{line_settings};
 ghost use Rattle.rcgrep.specs.Unread.{IsUnread};
 
+use rc_pattern::check::properties_of;
 use regex_cursor::engines::meta::{BuildError, Regex};
 use regex_cursor::hir::{Hir, Look};
 use regex_cursor::syntax::{Config, Error, parse};
@@ -112,7 +113,7 @@ pub fn build(alloc: Global, hirs: &[Hir]) -> Result<Patterns, BuildError>
 fn has_line_looks(hir: &Hir) -> bool
     ensures { IsTrue result → HasLineLooks (meaning hir.now) }
 {
-    let looks = hir.properties().look_set();
+    let looks = properties_of(hir).look_set();
     !looks.contains(Look::Start)
         && !looks.contains(Look::End)
         && !looks.contains(Look::StartCRLF)
@@ -124,7 +125,7 @@ fn has_line_looks(hir: &Hir) -> bool
 fn is_local(hir: &Hir) -> bool
     ensures { IsTrue result → IsLocalPattern (meaning hir.now) }
 {
-    has_line_looks(hir) && hir.properties().minimum_len() != Some(0)
+    has_line_looks(hir) && properties_of(hir).minimum_len() != Some(0)
 }
 
 /// Whether `is_local` is true of each pattern.
@@ -142,7 +143,7 @@ fn are_local(hirs: &[Hir]) -> bool
 /// Whether a pattern contains an assertion on Unicode words.
 fn has_scalar_looks(hirs: &[Hir]) -> bool {
     for hir in hirs {
-        let looks = hir.properties().look_set();
+        let looks = properties_of(hir).look_set();
         if looks.contains(Look::WordUnicode)
             || looks.contains(Look::WordUnicodeNegate)
             || looks.contains(Look::WordStartUnicode)

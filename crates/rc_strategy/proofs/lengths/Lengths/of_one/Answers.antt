@@ -7,6 +7,6 @@ use Rattle.rc_strategy.proofs.lengths.Lengths.of_one.Goals as goal
 pub returns : goal.returns
 returns c =
     let h = meaning c.args.hir.now in
-    let p = c.properties_of.ensures in
+    let p = c.properties_of-properties.ensures in
     bounds_own h _ c.minimum_len.result (c.minimum_len.ensures.exact h p) c.unwrap_or.ensures (c.maximum_len.ensures.exact h p)
     (c.contains.ensures ∙ c.look_set_prefix.ensures.exact h p Start) (c.contains-2.ensures ∙ c.look_set_suffix.ensures.exact h p End)
