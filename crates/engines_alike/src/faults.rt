@@ -2,7 +2,7 @@
 
 use std::alloc::AllocError;
 
-/// Why a row is told of: a part of it that isn't read, want of memory, or an answer that isn't the one wanted.
+/// Why a row is told of: a part of it that isn't read, out of memory, or an answer that isn't the one wanted.
 #[derive(Clone, Copy, Debug)]
 pub enum Fault {
     /// A field has no name.

@@ -244,7 +244,7 @@ fn part_of(seek: Seek, is_early: bool) -> Part {
     }
 }
 
-/// An engine may end its searches by this error, which may also be want of memory.
+/// An engine may end its searches by this error, which may also be out of memory.
 fn may_end_by(asker: &mut Asker, kind: Kind, quits: Quits, error: &MatchError) -> bool {
     match error {
         MatchError::Quit { byte, offset } => match quits {

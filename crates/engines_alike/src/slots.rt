@@ -130,7 +130,7 @@ impl Asker {
         }
     }
 
-    /// No answer, for want of memory.
+    /// No answer: out of memory.
     fn refused(&mut self) -> Answer {
         self.verdict.note(Fault::Memory);
         self.plain(Told::IsMatch(false))
