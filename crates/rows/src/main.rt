@@ -3,9 +3,23 @@
 //! text.
 #![tactic(auto)]
 
-use engines_alike::faults::Fault;
-use engines_alike::judge::judge;
-use engines_alike::row::Row;
+mod calls;
+mod cursors;
+mod engines;
+mod faults;
+mod inputs;
+mod judge;
+mod parses;
+mod row;
+mod searches;
+mod settings;
+mod slots;
+mod tables;
+mod told;
+
+use crate::faults::Fault;
+use crate::judge::judge;
+use crate::row::Row;
 use std::alloc::Global;
 use std::io;
 
