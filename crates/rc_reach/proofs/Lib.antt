@@ -5,6 +5,8 @@ pub mod KnownLemmas
 pub mod LongestLemmas
 pub mod GreatestLemmas
 pub mod LawLemmas
+pub mod LengthLemmas
+pub mod BoundLemmas
 pub mod SliceLemmas
 pub mod EditLemmas
 pub mod LiveLemmas

@@ -73,7 +73,7 @@ forgotten s content gone k h far =
 
 pub partial_law : PartialLaw
 partial_law = record {
-  found = λ s m inside e known t goes. reach_law.settled s (length s.text.content) inside known t goes.0 goes.1 ∙ e;
+  found = λ s m inside e known t goes. reach_law.match leftmost_first s (length s.text.content) (reach_law.preferred s (length s.text.content) inside known) t goes.0 goes.1 ∙ e;
   passed = none_begins;
   goes_on = λ s t k free low none goes.
       answer_from_place t k (ap is_anchored goes.1.anchoring ∙ free) goes.0.lo (let e = goes.1.lo in omega (arith, e, low)) (none t goes) (answer t) refl;

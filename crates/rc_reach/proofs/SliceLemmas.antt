@@ -2,19 +2,17 @@
 use Rattle.std.proofs.Common.{◌≡◌, ℕ, ◌+◌, ◌-◌, ◌<◌, ◌≤◌, List, drop, length, take, sym, ap, ◌∙◌, arith, length-take, slice_range}
 use Rattle.std.specs.List.{slice_get}
 use Rattle.std.proofs.lemmas.List.{take_all}
-use Rattle.rc_text.specs.declared.types.MatchKind.{MatchKind}
 use Rattle.rc_text.specs.declared.types.MatchKind.TheVariants.{LeftmostFirst as leftmost_first, LeftmostLongest as leftmost_longest, All as all_matches}
 use Rattle.rc_program.specs.Text.{before_at, beyond}
-use Rattle.rc_program.specs.Answer.{Search, chosen, answer}
-use Rattle.rc_program.specs.Longest.{longest_chosen, longest}
+use Rattle.rc_program.specs.Answer.{Search, chosen}
+use Rattle.rc_program.specs.Longest.{longest_chosen}
 use Rattle.rc_program.specs.Greatest.{greatest}
-use Rattle.rc_program.specs.Kinds.{answer_by}
 use Rattle.rc_reach.specs.Settled.{AgreesBelow, IsInside}
 use Rattle.rc_reach.specs.Alike.{AreAlike}
 use Rattle.rc_reach.specs.Laws.{SliceLaw}
 use Rattle.rc_reach.proofs.AgreeLemmas.{range_is_rest, get_below, same_bound, before_same}
-use Rattle.rc_reach.proofs.AlikeLemmas.{same_chosen, same_answer}
-use Rattle.rc_reach.proofs.LongestLemmas.{same_longest_chosen, same_longest}
+use Rattle.rc_reach.proofs.AlikeLemmas.{same_chosen}
+use Rattle.rc_reach.proofs.LongestLemmas.{same_longest_chosen}
 use Rattle.rc_reach.proofs.GreatestLemmas.{same_greatest}
 use Rattle.rc_reach.proofs.KnownLemmas.{all_known, longest_known, whole_known}
 use Rattle.rc_reach.proofs.LawLemmas.{all_stay, matches_stay}
@@ -82,17 +80,10 @@ module _ (s t : Search) (in1 : IsInside s) (in2 : IsInside t) (agrees : AgreesBe
   same_furthest =
       same_longest_chosen s t 0 0 far (alike_wholly far) (omega arith) (longest_known s far (omega arith)) ∙ all_stay (longest_chosen s)
 
-  settled_by : (kind : MatchKind) → answer_by kind t ≡ answer_by kind s
-  settled_by leftmost_first =
-      same_answer s t 0 0 far (alike_wholly far) (omega arith) (all_known s far (omega arith)) ∙ matches_stay (answer s)
-  settled_by leftmost_longest =
-      same_longest s t 0 0 far (alike_wholly far) (omega arith) (longest_known s far (omega arith)) ∙ matches_stay (longest s)
-  settled_by all_matches =
-      same_greatest s t 0 0 far (alike_wholly far) (omega arith) (whole_known s far (omega arith)) ∙ matches_stay (greatest s)
+  same_all : greatest t ≡ greatest s
+  same_all = same_greatest s t 0 0 far (alike_wholly far) (omega arith) (whole_known s far (omega arith)) ∙ matches_stay (greatest s)
 
 pub slice_law : SliceLaw
-slice_law = record {
-  settled = λ kind s in1 t in2 agrees. settled_by s t in1 in2 agrees kind;
-  same_walk = λ s t in1 in2 agrees. same_preferred s t in1 in2 agrees;
-  same_longest = λ s t in1 in2 agrees. same_furthest s t in1 in2 agrees;
-}
+slice_law leftmost_first s in1 = λ t in2 agrees. same_preferred s t in1 in2 agrees
+slice_law leftmost_longest s in1 = λ t in2 agrees. same_furthest s t in1 in2 agrees
+slice_law all_matches s in1 = λ t in2 agrees. same_all s t in1 in2 agrees

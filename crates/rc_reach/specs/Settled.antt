@@ -1,8 +1,10 @@
 -- Settled answers: which bytes an answer depends on.
 use Rattle.std.specs.Prelude.{◌≡◌, ℕ, ◌≤◌, length, take}
 use Rattle.rc_text.specs.declared.types.MatchKind.{MatchKind}
-use Rattle.rc_program.specs.Answer.{Search}
+use Rattle.rc_text.specs.declared.types.MatchKind.TheVariants.{LeftmostFirst as leftmost_first, LeftmostLongest as leftmost_longest, All as all_matches}
+use Rattle.rc_program.specs.Answer.{Search, chosen}
 use Rattle.rc_program.specs.Kinds.{answer_by}
+use Rattle.rc_program.specs.Longest.{longest_chosen}
 
 -- The bounds of the search are in the slice, and the slice ends in the content.
 pub record IsInside (s : Search) : Type 0 where
@@ -30,3 +32,11 @@ pub record AgreesBelow (r : ℕ) (s t : Search) : Type 0 where
 abbrev pub IsSettled : MatchKind → ℕ → Search → Type 0
 IsSettled kind r s = (t : Search) → IsInside t → AgreesBelow r s t →
     answer_by kind t ≡ answer_by kind s
+
+-- They settle its walk too, and so its groups. A greatest match has none, so its span counts.
+abbrev pub IsWalkSettled : MatchKind → ℕ → Search → Type 0
+IsWalkSettled leftmost_first r s =
+    (t : Search) → IsInside t → AgreesBelow r s t → chosen t ≡ chosen s
+IsWalkSettled leftmost_longest r s =
+    (t : Search) → IsInside t → AgreesBelow r s t → longest_chosen t ≡ longest_chosen s
+IsWalkSettled all_matches r s = IsSettled all_matches r s

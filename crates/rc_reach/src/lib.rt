@@ -6,7 +6,7 @@
 #![tactic(auto)]
 
 ghost use Rattle.rc_reach.specs.Fixed.{FixedLaw};
-ghost use Rattle.rc_reach.specs.Laws.{ReachLaw, SliceLaw};
+ghost use Rattle.rc_reach.specs.Laws.{LengthLaw, ReachLaw, SliceLaw};
 ghost use Rattle.rc_reach.specs.Live.{LiveLaw, TakeUpLaw};
 ghost use Rattle.rc_reach.specs.Partial.{PartialLaw};
 
@@ -18,6 +18,12 @@ pub fn reaches_settle_answers()
 /// The slice of a search, its end, and the byte after it settle whatever the search finds.
 pub fn slices_settle_answers()
     ensures { SliceLaw }
+{}
+
+/// If no pattern is longer than n bytes, n + 4 bytes from its start settle a match, and whether an
+/// anchored search has one.
+pub fn lengths_settle_answers()
+    ensures { LengthLaw }
 {}
 
 /// The list of matches after some bytes of a content are replaced: the matches that the bytes
