@@ -1,0 +1,4 @@
+pub mod SetLemmas
+pub mod FoldLemmas
+pub mod OthersLemmas
+pub mod ScalarLemmas

@@ -1,0 +1,5 @@
+pub mod Sets
+pub mod Folding
+pub mod Perl
+pub mod Scalars
+pub mod Others
