@@ -130,6 +130,14 @@ module _ (s : Sight) (p : ℕ) where
         on_by : Leads v n → Some (n ∷ v) (next_of s n ++ ts)
         on_by a = some_left (n ∷ v) (next_of s n) ts (leads_on on a)
 
+    -- where no walk ends, the ways out lead to what the pair leads to
+    pub forks_same : (ts : List Pair) → ¬ IsIn n v → ends s n ≡ false → SomeLeads s v (n ∷ ts) p ↔ SomeLeads s v (next_of s n ++ ts) p
+    forks_same ts fresh on = (
+      λ h. ⊎_elim (λ x. some_left v (next_of s n) ts (fewer (next_of s n) (leads_on on x))) (λ y. some_right v (next_of s n) ts y) h,
+      λ h. ⊎_elim (λ x. inl (⊎_elim (λ y. some_back (next_of s n) (λ k i. i) fresh y) (λ y. y) (all_keep_off (next_of s n) x))) (λ y. inr y)
+          (some_parts v (next_of s n) ts h),
+    )
+
     -- of the ways out of n, that to a alone leads to a match of the pattern
     pub way_same : (a : Pair) (ts : List Pair) → ¬ IsIn n v → ends s n ≡ false → IsIn a (next_of s n) →
         (SomeLeads s (n ∷ v) (next_of s n) p → LeadsToPattern s (n ∷ v) a p) → SomeLeads s v (n ∷ ts) p ↔ SomeLeads s v (a ∷ ts) p

@@ -11,6 +11,7 @@ use Rattle.rc_program.specs.Answer.{only}
 use Rattle.rc_pikevm.specs.Sights.{Sight, ends, next_of}
 use Rattle.rc_pikevm.specs.Entered.{Goes, IsSkipped, IsEntered, IsVisited}
 use Rattle.rc_pikevm.specs.Alone.{IsDead}
+use Rattle.rc_pikevm.specs.Fronts.{LeadsOnlyTo}
 use Rattle.rc_pikevm.specs.Entrances.{AreWays, IsOnWay, IsShut, IsWayIn, stays_in, goes_in}
 use Rattle.rc_pikevm.specs.Marking.{LeadsToPattern, SomeLeads, Owed, going, explored}
 use Rattle.rc_pikevm.specs.Moves.{IsMove}
@@ -24,7 +25,7 @@ use Rattle.rc_pikevm.specs.declared.moves.Move.{Move}
 use Rattle.rc_pikevm.specs.declared.moves.Move.TheVariants.{Fork, Save, Matches, Stays, Reads, DeadEnd}
 use Rattle.rc_pikevm.proofs.EnteredLemmas.{has_pairs, pairs_has, pairs_at, pairs_push}
 use Rattle.rc_pikevm.proofs.EntranceLemmas.{choice_on, forks, ways_by}
-use Rattle.rc_pikevm.proofs.MarkLemmas.{enters_same, matches_same, skips_same, way_same, later_same, some_left, some_right, some_parts, AllLater}
+use Rattle.rc_pikevm.proofs.MarkLemmas.{enters_same, forks_same, matches_same, skips_same, way_same, later_same, some_left, some_right, some_parts, AllLater}
 use Rattle.rc_pikevm.proofs.MoveLemmas.{slot_on}
 use Rattle.rc_pikevm.proofs.VisitLemmas.{no_slots, same_threads, quiet, entered_end, end_there}
 
@@ -191,6 +192,28 @@ module _ (s : Sight) (p at : ℕ) (marks : List Bool) (rest : List Thread) (item
       Owed s at rest items ((q, at) ∷ ts) marks p ↔ Owed s at rest items ((a, at) ∷ ts) marks p
   owed_way_in stays_in = (λ x. x, λ x. x)
   owed_way_in {q} {a} (goes_in {q = r} way fresh step) = same_then (owed_way_in way) (owed_step r a fresh step)
+
+  -- both ways of a choice
+  pub owed_forks : (q a b : ℕ) → ¬ Has items q → place_at s.places q ≡ choice (a ∷ b ∷ []) →
+      Owed s at rest items ((q, at) ∷ ts) marks p ↔ Owed s at rest items ((a, at) ∷ (b, at) ∷ ts) marks p
+  owed_forks q a b fresh is =
+      subst (λ ns. Owed s at rest items ((q, at) ∷ ts) marks p ↔ Owed s at rest items (ns ++ ts) marks p) (ways_by s at q (choice (a ∷ b ∷ [])) is)
+      (middle (forks_same s p (q, at) (pairs at items) ts (λ i. fresh (pairs_has at q items i))
+      (ap (is_match_place (only s.anchoring)) is ∙ choice_on (only s.anchoring) (a ∷ b ∷ []))))
+
+  -- a way that leads to a pattern that is marked, or to none
+  pub owed_idle : (a number : ℕ) → IsMember marks number ⊎ IsShut s (a, at) → LeadsOnlyTo s.places a number →
+      Owed s at rest items ((a, at) ∷ ts) marks p ↔ Owed s at rest items ts marks p
+  owed_idle a number idle own = (
+    λ h. ⊎_elim (λ x. inl x) (λ y. inr (⊎_elim (λ z. ⊎_elim (λ l. inr (known l)) (λ r. inl r) z) (λ m. inr m) y)) h,
+    λ h. ⊎_elim (λ x. inl x) (λ y. inr (⊎_elim (λ z. inl (inr z)) (λ m. inr m) y)) h,
+  )
+    where
+      known : LeadsToPattern s (pairs at items) (a, at) p → IsMember marks p
+      known l =
+          ⊎_elim
+          (λ m. subst (IsMember marks) (sym (own s.text s.hi at p (ends s) (pairs at items) l.walk l.is_walk l.pattern)) m)
+          (λ shut. absurd (shut (pairs at items) l.walk l.is_walk)) idle
 
 module _ (s : Sight) (at q start : ℕ) (g0 g : Growth) (below : List Pair) (marks : List Bool) (p : ℕ) where
   abbrev Before : Type 0

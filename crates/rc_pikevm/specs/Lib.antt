@@ -18,6 +18,7 @@ pub mod Entered
 pub mod Entrances
 pub mod PatternSpans
 pub mod Marking
+pub mod Fronts
 pub mod Races
 pub mod Rules
 pub mod Alone

@@ -75,6 +75,15 @@ pub record IsMarked (s : Sight) (n hi start at root : ℕ) (threads0 : ThreadLis
   pub some : 0 < length entered.items
   pub frames_in : AllInside n 0 frames
 
+-- Walks set out at a position: those through the patterns in front of the place `front` have.
+pub record IsSettingOut (s : Sight) (n hi at front : ℕ) (threads0 : ThreadList) (entered0 : Members) (set0 : List Bool)
+    (threads : ThreadList) (entered : Members) (set : List Bool) : Type 0 where
+  pub same : (below : List Pair) → AreSame (length set0) (Owed s at threads0.items entered0.items ((0, at) ∷ below) set0)
+      (Owed s at threads.items entered.items ((front, at) ∷ below) set)
+  pub long : length set ≡ length set0
+  pub more : KeepsMarks set0 set
+  pub grown : IsGrown n hi at at threads0 entered0 threads entered
+
 -- The threads of a position have gone on so far: `left` are those still to go on.
 pub record IsMarkingOn (s : Sight) (n hi at : ℕ) (all left : List Thread) (threads0 : ThreadList) (set0 : List Bool)
     (threads : ThreadList) (entered : Members) (set : List Bool) : Type 0 where

@@ -1,27 +1,30 @@
 //! Overlapping search: which patterns have a match, by one pass of the Pike VM. A match drops no
 //! thread, and marks its pattern in a set.
-ghost use Rattle.std.specs.Prelude.{◌≡◌, ◌↔◌, ℕ, ◌+◌, ◌-◌, ◌*◌, ◌<◌, ◌≤◌, ◌⊎◌, ◌^◌, ⊤, false, IsTrue, List, MatchOption, [], ◌∷◌, ◌++◌, length, map, min, reverse, slice_set, true, vec_len};
+ghost use Rattle.std.specs.Prelude.{◌≡◌, ◌↔◌, ℕ, ◌+◌, ◌-◌, ◌*◌, ◌<◌, ◌≤◌, ◌⊎◌, ◌^◌, ⊤, false, IfSome, IsTrue, List, MatchOption, [], ◌∷◌, ◌++◌, length, map, min, reverse, slice_set, true, vec_len};
 ghost use Rattle.rc_text.specs.Text.{Searched, Keeps, low, high};
 ghost use Rattle.rc_text.specs.Limits.{greatest_pattern};
 ghost use Rattle.rc_pattern_set.specs.Sets.{Has};
 ghost use Rattle.rc_needles.specs.Guards.{Guards};
 ghost use Rattle.rc_needles.specs.Prefilters.{needles_of};
 ghost use Rattle.rc_walks.specs.Walks.{Pair};
-ghost use Rattle.rc_program.specs.Program.{accept, is_match_place};
+ghost use Rattle.rc_program.specs.Program.{accept, choice, is_match_place, place_at};
 ghost use Rattle.rc_program.specs.Places.{places_of};
 ghost use Rattle.rc_program.specs.Programs.{search_of};
 ghost use Rattle.rc_pikevm.specs.Caches.{IsCacheFor};
-ghost use Rattle.rc_pikevm.specs.Marking.{AreSame, Owed, SomeLeads, HasAll, HasNoneBefore, KeepsMarks, MarksFrom, MayBegin, entering, explored, going};
+ghost use Rattle.rc_pikevm.specs.Entrances.{IsShut};
+ghost use Rattle.rc_pikevm.specs.Fronts.{HasOwnWays};
+ghost use Rattle.rc_pikevm.specs.Marking.{AreSame, Owed, SomeLeads, HasAll, HasNoneBefore, IsSettingOut, KeepsMarks, MarksFrom, MayBegin, entering, explored, going};
 ghost use Rattle.rc_pikevm.specs.Moves.{IsSetting, seen, seen_by};
 ghost use Rattle.rc_pikevm.specs.Near.{IsHere, seen_from, size};
 ghost use Rattle.rc_pikevm.specs.Passing.{AllFrom, AllIn, AllInside, HasRoom, IsGrown, count_from};
 ghost use Rattle.rc_pikevm.specs.PatternSpans.{AddsSpelled, AreOfFirst};
 ghost use Rattle.rc_pikevm.specs.Scratches.{IsSame};
+ghost use Rattle.rc_pikevm.specs.Sparse.{Has as IsEntered};
 ghost use Rattle.rc_pikevm.specs.Underway.{IsInLine};
 
 use crate::cache::Cache;
 use crate::closure::enter;
-use crate::entrance::way_in;
+use crate::entrance::{is_shut, way_in};
 use crate::growth::{Frame, Growth};
 use crate::pass::{is_done, next_position};
 use crate::scratch::Scratch;
@@ -31,6 +34,7 @@ use crate::threads::Threads;
 use crate::window::{open, reach, spot_at};
 use rc_needles::prefilter::Prefilter;
 use rc_pattern_set::sets::PatternSet;
+use rc_program::place::Place;
 use rc_program::program::Program;
 use rc_text::cursor::Cursor;
 use rc_text::input::Input;
@@ -114,6 +118,100 @@ fn spread(spot: &Spot, root: usize, start: usize, set: &mut PatternSet, growth: 
     }
 }
 
+/// Returns the two ways of the choice at this place. Returns None if there is no such choice, or if
+/// it was entered at this position before.
+#[inline(always)]
+fn ways_at(spot: &Spot, place: usize, growth: &Growth) -> Option<(usize, usize)>
+    requires place_in { place < size spot.now.course }
+    requires capacity { growth.now.entered.capacity ≡ size spot.now.course }
+    ensures inside { IfSome result (λ ways. (ways.0 < size spot.now.course)
+        × (ways.1 < size spot.now.course)) }
+    ensures fresh { IfSome result (λ _. ¬ IsEntered growth.now.entered.items place) }
+    ensures choice { IfSome result (λ ways.
+        place_at (places_of spot.now.course.program.now.places.items) place
+        ≡ choice (ways.0 ∷ ways.1 ∷ [])) }
+{
+    if growth.entered.contains(place) {
+        return None;
+    }
+    match &spot.course.program.places[place] {
+        Place::Choice(first, second) => Some((*first, *second)),
+        _ => None,
+    }
+}
+
+/// Whether nothing is left to find on a way that leads to the pattern of this number alone: it is
+/// marked, or the next byte shuts the way.
+#[inline(always)]
+fn is_idle(spot: &Spot, way: usize, number: usize, set: &PatternSet) -> bool
+    ghost text: { Searched }
+    requires here { IsHere spot.now text }
+    requires place_in { way < size spot.now.course }
+    ensures { IsTrue result → Has set.now number
+        ⊎ IsShut (seen_from spot.now text) (way, spot.now.at) }
+{
+    match PatternID::new(number) {
+        Some(pattern) => set.contains(pattern) || is_shut(spot, way),
+        None => is_shut(spot, way),
+    }
+}
+
+/// Follows the ways that read nothing from the entries of the patterns below `end` that aren't
+/// marked. Returns the place at which all other walks enter.
+fn enter_each(spot: &Spot, end: usize, set: &mut PatternSet, growth: &mut Growth) -> usize
+    ghost text: { Searched }
+    requires here { IsHere spot.now text }
+    requires root { 0 < size spot.now.course }
+    requires own { HasOwnWays (places_of spot.now.course.program.now.places.items) }
+    requires sound { HasRoom (size spot.now.course) spot.now.course.hi spot.now.at
+        growth.old.threads growth.old.entered }
+    requires width { growth.old.threads.width ≡ 0 }
+    ensures inside { result < size spot.now.course }
+    ensures set_out { IsSettingOut (seen_from spot.now text) (size spot.now.course)
+        spot.now.course.hi spot.now.at result growth.old.threads growth.old.entered set.old
+        growth.new.threads growth.new.entered set.new }
+{
+    let mut place = 0;
+    if is_shut(spot, place) {
+        return place;
+    }
+    'patterns: for number in 0..end {
+        let Some((first, next)) = ways_at(spot, place, growth) else {
+            return place;
+        };
+        if !is_idle(spot, first, number, set) {
+            spread(spot, first, spot.at, set, growth);
+        }
+        place = next;
+    }
+    place
+}
+
+/// Sets out at the spot: follows all ways from place 0 that read nothing, and appends a thread for
+/// each place that reads. Ways to patterns below `end` that are marked are left out.
+fn set_out(spot: &Spot, end: usize, set: &mut PatternSet, growth: &mut Growth)
+    ghost text: { Searched }
+    requires here { IsHere spot.now text }
+    requires root { 0 < size spot.now.course }
+    requires own { HasOwnWays (places_of spot.now.course.program.now.places.items) }
+    requires sound { HasRoom (size spot.now.course) spot.now.course.hi spot.now.at
+        growth.old.threads growth.old.entered }
+    requires width { growth.old.threads.width ≡ 0 }
+    ensures same { (below : List Pair) → AreSame (length set.old)
+        (Owed (seen_from spot.now text) spot.now.at growth.old.threads.items
+        growth.old.entered.items ((0, spot.now.at) ∷ below) set.old)
+        (Owed (seen_from spot.now text) spot.now.at growth.new.threads.items
+        growth.new.entered.items below set.new) }
+    ensures long { length set.new ≡ length set.old }
+    ensures more { KeepsMarks set.old set.new }
+    ensures grown { IsGrown (size spot.now.course) spot.now.course.hi spot.now.at spot.now.at
+        growth.old.threads growth.old.entered
+        growth.new.threads growth.new.entered }
+{
+    let rest = enter_each(spot, end, set, growth);
+    spread(spot, rest, spot.at, set, growth);
+}
+
 /// Advances the threads of `curr` at the spot. Threads that wait for a later position are appended
 /// to `growth` as they are. The pattern of each walk that ends is marked.
 fn step(spot: &Spot, curr: &Threads, set: &mut PatternSet, growth: &mut Growth)
@@ -153,8 +251,16 @@ fn step(spot: &Spot, curr: &Threads, set: &mut PatternSet, growth: &mut Growth)
 }
 
 /// Advances the threads of `curr` at the spot. Then, if a walk may begin there, and the spot isn't
-/// past the last start, a new thread sets out. The pattern of each walk that ends is marked.
-fn advance(spot: &Spot, may_begin: bool, curr: &Threads, set: &mut PatternSet, growth: &mut Growth)
+/// past the last start, new threads set out for the patterns that aren't marked, as far as their
+/// numbers are below `end`, and for all others. The pattern of each walk that ends is marked.
+fn advance(
+    spot: &Spot,
+    may_begin: bool,
+    end: usize,
+    curr: &Threads,
+    set: &mut PatternSet,
+    growth: &mut Growth,
+)
     ghost text: { Searched }
     requires here { IsHere spot.now text }
     requires inside { AllIn (size spot.now.course) spot.now.at
@@ -165,6 +271,7 @@ fn advance(spot: &Spot, may_begin: bool, curr: &Threads, set: &mut PatternSet, g
     requires room { count_from (spot.now.at + 1) curr.now.items + size spot.now.course
         ≤ growth.old.threads.room }
     requires begins { MayBegin (seen_from spot.now text) spot.now.at may_begin }
+    requires own { HasOwnWays (places_of spot.now.course.program.now.places.items) }
     ensures same { AreSame (length set.old)
         (Owed (seen_from spot.now text) spot.now.at [] []
         (map going curr.now.items ++ entering spot.now.at spot.now.course.last) set.old)
@@ -188,19 +295,21 @@ fn advance(spot: &Spot, may_begin: bool, curr: &Threads, set: &mut PatternSet, g
         return;
     }
     if spot.at <= spot.course.last {
-        spread(spot, 0, spot.at, set, growth);
+        set_out(spot, end, set, growth);
     }
 }
 
 /// Handles one position of a pass: advances the threads, and counts the places entered.
-/// `may_begin` says whether a walk may begin there.
-fn turn(spot: &Spot, may_begin: bool, set: &mut PatternSet, scratch: &mut Scratch)
+/// `may_begin` says whether a walk may begin there. Of the patterns below `end`, none that is
+/// marked sets out.
+fn turn(spot: &Spot, may_begin: bool, end: usize, set: &mut PatternSet, scratch: &mut Scratch)
     ghost text: { Searched }
     requires here { IsHere spot.now text }
     requires made { scratch.old.next.entered.capacity ≡ size spot.now.course }
     requires lined { IsInLine spot.now.course 0 spot.now.at scratch.old }
     requires small { scratch.old.insertions + size spot.now.course < 2 ^ 128 }
     requires begins { MayBegin (seen_from spot.now text) spot.now.at may_begin }
+    requires own { HasOwnWays (places_of spot.now.course.program.now.places.items) }
     ensures same { AreSame (length set.old)
         (Owed (seen_from spot.now text) spot.now.at [] []
         (map going scratch.old.curr.items ++ entering spot.now.at spot.now.course.last) set.old)
@@ -214,7 +323,7 @@ fn turn(spot: &Spot, may_begin: bool, set: &mut PatternSet, scratch: &mut Scratc
     ensures few { scratch.new.insertions ≤ scratch.old.insertions + size spot.now.course }
 {
     scratch.next.clear();
-    advance(spot, may_begin, &scratch.curr, set, &mut scratch.next);
+    advance(spot, may_begin, end, &scratch.curr, set, &mut scratch.next);
     scratch.finish();
 }
 
@@ -319,6 +428,7 @@ fn pass<C: Cursor>(
     requires guarded { MatchOption prefilter ⊤
         (λ p. Guards (places_of course.program.now.places.items) course.program.now.terminator
         (needles_of p.now)) }
+    requires own { HasOwnWays (places_of course.program.now.places.items) }
     ensures keeps { Keeps input.old input.new }
     ensures marks { MarksFrom (seen_by course.entry text) from course.entry.last wanted.0 wanted.1
         set.old set.new }
@@ -344,6 +454,7 @@ fn pass<C: Cursor>(
         turn(
             &spot_at(course, &window, at),
             is_reached(at, start),
+            wanted.1,
             set,
             scratch,
         );
@@ -369,6 +480,7 @@ fn choose<C: Cursor>(
     requires guarded { MatchOption prefilter ⊤
         (λ p. Guards (places_of program.now.places.items) program.now.terminator
         (needles_of p.now)) }
+    requires own { HasOwnWays (places_of program.now.places.items) }
     ensures keeps { Keeps input.old input.new }
     ensures adds { AddsSpelled (seen program.now input.old) set.old set.new }
     ensures kept { IsSame scratch.old scratch.new }
@@ -411,6 +523,7 @@ pub fn which_patterns<C: Cursor>(
     requires guarded { MatchOption prefilter ⊤
         (λ p. Guards (places_of program.now.places.items) program.now.terminator
         (needles_of p.now)) }
+    requires own { HasOwnWays (places_of program.now.places.items) }
     ensures keeps { Keeps input.old input.new }
     ensures adds { AddsSpelled (search_of program.now input.old) set.old set.new }
     ensures cache { cache.new ≡ record cache.old { insertions = cache.new.insertions } }

@@ -12,5 +12,6 @@ pub mod PatternLemmas
 pub mod EarlyLemmas
 pub mod JumpLemmas
 pub mod FirstLemmas
+pub mod FrontLemmas
 pub mod HeldLemmas
 pub mod StartLemmas

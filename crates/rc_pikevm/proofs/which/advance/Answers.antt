@@ -11,9 +11,9 @@ returns-then-spot-clause-same g c p low =
     let s = seen_from c.args.spot.now g.text in
     same_then (c.step.ensures.same (entering at c.args.spot.now.course.last) p low)
     (subst (λ ns. Owed s at c.step.new.growth.threads.items c.step.new.growth.entered.items ns c.step.new.set p
-    ↔ Owed s at c.spread.new.growth.threads.items c.spread.new.growth.entered.items (entering (at + 1) c.args.spot.now.course.last) c.spread.new.set p)
+    ↔ Owed s at c.set_out.new.growth.threads.items c.set_out.new.growth.entered.items (entering (at + 1) c.args.spot.now.course.last) c.set_out.new.set p)
     (sym (entering_next at c.args.spot.now.course.last (omega (arith, c.if-spot.true))))
-    (c.spread.ensures.same (entering (at + 1) c.args.spot.now.course.last) p (low_in p c.args.set.now c.step.new.set c.step.ensures.long low)))
+    (c.set_out.ensures.same (entering (at + 1) c.args.spot.now.course.last) p (low_in p c.args.set.now c.step.new.set c.step.ensures.long low)))
 
 pub returns-else-spot-clause-same : goal.returns-else-spot-clause-same
 returns-else-spot-clause-same g c p low =
@@ -31,13 +31,13 @@ returns-then-not-may_begin-clause-same g c p low =
     let last : ℕ = c.args.spot.now.course.last in
     same_then (c.step.ensures.same (entering at last) p low)
     (sets_out_none (seen_from c.args.spot.now g.text) p at last c.step.new.growth.threads.items c.step.new.growth.entered.items c.step.new.set
-    (c.requires.1.1.1.1.1.1 c.if-not-may_begin.true))
+    (c.requires.1.1.1.1.1.1.0 c.if-not-may_begin.true))
 
 pub returns-then-not-may_begin-clause-begun : goal.returns-then-not-may_begin-clause-begun
 returns-then-not-may_begin-clause-begun g c x l h = c.step.ensures.begun x h
 
 pub returns-then-spot-clause-begun : goal.returns-then-spot-clause-begun
-returns-then-spot-clause-begun g c x l h = c.spread.ensures.grown.begun x l (c.step.ensures.begun x h)
+returns-then-spot-clause-begun g c x l h = c.set_out.ensures.grown.begun x l (c.step.ensures.begun x h)
 
 pub returns-else-spot-clause-begun : goal.returns-else-spot-clause-begun
 returns-else-spot-clause-begun g c x l h = c.step.ensures.begun x h

@@ -94,9 +94,12 @@ turn-requires g c =
             rw c.spot_at.ensures.course (counts_fit (size c.args.course) (c.skip_to-at.result - c.args.from) c.positions.scratch.insertions
                 (omega (arith, c.args.scratch.now.next.stack.small, c.args.scratch.now.next.fits.1, c.requires.1.1.1.1.0))
                 (omega (arith, c.args.course.small, c.if-at-course.false)) here.few),
-            rw (c.spot_at.ensures.course, c.spot_at.ensures.at)
-                (λ off. started g (goal.at.turn-requires g c).After-next_start-start c.skip_to-at.result c.skip_to-at.ensures.within.0
-                (c.is_reached.ensures off)),
+            (
+              rw (c.spot_at.ensures.course, c.spot_at.ensures.at)
+                  (λ off. started g (goal.at.turn-requires g c).After-next_start-start c.skip_to-at.result c.skip_to-at.ensures.within.0
+                  (c.is_reached.ensures off)),
+              rw c.spot_at.ensures.course c.requires.1.1.1.1.1.1.1,
+            ),
           ),
         ),
       ),

@@ -1,5 +1,10 @@
+use Rattle.rc_program.specs.Places.{places_of}
+use Rattle.rc_strategy.proofs.FrontLemmas.{own_ways}
 use Rattle.rc_strategy.proofs.StartLemmas.{at_adds}
 use Rattle.rc_strategy.proofs.starts.mark_at.Goals as goal
+
+pub which_patterns-requires-clause-own : goal.which_patterns-requires-clause-own
+which_patterns-requires-clause-own g c = own_ways (places_of c.args.engines.now.engine.program.places.items) c.args.engines.now.programmed
 
 pub returns-clause-adds : goal.returns-clause-adds
 returns-clause-adds g c =
