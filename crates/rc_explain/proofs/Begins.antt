@@ -3,17 +3,15 @@ use Rattle.std.proofs.Common.{◌≡◌, ◌++◌, ℕ, Bool, true, false, Optio
 use Rattle.std.proofs.lemmas.List.Elements.{All-get_or, All-push}
 use Rattle.std.proofs.lemmas.Option.{get_or_from_slice_get, slice_get_within}
 use Rattle.rc_tokens.specs.Text.{Characters}
-use Rattle.rc_tokens.specs.Lexer.{lex}
 use Rattle.rc_tokens.specs.Marks.{Mark, bar, bounds_of, capturing, change_of, closes, flagging, flags_of, naming, opens, piece_says, repeats, said, setting, stands, unchanged, written}
 use Rattle.rc_tokens.specs.Said.{Bar, Closes, Flagged, Opens, Repeats, Said, Setting, Stands as Has, Start}
 use Rattle.rc_tokens.specs.View.{said_of, start_of}
 use Rattle.rc_tokens.specs.declared.tokens.Opening.{Opening}
 use Rattle.rc_tokens.specs.declared.tokens.Token.{Token}
 use Rattle.rc_tokens.specs.declared.tokens.Token.TheVariants.{Opens as opens_token}
-use Rattle.rc_tokens.proofs.SoundLemmas.{lex_sound}
 use Rattle.rc_tokens.proofs.StepLemmas.{some_parts}
-use Rattle.rc_explain.specs.Reading.{AreOpen}
-use Rattle.rc_explain.specs.Shown.{Stands}
+use Rattle.rc_explain.specs.Reading.{AreOpen, IsToken}
+use Rattle.rc_explain.specs.Shown.{AreAt, Stands}
 use Rattle.rc_explain.specs.declared.marks.OpenGroup.{OpenGroup}
 
 -- no group opens
@@ -32,20 +30,20 @@ AtMost (Some k) = OpensNone k
 other : (k : Said) (start : Start) → OpensNone k → Some k ≡ Some (Opens start) → ⊥
 other k start none e = subst AtMost e none
 
-opening_written : (m : Mark) (start : Start) (t u : Characters) → said m ≡ Some (Opens start) → t ≡ written m ++ u → Stands t 0 40
-opening_written (stands p) start t u says is = let (s, h, same) = some_parts (piece_says p) (λ s. Some (Has s)) (Opens start) says in absurd (other (Has s) start tt same)
-opening_written bar start t u says is = absurd (other Bar start tt says)
-opening_written (setting f) start t u says is = let (to, h, same) = some_parts (flags_of f) (λ to. Some (Setting to)) (Opens start) says in absurd (other (Setting to) start tt same)
-opening_written (opens capturing) start t u says is = ap (λ s. slice_get s 0) is
-opening_written (opens (naming true n)) start t u says is = ap (λ s. slice_get s 0) is
-opening_written (opens (naming false n)) start t u says is = ap (λ s. slice_get s 0) is
-opening_written (opens (flagging f)) start t u says is = ap (λ s. slice_get s 0) is
-opening_written closes start t u says is = absurd (other Closes start tt says)
-opening_written (repeats o) start t u says is = let (b, h, same) = some_parts (bounds_of o.lazy o.amount) (λ b. Some (Repeats b)) (Opens start) says in absurd (other (Repeats b) start tt same)
+opening_written : (m : Mark) (start : Start) (t : Characters) → said m ≡ Some (Opens start) → AreAt t 0 (written m) → Stands t 0 40
+opening_written (stands p) start t says at = let (s, h, same) = some_parts (piece_says p) (λ s. Some (Has s)) (Opens start) says in absurd (other (Has s) start tt same)
+opening_written bar start t says at = absurd (other Bar start tt says)
+opening_written (setting f) start t says at = at.0
+opening_written (opens capturing) start t says at = at.0
+opening_written (opens (naming true n)) start t says at = at.0
+opening_written (opens (naming false n)) start t says at = at.0
+opening_written (opens (flagging f)) start t says at = at.0
+opening_written closes start t says at = absurd (other Closes start tt says)
+opening_written (repeats o) start t says at = let (b, h, same) = some_parts (bounds_of o.lazy o.amount) (λ b. Some (Repeats b)) (Opens start) says in absurd (other (Repeats b) start tt same)
 
--- a text whose first token opens a group begins with `(`
-pub opens_at : (t : Characters) (start : Start) (u : Characters) → lex t ≡ Some (Opens start, u) → Stands t 0 40
-opens_at t start u h = let (m, says, is, alone) = lex_sound t (Opens start) u h in opening_written m start t u says is
+-- a token that opens a group begins with `(`
+pub opens_at : (t : Characters) (start : Start) (n : ℕ) → IsToken (Opens start) t 0 n → Stands t 0 40
+opens_at t start n h = opening_written h.mark start t h.says h.here.here
 
 -- each open group begins with one
 pub open_at : (text : Characters) (groups : List OpenGroup) (i : ℕ) (g : OpenGroup) → slice_get groups i ≡ Some g → AreOpen text groups → Stands text g.at 40

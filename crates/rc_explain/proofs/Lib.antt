@@ -1,3 +1,6 @@
 mod Begins
 mod Bytes
+mod Members
+mod Numbers
 mod Shapes
+mod Tokens

@@ -1,9 +1,11 @@
 -- What stands in a span stands there still where the text has more before it.
-use Rattle.std.proofs.Common.{◌≡◌, ◌∙◌, ◌+◌, ◌<◌, ◌≤◌, ℕ, suc, List, [], ◌∷◌, Some, ap, arith, drop, get_or, length, min, max, subst, sym, take, inl, inr}
+use Rattle.std.proofs.Common.{◌≡◌, ◌∙◌, ◌+◌, ◌<◌, ◌≤◌, ℕ, suc, List, [], ◌∷◌, ◌++◌, Some, ap, arith, drop, get_or, length, length-append, min, max, subst, sym, take, inl, inr}
 use Rattle.std.proofs.lemmas.List.{get_or-drop, get_or-take, length-drop, length-take}
 use Rattle.std.proofs.lemmas.Option.{get_or_from_slice_get, slice_get-get_or, slice_get_within}
 use Rattle.rc_tokens.specs.Text.{Characters}
-use Rattle.rc_explain.specs.Shown.{AreAt, Begins, Has, Is, IsNoneOf, IsOne, IsOther, Shape, Stands, anything, begins, either, exactly, none_of, one, other}
+use Rattle.rc_explain.specs.Shown.{AreAt, Begins, Has, HasShape, Is, IsNamed, IsNoneOf, IsOne, IsOther, IsSuch, Shape, Shows, Stands, begins, either, exactly, named, none_of, nothing, one, other, shape_of, such}
+use Rattle.rc_explain.specs.declared.faults.FaultKind.{FaultKind}
+use Rattle.rc_explain.specs.declared.faults.FaultKind.TheVariants.{NestedTooDeeply}
 
 pub stands_shifted : (n : ℕ) (t : Characters) (s c : ℕ) → Stands (drop n t) s c → Stands t (s + n) c
 stands_shifted n t s c h =
@@ -38,9 +40,9 @@ module _ (n : ℕ) (t : Characters) (s e a b : ℕ) (fits : length t ≤ most) (
   moved : (c : ℕ) → Stands (drop n t) s c → Stands t a c
   moved c h = subst (λ k. Stands t k c) (sym (begun c h)) (stands_shifted n t s c h)
 
-  pub shifted : (shape : Shape) → Has shape (drop n t) s e → Has shape t a b
-  shifted (exactly []) h = record { here = tt; ends = let is = h.ends in omega (arith, from, to, is) }
-  shifted (exactly (c ∷ cs)) h =
+  pub is_shifted : (cs : Characters) → Is cs (drop n t) s e → Is cs t a b
+  is_shifted [] h = record { here = tt; ends = let is = h.ends in omega (arith, from, to, is) }
+  is_shifted (c ∷ cs) h =
       let at = at_shifted (c ∷ cs) n t s h.here in
       let within = at_within c cs t (s + n) at in
       let first = begun c h.here.0 in
@@ -49,6 +51,9 @@ module _ (n : ℕ) (t : Characters) (s e a b : ℕ) (fits : length t ≤ most) (
         here = subst (λ k. AreAt t k (c ∷ cs)) (sym first) at;
         ends = omega (arith, first, to, within, fits, is);
       }
+
+  pub shifted : (shape : Shape) → Has shape (drop n t) s e → Has shape t a b
+  shifted (exactly cs) h = is_shifted cs h
   shifted (begins c cs) h =
       let at = at_shifted (c ∷ cs) n t s h.here in
       let within = at_within c cs t (s + n) at in
@@ -63,7 +68,22 @@ module _ (n : ℕ) (t : Characters) (s e a b : ℕ) (fits : length t ≤ most) (
   shifted (none_of cs) h = record { c = h.c; here = moved h.c h.here; none = h.none; alone = alone h.c h.here h.alone }
   shifted (either x y) (inl h) = inl (shifted x h)
   shifted (either x y) (inr h) = inr (shifted y h)
-  shifted anything h = tt
+  shifted (such P) h = record { cs = h.cs; such = h.such; here = is_shifted h.cs h.here }
+  shifted named h =
+      let at = at_shifted (60 ∷ (h.name ++ 62 ∷ [])) n t h.opener h.here in
+      let within = at_within 60 (h.name ++ 62 ∷ []) t (h.opener + n) at in
+      let long = length-append h.name (62 ∷ []) in
+      let starts = h.starts in
+      let ends = h.ends in
+      record {
+        opener = h.opener + n;
+        name = h.name;
+        named = h.named;
+        here = at;
+        starts = omega (arith, within, long, starts, fits, from);
+        ends = omega (arith, within, long, starts, ends, fits, from, to);
+      }
+  shifted nothing h = absurd h
 
 stands_wider : (n : ℕ) (t : Characters) (s c : ℕ) → Stands (take n t) s c → Stands t s c
 stands_wider n t s c h =
@@ -85,7 +105,9 @@ wider (other test) n t s e h = record { c = h.c; here = stands_wider n t s h.c h
 wider (none_of cs) n t s e h = record { c = h.c; here = stands_wider n t s h.c h.here; none = h.none; alone = h.alone }
 wider (either x y) n t s e (inl h) = inl (wider x n t s e h)
 wider (either x y) n t s e (inr h) = inr (wider y n t s e h)
-wider anything n t s e h = tt
+wider (such P) n t s e h = record { cs = h.cs; such = h.such; here = record { here = at_wider h.cs n t s h.here.here; ends = h.here.ends } }
+wider named n t s e h = record { opener = h.opener; name = h.name; named = h.named; here = at_wider (60 ∷ (h.name ++ 62 ∷ [])) n t h.opener h.here; starts = h.starts; ends = h.ends }
+wider nothing n t s e h = absurd h
 
 -- a span that shows something doesn't end before it begins
 pub ordered : (shape : Shape) (t : Characters) (s e m : ℕ) → m ≡ max e s → Has shape t s e → Has shape t s m
@@ -96,4 +118,15 @@ ordered (other test) t s e m is h = let ends = h.alone in subst (λ k. IsOther t
 ordered (none_of cs) t s e m is h = let ends = h.alone in subst (λ k. IsNoneOf cs t s k) (omega (arith, ends, is)) h
 ordered (either x y) t s e m is (inl h) = inl (ordered x t s e m is h)
 ordered (either x y) t s e m is (inr h) = inr (ordered y t s e m is h)
-ordered anything t s e m is h = tt
+ordered (such P) t s e m is h = let ends = h.here.ends in subst (λ k. IsSuch P t s k) (omega (arith, ends, is)) h
+ordered named t s e m is h = let ends = h.ends in subst (λ k. IsNamed t s k) (omega (arith, ends, is)) h
+ordered nothing t s e m is h = absurd h
+
+-- what a part shows, the whole does
+pub shows : (kind : FaultKind) (t : Characters) (s e : ℕ) → HasShape kind t s e → Shows kind t s e
+shows NestedTooDeeply t s e h = absurd h
+shows kind t s e h = h
+
+pub shows_ordered : (kind : FaultKind) (t : Characters) (s e m : ℕ) → m ≡ max e s → Shows kind t s e → Shows kind t s m
+shows_ordered NestedTooDeeply t s e m is h = h
+shows_ordered kind t s e m is h = ordered (shape_of kind) t s e m is h

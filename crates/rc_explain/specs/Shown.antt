@@ -1,7 +1,13 @@
 -- What stands in the span of a fault, by its kind.
-use Rattle.std.specs.Prelude.{◌≡◌, ◌≢◌, ◌⊎◌, ℕ, suc, ◌+◌, ◌<◌, Bool, true, false, ◌||◌, ◌==◌, List, [], ◌∷◌, length, take, chars, slice_get, Some, encode_utf8_all}
+use Rattle.std.specs.Prelude.{◌≡◌, ◌≢◌, ◌⊎◌, ℕ, suc, ◌+◌, ◌^◌, ◌<◌, ◌≤◌, Bool, true, false, ◌||◌, ◌==◌, List, [], ◌∷◌, ◌++◌, length, take, chars, slice_get, Some, encode_utf8_all}
 use Rattle.std.specs.Char.{is_ascii_alphabetic, is_ascii_hexdigit}
-use Rattle.rc_tokens.specs.Text.{Characters}
+use Rattle.rc_tokens.specs.Text.{Characters, each, is_digit_of, value_from}
+use Rattle.rc_tokens.specs.Said.{Sense, Character as a_character, Byte as a_byte, Dot, PerlClass, Asserts, Members}
+use Rattle.rc_tokens.specs.Marks.{Atom, Escape, Piece, escape_says, is_name, member_of, piece_says, written_atom, written_escape, written_piece}
+use Rattle.rc_tokens.specs.declared.tokens.Assertion.{Assertion}
+use Rattle.rc_tokens.specs.declared.tokens.Escape.TheVariants as says
+use Rattle.rc_tokens.specs.declared.tokens.Member.{Member}
+use Rattle.rc_tokens.specs.declared.tokens.Member.TheVariants.{Character, Byte, Hyphen, Perl}
 use Rattle.rc_explain.specs.declared.faults.Fault.{Fault}
 use Rattle.rc_explain.specs.declared.faults.FaultKind.{FaultKind}
 use Rattle.rc_explain.specs.declared.faults.FaultKind.TheVariants as kinds
@@ -50,6 +56,101 @@ pub record IsNoneOf (cs text : Characters) (start end : ℕ) : Type 0 where
   pub none : IsNone c cs
   pub alone : end ≡ suc start
 
+-- the span is such a text
+pub record IsSuch (Such : Characters → Type 0) (text : Characters) (start end : ℕ) : Type 0 where
+  pub cs : Characters
+  pub such : Such cs
+  pub here : Is cs text start end
+
+-- the span is the name of a group, between `<` and `>`
+pub record IsNamed (text : Characters) (start end : ℕ) : Type 0 where
+  pub opener : ℕ
+  pub name : Characters
+  pub named : is_name name ≡ true
+  pub here : AreAt text opener (60 ∷ (name ++ 62 ∷ []))
+  pub starts : start ≡ suc opener
+  pub ends : end ≡ start + length name
+
+-- digits whose number doesn't fit 32 bits
+pub record IsLarge (cs : Characters) : Type 0 where
+  pub digits : each (is_digit_of 10) cs ≡ true
+  pub large : 2 ^ 32 ≤ value_from 10 0 cs
+
+-- the text of an escape that asserts something
+pub record IsAssertion (cs : Characters) : Type 0 where
+  pub escape : Escape
+  pub assertion : Assertion
+  pub says : escape_says escape ≡ Some (says.Assertion assertion)
+  pub written : cs ≡ written_escape escape
+
+-- it is no single character, and no assertion
+abbrev pub IsSet : Sense → Type 0
+IsSet (a_character c) = ⊥
+IsSet (a_byte b) = Unit {0}
+IsSet Dot = Unit {0}
+IsSet (PerlClass p) = Unit {0}
+IsSet (Asserts a) = ⊥
+IsSet (Members negated bracket ms) = Unit {0}
+
+-- the text of `.`, a byte `\xHH`, a Perl class or a list
+pub record IsAtom (cs : Characters) : Type 0 where
+  pub piece : Piece
+  pub sense : Sense
+  pub says : piece_says piece ≡ Some sense
+  pub set : IsSet sense
+  pub written : cs ≡ written_piece piece
+
+-- the code of a member
+abbrev pub HasCode : Member → ℕ → Type 0
+HasCode (Character c) n = c ≡ n
+HasCode (Byte b) n = b ≡ n
+HasCode Hyphen n = ⊥
+HasCode (Perl p) n = ⊥
+
+-- a character past ASCII, or no single one
+abbrev pub IsUncoded : Member → Type 0
+IsUncoded (Character c) = 128 ≤ c
+IsUncoded (Byte b) = ⊥
+IsUncoded Hyphen = Unit {0}
+IsUncoded (Perl p) = Unit {0}
+
+abbrev pub IsPerl : Member → Type 0
+IsPerl (Character c) = ⊥
+IsPerl (Byte b) = ⊥
+IsPerl Hyphen = ⊥
+IsPerl (Perl p) = Unit {0}
+
+-- the text of a member of a list: a character past ASCII
+pub record IsPastAscii (cs : Characters) : Type 0 where
+  pub atom : Atom
+  pub c : ℕ
+  pub says : member_of atom ≡ Some (Character c)
+  pub past : 128 ≤ c
+  pub written : cs ≡ written_atom atom
+
+-- the text of two members of a list with a `-` between them, of which this is so
+pub record AreRange (Related : Member → Member → Type 0) (cs : Characters) : Type 0 where
+  pub first : Atom
+  pub last : Atom
+  pub low : Member
+  pub high : Member
+  pub low_says : member_of first ≡ Some low
+  pub high_says : member_of last ≡ Some high
+  pub related : Related low high
+  pub written : cs ≡ written_atom first ++ 45 ∷ written_atom last
+
+-- one is a Perl class
+abbrev pub HasPerl : Member → Member → Type 0
+HasPerl low high = IsPerl low ⊎ IsPerl high
+
+-- the code of the first is above that of the last
+pub record IsAbove (low high : Member) : Type 0 where
+  pub a : ℕ
+  pub b : ℕ
+  pub low_code : HasCode low a
+  pub high_code : HasCode high b
+  pub above : b < a
+
 -- the letter of a flag that can be set: one of `imsRUu`
 abbrev pub is_flag : ℕ → Bool
 is_flag c = c == 105 || c == 109 || c == 115 || c == 82 || c == 85 || c == 117
@@ -59,7 +160,7 @@ abbrev pub begins_name : ℕ → Bool
 begins_name c = is_ascii_alphabetic c || c == 95
 
 -- what may stand in a span
-pub data Shape : Type 0 where
+pub data Shape : Type 1 where
   -- these characters
   exactly : Characters → Shape
   -- this character at its beginning, and these behind it
@@ -70,9 +171,13 @@ pub data Shape : Type 0 where
   other : (ℕ → Bool) → Shape
   -- one that is none of these
   none_of : Characters → Shape
+  -- such a text
+  such : (Characters → Type 0) → Shape
+  -- the name of a group
+  named : Shape
   either : Shape → Shape → Shape
-  -- nothing is said
-  anything : Shape
+  -- no part of the text alone
+  nothing : Shape
 
 abbrev pub Has : Shape → Characters → ℕ → ℕ → Type 0
 Has (exactly cs) t s e = Is cs t s e
@@ -80,10 +185,12 @@ Has (begins c cs) t s e = Begins c cs t s e
 Has (one test) t s e = IsOne test t s e
 Has (other test) t s e = IsOther test t s e
 Has (none_of cs) t s e = IsNoneOf cs t s e
+Has (such P) t s e = IsSuch P t s e
+Has named t s e = IsNamed t s e
 Has (either a b) t s e = Has a t s e ⊎ Has b t s e
-Has anything t s e = Unit {0}
+Has nothing t s e = ⊥
 
--- what stands in the span of a fault, by its kind
+-- what stands in the span of a fault, by its kind, save for a pattern that nests too deeply
 abbrev pub shape_of : FaultKind → Shape
 shape_of kinds.UnclosedGroup = exactly (40 ∷ [])
 shape_of kinds.UnopenedGroup = exactly (41 ∷ [])
@@ -101,12 +208,12 @@ shape_of kinds.DanglingNegation = exactly (45 ∷ [])
 shape_of kinds.EmptyName = exactly (60 ∷ 62 ∷ [])
 shape_of kinds.NameCharacter = other begins_name
 shape_of kinds.UnclosedName = exactly (60 ∷ [])
-shape_of kinds.DuplicateName = anything
+shape_of kinds.DuplicateName = named
 -- it begins with one of `*+?{`
 shape_of kinds.RepetitionOfNothing = either (begins 42 []) (either (begins 43 []) (either (begins 63 []) (begins 123 [])))
 shape_of kinds.UncountedRepetition = exactly (123 ∷ [])
 shape_of kinds.UnclosedRepetition = exactly (123 ∷ [])
-shape_of kinds.LargeNumber = anything
+shape_of kinds.LargeNumber = such IsLarge
 shape_of kinds.BoundsOutOfOrder = begins 123 []
 shape_of kinds.UnclosedList = exactly (91 ∷ [])
 -- `[]` or `[^]`
@@ -114,11 +221,12 @@ shape_of kinds.EmptyList = either (exactly (91 ∷ 93 ∷ [])) (exactly (91 ∷ 
 shape_of kinds.NestedList = exactly (91 ∷ [])
 -- `[:`
 shape_of kinds.PosixClass = exactly (91 ∷ 58 ∷ [])
-shape_of kinds.SetOperation = anything
-shape_of kinds.AssertionInList = anything
-shape_of kinds.ClassInRange = anything
-shape_of kinds.RangeOutOfOrder = anything
-shape_of kinds.MemberPastAscii = anything
+-- `&&`, `~~` or `--`
+shape_of kinds.SetOperation = either (exactly (38 ∷ 38 ∷ [])) (either (exactly (126 ∷ 126 ∷ [])) (exactly (45 ∷ 45 ∷ [])))
+shape_of kinds.AssertionInList = such IsAssertion
+shape_of kinds.ClassInRange = such (AreRange HasPerl)
+shape_of kinds.RangeOutOfOrder = such (AreRange IsAbove)
+shape_of kinds.MemberPastAscii = such IsPastAscii
 shape_of kinds.DanglingBackslash = exactly (92 ∷ [])
 shape_of kinds.UnknownEscape = begins 92 []
 -- `\p` or `\P`
@@ -130,13 +238,18 @@ shape_of kinds.NoScalar = begins 92 []
 shape_of kinds.UnclosedBrace = exactly (123 ∷ [])
 -- `\b{`
 shape_of kinds.UnknownBoundary = begins 92 (98 ∷ 123 ∷ [])
-shape_of kinds.NotUtf8 = anything
+shape_of kinds.NotUtf8 = such IsAtom
 shape_of kinds.LineTerminator = exactly (46 ∷ [])
-shape_of kinds.NestedTooDeeply = anything
+shape_of kinds.NestedTooDeeply = nothing
 
--- What stands from the character `start` up to `end`, by the kind of fault.
+abbrev pub HasShape : FaultKind → Characters → ℕ → ℕ → Type 0
+HasShape kind t s e = Has (shape_of kind) t s e
+
+-- What stands from the character `start` up to `end`, by the kind of fault. A pattern that nests too
+-- deeply is shown from its start, or from a `(`.
 abbrev pub Shows : FaultKind → Characters → ℕ → ℕ → Type 0
-Shows kind t s e = Has (shape_of kind) t s e
+Shows kinds.NestedTooDeeply t s e = (s ≡ 0) ⊎ Stands t s 40
+Shows kind t s e = HasShape kind t s e
 
 -- the byte at which the character with this number begins, and the text's end past the last
 abbrev pub byte_of : Characters → ℕ → ℕ

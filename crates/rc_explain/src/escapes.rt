@@ -1,7 +1,7 @@
 //! Diagnostics of escapes that don't parse.
 
 ghost use Rattle.std.specs.Prelude.{◌<◌, ◌∷◌, [], length};
-ghost use Rattle.rc_explain.specs.Shown.{AreAt, Shows, Stands};
+ghost use Rattle.rc_explain.specs.Shown.{AreAt, HasShape, Stands};
 
 use crate::faults::FaultKind;
 use crate::places::Found;
@@ -9,7 +9,7 @@ use crate::places::Found;
 /// The fault of an escape that doesn't parse.
 pub fn escape_fault(mark: &[char]) -> Found
     requires { Stands mark.now 0 92 }
-    ensures { Shows result.kind mark.now result.start result.end }
+    ensures { HasShape result.kind mark.now result.start result.end }
 {
     match mark {
         ['\\'] => Found {
@@ -63,7 +63,7 @@ fn brace_end(mark: &[char]) -> usize
 /// The fault of `\b{` that doesn't parse.
 fn boundary_fault(mark: &[char]) -> Found
     requires { AreAt mark.now 0 (92 ∷ 98 ∷ 123 ∷ []) }
-    ensures { Shows result.kind mark.now result.start result.end }
+    ensures { HasShape result.kind mark.now result.start result.end }
 {
     for i in 0..mark.len() {
         if mark[i] == '}' {
@@ -85,7 +85,7 @@ fn boundary_fault(mark: &[char]) -> Found
 fn braced_fault(mark: &[char]) -> Found
     requires slash { Stands mark.now 0 92 }
     requires brace { Stands mark.now 2 123 }
-    ensures { Shows result.kind mark.now result.start result.end }
+    ensures { HasShape result.kind mark.now result.start result.end }
 {
     for i in 3..mark.len() {
         let c = mark[i];
@@ -115,7 +115,7 @@ fn braced_fault(mark: &[char]) -> Found
 fn fixed_fault(mark: &[char], end: usize) -> Found
     requires slash { Stands mark.now 0 92 }
     requires end { 0 < end }
-    ensures { Shows result.kind mark.now result.start result.end }
+    ensures { HasShape result.kind mark.now result.start result.end }
 {
     for i in 2..mark.len() {
         if i >= end {

@@ -1,13 +1,16 @@
 //! Diagnostics of bracketed lists that don't parse.
 
-ghost use Rattle.std.specs.Prelude.{◌≡◌, ◌⊎◌, ◌∷◌, [], true, IfOk, IfErr, IfSome};
-ghost use Rattle.rc_explain.specs.Shown.{AreAt, Shows, Stands, anything, shape_of};
+ghost use Rattle.std.specs.Prelude.{◌≡◌, ◌⊎◌, ◌∷◌, ◌≤◌, ℕ, [], true, length, IfOk, IfErr, IfSome, MatchOption};
+ghost use Rattle.rc_tokens.specs.Text.{Characters};
+ghost use Rattle.rc_tokens.specs.declared.tokens.Member.TheVariants.{Hyphen};
+ghost use Rattle.rc_explain.specs.Reading.{AreInLine, IsClassBefore, IsItem, IsMember, IsNext};
+ghost use Rattle.rc_explain.specs.Shown.{AreAt, HasCode, HasShape, IsPerl, IsUncoded, Stands};
 
 use crate::escapes::escape_fault;
 use crate::faults::FaultKind;
 use crate::marks::{first_mark, from};
 use crate::places::Found;
-use rc_tokens::tokens::{List, Member, Token};
+use rc_tokens::tokens::{Member, Token};
 use std::alloc::{AllocError, Global};
 
 /// Where the members of a list begin, and whether a `]` is the first.
@@ -24,14 +27,16 @@ fn front(mark: &[char]) -> (usize, bool)
 }
 
 /// Whether two adjacent characters are a set operation.
-fn is_operation(before: char, c: char) -> bool {
+fn is_operation(before: char, c: char) -> bool
+    ensures { result ≡ true → (before ≡ c) × ((c ≡ 38) ⊎ (c ≡ 126)) }
+{
     before == c && (c == '&' || c == '~')
 }
 
 /// The fault of a list that is no token. Its first fault counts.
 pub fn list_fault(alloc: Global, mark: &[char]) -> Result<Found, AllocError>
     requires { Stands mark.now 0 91 }
-    ensures { IfOk result (λ found. Shows found.kind mark.now found.start found.end) }
+    ensures { IfOk result (λ found. HasShape found.kind mark.now found.start found.end) }
 {
     let (start, has_bracket) = front(mark);
     let mut at = start;
@@ -75,7 +80,7 @@ pub fn list_fault(alloc: Global, mark: &[char]) -> Result<Found, AllocError>
 /// A `[` in a list.
 fn nested_fault(mark: &[char], at: usize) -> Found
     requires { Stands mark.now at 91 }
-    ensures { Shows result.kind mark.now result.start result.end }
+    ensures { HasShape result.kind mark.now result.start result.end }
 {
     if mark.get(at + 1).copied() == Some(':') {
         return Found {
@@ -95,7 +100,7 @@ fn nested_fault(mark: &[char], at: usize) -> Found
 fn escape_in_list(alloc: Global, mark: &[char]) -> Result<Result<usize, Found>, AllocError>
     requires { Stands mark.now 0 92 }
     ensures { IfOk result (λ told. IfErr told (λ found.
-        Shows found.kind mark.now found.start found.end)) }
+        HasShape found.kind mark.now found.start found.end)) }
 {
     match first_mark(alloc, mark)? {
         Some((Token::Assertion(_), count)) => {
@@ -110,8 +115,92 @@ fn escape_in_list(alloc: Global, mark: &[char]) -> Result<Result<usize, Found>, 
     }
 }
 
-/// The code of a character of a list; `None` for one that has none there.
-fn code_of(is_unicode: bool, member: Member) -> Option<u32> {
+/// A member of a list, and the characters that write it.
+#[derive(Clone, Copy)]
+pub struct Placed {
+    member: Member,
+    start: usize,
+    end: usize,
+}
+
+/// A member of a list, with the two that follow it.
+#[derive(Clone, Copy)]
+pub struct Item {
+    first: Placed,
+    second: Option<Placed>,
+    third: Option<Placed>,
+}
+
+/// The member that an escape is, and its number of characters; `None` if it is none.
+fn escaped_member(alloc: Global, mark: &[char]) -> Result<Option<(Member, usize)>, AllocError>
+    requires { Stands mark.now 0 92 }
+    ensures { IfOk result (λ told. IfSome told (λ r. IsMember mark.now r.0 r.1)) }
+{
+    match first_mark(alloc, mark)? {
+        Some((Token::Character(c), count)) => Ok(Some((Member::Character(c), count))),
+        Some((Token::Byte(byte), count)) => Ok(Some((Member::Byte(byte), count))),
+        Some((Token::Perl(perl), count)) => Ok(Some((Member::Perl(perl), count))),
+        _ => Ok(None),
+    }
+}
+
+/// The first member, and its number of characters; `None` at the end of the list.
+fn first_member(alloc: Global, mark: &[char]) -> Result<Option<(Member, usize)>, AllocError>
+    ensures { IfOk result (λ told. IfSome told (λ r. IsMember mark.now r.0 r.1)) }
+{
+    let Some(c) = mark.first().copied() else {
+        return Ok(None);
+    };
+    match c {
+        '[' | ']' => Ok(None),
+        '-' => Ok(Some((Member::Hyphen, 1))),
+        '\\' => escaped_member(alloc, mark),
+        _ => Ok(Some((Member::Character(c), 1))),
+    }
+}
+
+/// The member of a list that begins there; `None` at the end of the list.
+fn member_at(alloc: Global, mark: &[char], at: usize) -> Result<Option<Placed>, AllocError>
+    requires { length mark.now ≤ usize.MAX }
+    ensures { IfOk result (IsNext mark.now at) }
+{
+    let Some((member, count)) = first_member(alloc, from(mark, at))? else {
+        return Ok(None);
+    };
+    Ok(Some(Placed {
+        member,
+        start: at,
+        end: at.saturating_add(count),
+    }))
+}
+
+/// The member that begins there, with the two that follow it; `None` at the end of the list.
+fn item_at(alloc: Global, mark: &[char], at: usize) -> Result<Option<Item>, AllocError>
+    requires { length mark.now ≤ usize.MAX }
+    ensures { IfOk result (λ told. IfSome told (IsItem mark.now at)) }
+{
+    let Some(first) = member_at(alloc, mark, at)? else {
+        return Ok(None);
+    };
+    let Some(second) = member_at(alloc, mark, first.end)? else {
+        return Ok(Some(Item {
+            first,
+            second: None,
+            third: None,
+        }));
+    };
+    let third = member_at(alloc, mark, second.end)?;
+    Ok(Some(Item {
+        first,
+        second: Some(second),
+        third,
+    }))
+}
+
+/// The code of a character of a list; `None` for a member that has none there.
+fn code_of(is_unicode: bool, member: Member) -> Option<u32>
+    ensures { MatchOption result (IsUncoded member) (HasCode member) }
+{
     match member {
         Member::Character(c) if is_unicode || c.is_ascii() => Some(c as u32),
         Member::Byte(byte) => Some(byte as u32),
@@ -119,135 +208,127 @@ fn code_of(is_unicode: bool, member: Member) -> Option<u32> {
     }
 }
 
-/// The fault of the range that begins with this member, counted in members.
-fn range_fault(is_unicode: bool, first: Member, last: Member, at: usize) -> Option<Found>
-    ensures { IfSome result (λ found. shape_of found.kind ≡ anything) }
+/// The fault from one member to another.
+fn between(kind: FaultKind, first: Placed, last: Placed) -> Found
+    ensures kind { result.kind ≡ kind }
+    ensures start { result.start ≡ first.start }
+    ensures end { result.end ≡ last.end }
 {
-    let (from, end) = (at.saturating_add(2), at.saturating_add(3));
-    match last {
-        Member::Hyphen => Some(Found {
-            kind: FaultKind::SetOperation,
-            start: at.saturating_add(1),
-            end,
-        }),
-        Member::Perl(_) => Some(Found {
-            kind: FaultKind::ClassInRange,
-            start: at,
-            end,
-        }),
-        _ => match code_of(is_unicode, last) {
-            None => Some(Found {
-                kind: FaultKind::MemberPastAscii,
-                start: from,
-                end,
-            }),
-            high if high < code_of(is_unicode, first) => {
-                Some(Found {
-                    kind: FaultKind::RangeOutOfOrder,
-                    start: at,
-                    end,
-                })
+    Found {
+        kind,
+        start: first.start,
+        end: last.end,
+    }
+}
+
+/// The fault of a range: of the member `first`, the hyphen, and the member `last`.
+fn range_fault(is_unicode: bool, first: Placed, hyphen: Placed, last: Placed) -> Option<Found>
+    ensures { (text : Characters) → AreInLine text first hyphen last
+        → IfSome result (λ found. HasShape found.kind text found.start found.end) }
+{
+    match last.member {
+        Member::Hyphen => Some(between(FaultKind::SetOperation, hyphen, last)),
+        Member::Perl(_) => Some(between(FaultKind::ClassInRange, first, last)),
+        _ => match (
+            code_of(is_unicode, first.member),
+            code_of(is_unicode, last.member),
+        ) {
+            (_, None) => Some(between(FaultKind::MemberPastAscii, last, last)),
+            (Some(low), Some(high)) if high < low => {
+                Some(between(FaultKind::RangeOutOfOrder, first, last))
             }
             _ => None,
         },
     }
 }
 
-/// The fault of a hyphen that stands for itself, counted in members.
-fn hyphen_fault(after_range: bool, following: Option<Member>, at: usize) -> Option<Found>
-    ensures { IfSome result (λ found. shape_of found.kind ≡ anything) }
-{
-    match following {
-        Some(Member::Hyphen) => Some(Found {
-            kind: FaultKind::SetOperation,
-            start: at,
-            end: at.saturating_add(2),
-        }),
-        Some(_) if !after_range => Some(Found {
-            kind: FaultKind::ClassInRange,
-            start: at.saturating_sub(1),
-            end: at.saturating_add(2),
-        }),
-        _ => None,
+impl Item {
+    /// The hyphen and the last member, if it is a range.
+    fn range(self) -> Option<(Placed, Placed)>
+        ensures line { (text : Characters) → (at : ℕ) → IsItem text at self
+            → IfSome result (λ r. AreInLine text self.first r.0 r.1) }
+        ensures plain { IfSome result (λ _. ¬ IsPerl self.first.member) }
+    {
+        match (self.first.member, self.second, self.third) {
+            (Member::Character(_) | Member::Byte(_), Some(hyphen), Some(last))
+                if matches!(hyphen.member, Member::Hyphen) => Some((hyphen, last)),
+            _ => None,
+        }
     }
-}
 
-/// The fault of members that are no items, counted in members.
-fn items_fault(is_unicode: bool, list: &List) -> Option<Found>
-    ensures { IfSome result (λ found. shape_of found.kind ≡ anything) }
-{
-    let members = list.members.as_slice();
-    let mut past = 0;
-    let mut is_leading = !list.bracket;
-    let mut after_range = list.bracket;
-    for i in 0..members.len() {
-        let is_hyphen = matches!(members[i], Member::Hyphen);
-        is_leading = is_leading && is_hyphen;
-        if i < past || is_leading {
-            continue;
-        }
-        let following = members.get(i + 1).copied();
-        if is_hyphen {
-            let fault = hyphen_fault(after_range, following, i);
-            if fault.is_some() {
-                return fault;
-            }
-        }
-        after_range = false;
-        if is_hyphen || matches!(members[i], Member::Perl(_)) {
-            continue;
-        }
-        if code_of(is_unicode, members[i]).is_none() {
-            return Some(Found {
-                kind: FaultKind::MemberPastAscii,
-                start: i,
-                end: i + 1,
-            });
-        }
-        if let (Some(Member::Hyphen), Some(last)) = (following, members.get(i + 2).copied()) {
-            let fault = range_fault(is_unicode, members[i], last, i);
-            if fault.is_some() {
-                return fault;
-            }
-            past = i + 3;
-            after_range = true;
+    /// Where the next item begins.
+    fn end(self) -> usize
+        ensures { IsPerl self.first.member → result ≡ self.first.end }
+    {
+        match self.range() {
+            Some((_, last)) => last.end,
+            None => self.first.end,
         }
     }
-    None
-}
 
-/// The place of the member with this number.
-fn place_of(alloc: Global, mark: &[char], number: usize) -> Result<usize, AllocError> {
-    let (mut at, _) = front(mark);
-    for _ in 0..number {
-        let mut count = 1;
-        if let ['\\', ..] = from(mark, at) {
-            if let Some((_, length)) = first_mark(alloc, from(mark, at))? {
-                count = length;
-            }
+    /// The fault of a hyphen that stands for itself. `class` is the Perl class before it.
+    fn hyphen_fault(self, class: Option<Placed>) -> Option<Found>
+        ensures { (text : Characters) → (at : ℕ) → IsItem text at self
+            → self.first.member ≡ Hyphen → IsClassBefore text at class
+            → IfSome result (λ found. HasShape found.kind text found.start found.end) }
+    {
+        let next = self.second?;
+        if matches!(next.member, Member::Hyphen) {
+            return Some(between(FaultKind::SetOperation, self.first, next));
         }
-        at = at.saturating_add(count);
+        Some(between(FaultKind::ClassInRange, class?, next))
     }
-    Ok(at)
+
+    /// The fault of an item. `class` is the Perl class before it.
+    fn fault(self, is_unicode: bool, class: Option<Placed>) -> Option<Found>
+        ensures { (text : Characters) → (at : ℕ) → IsItem text at self
+            → IsClassBefore text at class
+            → IfSome result (λ found. HasShape found.kind text found.start found.end) }
+    {
+        let first = self.first;
+        match first.member {
+            Member::Hyphen => return self.hyphen_fault(class),
+            Member::Perl(_) => return None,
+            _ => {}
+        }
+        if code_of(is_unicode, first.member).is_none() {
+            return Some(between(FaultKind::MemberPastAscii, first, first));
+        }
+        let (hyphen, last) = self.range()?;
+        range_fault(is_unicode, first, hyphen, last)
+    }
 }
 
 /// The fault of the members of a list that is a token; `None` if they are its items.
 pub fn members_fault(
     alloc: Global,
     is_unicode: bool,
-    list: &List,
     mark: &[char],
 ) -> Result<Option<Found>, AllocError>
-    ensures { IfOk result (λ told. IfSome told (λ found. shape_of found.kind ≡ anything)) }
+    requires { length mark.now ≤ usize.MAX }
+    ensures { IfOk result (λ told. IfSome told (λ found.
+        HasShape found.kind mark.now found.start found.end)) }
 {
-    let Some(fault) = items_fault(is_unicode, list) else {
-        return Ok(None);
-    };
-    let start = place_of(alloc, mark, fault.start)?;
-    let end = place_of(alloc, mark, fault.end)?;
-    Ok(Some(Found {
-        kind: fault.kind,
-        start,
-        end,
-    }))
+    let (mut at, has_bracket) = front(mark);
+    let mut is_leading = !has_bracket;
+    let mut class = None;
+    for _ in 0..mark.len() {
+        let Some(item) = item_at(alloc, mark, at)? else {
+            break;
+        };
+        is_leading = is_leading && matches!(item.first.member, Member::Hyphen);
+        if !is_leading {
+            let fault = item.fault(is_unicode, class);
+            if fault.is_some() {
+                return Ok(fault);
+            }
+        }
+        class = if let Member::Perl(_) = item.first.member {
+            Some(item.first)
+        } else {
+            None
+        };
+        at = item.end();
+    }
+    Ok(None)
 }

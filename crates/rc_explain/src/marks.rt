@@ -5,9 +5,8 @@ ghost use Rattle.rc_tokens.specs.Lexer.{lex};
 ghost use Rattle.rc_tokens.specs.Said.{Opens, Start};
 ghost use Rattle.rc_tokens.specs.Text.{Characters};
 ghost use Rattle.rc_tokens.specs.View.{said_of};
-ghost use Rattle.rc_explain.specs.Reading.{AreOpen, IsReadAs};
-ghost use Rattle.rc_explain.specs.Shown.{Shows, Stands};
-ghost use Rattle.rc_explain.specs.declared.faults.FaultKind.TheVariants.{NestedTooDeeply};
+ghost use Rattle.rc_explain.specs.Reading.{AreOpen, IsToken};
+ghost use Rattle.rc_explain.specs.Shown.{HasShape, IsAtom, Shows, Stands};
 
 use crate::escapes::escape_fault;
 use crate::faults::FaultKind;
@@ -24,7 +23,7 @@ use std::alloc::{AllocError, Global};
 /// The first token of a text, and its number of characters; `None` if no token begins the text.
 pub fn first_mark(alloc: Global, text: &[char]) -> Result<Option<(Token, usize)>, AllocError>
     ensures { IfOk result (λ told. MatchOption told (lex text.now ≡ None)
-        (λ r. (r.1 ≤ length text.now) × IsReadAs text.now (said_of r.0))) }
+        (λ r. (r.1 ≤ length text.now) × IsToken (said_of r.0) text.now 0 r.1)) }
 {
     match first_token(alloc, text) {
         Ok((token, rest)) => Ok(Some((token, text.len().saturating_sub(rest.len())))),
@@ -105,7 +104,8 @@ impl Standing {
 
     /// The fault of nesting too deeply: of the innermost open group, or of the whole pattern.
     fn too_deep(&self, end: usize) -> Found
-        ensures { result.kind ≡ NestedTooDeeply }
+        ensures { (text : Characters) → AreOpen text self.now.groups.items
+            → Shows result.kind text result.start result.end }
     {
         let start = match self.groups.last() {
             Some(group) => group.at,
@@ -155,8 +155,9 @@ impl Standing {
         config: &Config,
         mark: &[char],
     ) -> Result<Option<Found>, AllocError>
+        requires { IsAtom mark.now }
         ensures { IfOk result (λ told. IfSome told (λ found.
-            Shows found.kind mark.now found.start found.end)) }
+            HasShape found.kind mark.now found.start found.end)) }
     {
         let end = mark.len();
         if parses_alone(
@@ -191,8 +192,10 @@ impl Standing {
         token: &Token,
         mark: &[char],
     ) -> Result<Option<Found>, AllocError>
+        requires fits { length mark.now ≤ usize.MAX }
+        requires token { IsToken (said_of token.now) mark.now 0 (length mark.now) }
         ensures { IfOk result (λ told. IfSome told (λ found.
-            Shows found.kind mark.now found.start found.end)) }
+            HasShape found.kind mark.now found.start found.end)) }
     {
         let end = mark.len();
         match mark {
@@ -214,7 +217,7 @@ impl Standing {
         }
         match token {
             Token::Byte(_) | Token::Perl(_) | Token::Dot => self.atom_fault(alloc, config, mark),
-            Token::List(list) => match members_fault(alloc, self.is_unicode, list, mark)? {
+            Token::List(_) => match members_fault(alloc, self.is_unicode, mark)? {
                 Some(fault) => Ok(Some(fault)),
                 None => self.atom_fault(alloc, config, mark),
             },
@@ -251,7 +254,7 @@ fn parses_alone(alloc: Global, config: &Config, mark: &[char]) -> Result<bool, A
 fn unread_mark(alloc: Global, mark: &[char]) -> Result<Found, AllocError>
     requires some { 0 < length mark.now }
     requires unread { lex mark.now ≡ None }
-    ensures { IfOk result (λ found. Shows found.kind mark.now found.start found.end) }
+    ensures { IfOk result (λ found. HasShape found.kind mark.now found.start found.end) }
 {
     match mark {
         ['[', ..] => list_fault(alloc, mark),

@@ -1,15 +1,17 @@
 //! Diagnostics of group openings that don't parse.
 
-ghost use Rattle.std.specs.Prelude.{◌≡◌, ◌<◌, ◌-◌, false};
-ghost use Rattle.rc_explain.specs.Shown.{Shows, Stands, begins_name};
+ghost use Rattle.std.specs.Prelude.{◌≡◌, ◌<◌, ◌-◌, ℕ, List, false, length};
+ghost use Rattle.rc_tokens.specs.Said.{Named, Opens};
+ghost use Rattle.rc_explain.specs.Reading.{IsToken};
+ghost use Rattle.rc_explain.specs.Shown.{HasShape, IsNamed, Stands, begins_name};
 
 use crate::faults::FaultKind;
-use crate::places::Found;
+use crate::places::{Found, is_at};
 
 /// The fault of a group opening that doesn't parse.
 pub fn opening_fault(mark: &[char]) -> Found
     requires { Stands mark.now 0 40 }
-    ensures { Shows result.kind mark.now result.start result.end }
+    ensures { HasShape result.kind mark.now result.start result.end }
 {
     match mark {
         ['(', '?', '=', ..] | ['(', '?', '!', ..] => Found {
@@ -57,7 +59,7 @@ fn is_in_name(c: char, is_first: bool) -> bool
 fn name_fault(mark: &[char], from: usize) -> Found
     requires above { 0 < from }
     requires opens { Stands mark.now (from - 1) 60 }
-    ensures { Shows result.kind mark.now result.start result.end }
+    ensures { HasShape result.kind mark.now result.start result.end }
 {
     for i in from..mark.len() {
         let c = mark[i];
@@ -83,24 +85,23 @@ fn name_fault(mark: &[char], from: usize) -> Found
     }
 }
 
-/// The name of the group: what is between `<` and `>`.
-pub fn name_of(mark: &[char]) -> (usize, usize) {
-    let mut start = 0;
-    for i in 0..mark.len() {
-        if mark[i] == '<' {
-            start = i + 1;
-        }
-        if mark[i] == '>' {
-            return (start, i);
-        }
+/// The name that an opening gives its group: what is between `<` and `>`.
+pub fn name_of(mark: &[char]) -> (usize, usize)
+    ensures { (name : List ℕ) → IsToken (Opens (Named name)) mark.now 0 (length mark.now)
+        → IsNamed mark.now result.0 result.1 }
+{
+    let end = mark.len().saturating_sub(1);
+    if is_at(mark, 2, 'P') {
+        (4, end)
+    } else {
+        (3, end)
     }
-    (start, mark.len())
 }
 
 /// The fault of flags that don't parse.
 fn flags_fault(mark: &[char]) -> Found
     requires { Stands mark.now 0 40 }
-    ensures { Shows result.kind mark.now result.start result.end }
+    ensures { HasShape result.kind mark.now result.start result.end }
 {
     let mut are_cleared = false;
     for i in 2..mark.len() {

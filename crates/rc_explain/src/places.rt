@@ -1,7 +1,7 @@
 //! Positions in a text, counted in characters.
 
-ghost use Rattle.std.specs.Prelude.{◌≡◌, ◌+◌, ◌≤◌, drop, length, List, ℕ, encode_utf8_all};
-ghost use Rattle.rc_explain.specs.Shown.{Shows, byte_of};
+ghost use Rattle.std.specs.Prelude.{◌≡◌, ◌+◌, ◌≤◌, ◌↔◌, IsTrue, drop, length, List, ℕ, encode_utf8_all};
+ghost use Rattle.rc_explain.specs.Shown.{HasShape, Stands, byte_of};
 
 use crate::faults::FaultKind;
 
@@ -19,8 +19,8 @@ impl Found {
     /// The fault in a text with `count` more characters before it.
     pub fn after(self, count: usize) -> Found
         ensures { (text : List ℕ) → length text ≤ usize.MAX
-            → Shows self.kind (drop count text) self.start self.end
-            → Shows result.kind text result.start result.end }
+            → HasShape self.kind (drop count text) self.start self.end
+            → HasShape result.kind text result.start result.end }
     {
         Found {
             kind: self.kind,
@@ -28,6 +28,13 @@ impl Found {
             end: self.end.saturating_add(count),
         }
     }
+}
+
+/// Whether a character is there.
+pub fn is_at(text: &[char], at: usize, c: char) -> bool
+    ensures { IsTrue result ↔ Stands text.now at c }
+{
+    text.get(at).copied() == Some(c)
 }
 
 /// The number of characters that end at or before this byte.

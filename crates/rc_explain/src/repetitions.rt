@@ -1,12 +1,15 @@
 //! Diagnostics of counted repetitions that don't parse.
 
-ghost use Rattle.rc_explain.specs.Shown.{Shows, Stands};
+ghost use Rattle.rc_explain.specs.Reading.{IsNumber};
+ghost use Rattle.rc_explain.specs.Shown.{HasShape, Stands};
 
 use crate::faults::FaultKind;
-use crate::places::Found;
+use crate::places::{Found, is_at};
 
 /// The digits from there on, as a number, and where they end.
-fn number_at(mark: &[char], from: usize) -> (u64, usize) {
+fn number_at(mark: &[char], from: usize) -> (u64, usize)
+    ensures { IsNumber mark.now from result.1 result.0 }
+{
     let mut number: u64 = 0;
     for i in from..mark.len() {
         let Some(digit) = mark[i].to_digit(10) else {
@@ -17,15 +20,10 @@ fn number_at(mark: &[char], from: usize) -> (u64, usize) {
     (number, mark.len().max(from))
 }
 
-/// Whether a character is there.
-fn is_at(mark: &[char], at: usize, c: char) -> bool {
-    mark.get(at).copied() == Some(c)
-}
-
 /// The fault of a `{` that begins no repetition.
 pub fn counted_fault(mark: &[char]) -> Found
     requires { Stands mark.now 0 123 }
-    ensures { Shows result.kind mark.now result.start result.end }
+    ensures { HasShape result.kind mark.now result.start result.end }
 {
     let (min, end) = number_at(mark, 1);
     if end > 1 && min > u32::MAX as u64 {
@@ -44,7 +42,7 @@ pub fn counted_fault(mark: &[char]) -> Found
 /// The fault of a second number that begins there.
 fn second_fault(mark: &[char], min: u64, from: usize) -> Found
     requires { Stands mark.now 0 123 }
-    ensures { Shows result.kind mark.now result.start result.end }
+    ensures { HasShape result.kind mark.now result.start result.end }
 {
     let (max, end) = number_at(mark, from);
     if max > u32::MAX as u64 {
@@ -67,7 +65,7 @@ fn second_fault(mark: &[char], min: u64, from: usize) -> Found
 /// The fault of a repetition that doesn't end there.
 fn unended_fault(mark: &[char], end: usize) -> Found
     requires { Stands mark.now 0 123 }
-    ensures { Shows result.kind mark.now result.start result.end }
+    ensures { HasShape result.kind mark.now result.start result.end }
 {
     if end >= mark.len() && end > 1 {
         return Found {

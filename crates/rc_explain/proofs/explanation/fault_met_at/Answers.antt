@@ -1,8 +1,8 @@
 use Rattle.std.proofs.Common.{◌≡◌, ◌∙◌, ap, arith, chars, rules, subst}
 use Rattle.std.proofs.lemmas.Str.{chars_from_encodes}
-use Rattle.rc_explain.specs.Shown.{Shows, byte_of, shape_of}
+use Rattle.rc_explain.specs.Shown.{Shows, byte_of}
 use Rattle.rc_explain.proofs.Bytes.{told_within}
-use Rattle.rc_explain.proofs.Shapes.{ordered}
+use Rattle.rc_explain.proofs.Shapes.{shows_ordered}
 use Rattle.rc_explain.proofs.explanation.fault_met_at.Goals as goal
 
 pub returns-clause-place : goal.returns-clause-place
@@ -23,4 +23,4 @@ returns-clause-shown c =
     let from = c.byte_after-start.ensures ∙ ap (λ l. byte_of l f.start) (c.deref-3.ensures.value ∙ all) in
     let to = c.byte_after-end.ensures ∙ ap (λ l. byte_of l c.max.result) (c.deref-4.ensures.value ∙ all) in
     let shown = subst (λ l. Shows f.kind l f.start f.end) (c.deref-2.ensures.value ∙ all) c.in_ok-found.ensures in
-    record { from = f.start; to = c.max.result; starts = from; ends = to; shown = ordered (shape_of f.kind) t f.start f.end c.max.result c.max.ensures shown }
+    record { from = f.start; to = c.max.result; starts = from; ends = to; shown = shows_ordered f.kind t f.start f.end c.max.result c.max.ensures shown }
