@@ -1,3 +1,6 @@
 mod LineLemmas
 mod SkipLemmas
 mod PageLemmas
+mod PartLemmas
+mod ContextLemmas
+mod StandsLemmas

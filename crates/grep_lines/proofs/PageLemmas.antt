@@ -14,7 +14,7 @@ use Rattle.grep_lines.specs.Pages.{AreLinesBefore, IsWhole, is_newline}
 use Rattle.grep_lines.specs.Selected.{AreSkipped}
 use Rattle.grep_lines.proofs.LineLemmas.{Parts, none, whole, cut, parts}
 
-whole_tail : (x : ℕ) (xs : List ℕ) → IsWhole (x ∷ xs) → IsWhole xs
+pub whole_tail : (x : ℕ) (xs : List ℕ) → IsWhole (x ∷ xs) → IsWhole xs
 whole_tail x xs w k e = w (suc k) (omega (arith, e))
 
 some_before : (x : ℕ) (ls : List (List ℕ)) → 0 < length (before_first x ls)
@@ -37,7 +37,7 @@ before_length x [] some = absurd (omega (arith, some))
 before_length x (l ∷ ls) some = refl
 
 -- a whole text that begins with another byte goes on
-some_left : (x : ℕ) (xs : List ℕ) → (x == 10) ≡ false → IsWhole (x ∷ xs) → 0 < length (lines xs)
+pub some_left : (x : ℕ) (xs : List ℕ) → (x == 10) ≡ false → IsWhole (x ∷ xs) → 0 < length (lines xs)
 some_left x [] e w = absurd (eqb-false x 10 e (w 0 refl))
 some_left x (y ∷ xs) e w = some_lines y xs
 

@@ -1,3 +1,6 @@
 pub mod Lines
 pub mod Selected
 pub mod Pages
+pub mod Parts
+pub mod Context
+pub mod Ahead

@@ -1,7 +1,11 @@
-//! Line selection: the lines of a reader, and which of them are selected.
+//! Line selection: the lines of a reader, which of them are selected, and those around them.
 #![tactic(auto)]
 
+pub mod context;
 mod pages;
+pub mod parts;
 pub mod select;
 
+pub use context::{Extent, LinePrinter, PrintError, print_selected};
+pub use parts::split_at_line;
 pub use select::{LineSelector, next_line, next_selected};

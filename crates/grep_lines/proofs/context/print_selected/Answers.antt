@@ -1,0 +1,91 @@
+use Rattle.std.proofs.Common.{Bool, ℕ, false, true, ◌≡◌, ◌+◌, ◌-◌, ◌≤◌, ◌&&◌, ◌∙◌, List, IfSome, ap, arith, cond, length, nat_lt, refl, subst, sym}
+use Rattle.grep_lines.specs.Ahead.{Stands}
+use Rattle.grep_lines.specs.Selected.{TakesLine}
+use Rattle.grep_lines.proofs.StandsLemmas.{few_more, stands_first, stands_next, told_at_end, told_enough}
+use Rattle.grep_lines.proofs.context.print_selected.Goals as goal
+use Rattle.grep_lines.proofs.context.print_selected.Goals.{then-is_selected, else-is_selected}
+
+-- nothing was read
+pub loop-read-init : goal.loop-read-init
+loop-read-init g c =
+    let new = c.new-progress.ensures in
+    record {
+      sound = record { within = omega (arith, ap length new.kept); idle = λ _. new.left };
+      same = refl;
+      size = omega (arith, new.next, ap length new.kept);
+      few = omega arith;
+      stands =
+          stands_first c.args.extent (g.S.LineSelector.selects c.args.selector.now) (g.P.LinePrinter.printed c.args.printer.now) c.new-progress.result
+          (g.R.Read.remaining c.args.reader.now) new.kept new.next new.left new.behind;
+    }
+
+-- enough lines were selected, and those behind the last one printed
+pub returns-then-progress-eq0-clause-printed : goal.returns-then-progress-eq0-clause-printed
+returns-then-progress-eq0-clause-printed g c =
+    (told_enough c.args.extent (g.S.LineSelector.selects c.args.selector.now) (g.P.LinePrinter.printed c.args.printer.now) c.loop-read.progress
+    (g.P.LinePrinter.printed c.loop-read.printer) c.loop-read.count (g.R.Read.remaining c.args.reader.now) (g.R.Read.remaining c.loop-read.reader)
+    (omega arith) (omega arith) c.loop-read.invariant.stands).0
+
+pub returns-then-progress-eq0-clause-counted : goal.returns-then-progress-eq0-clause-counted
+returns-then-progress-eq0-clause-counted g c =
+    (told_enough c.args.extent (g.S.LineSelector.selects c.args.selector.now) (g.P.LinePrinter.printed c.args.printer.now) c.loop-read.progress
+    (g.P.LinePrinter.printed c.loop-read.printer) c.loop-read.count (g.R.Read.remaining c.args.reader.now) (g.R.Read.remaining c.loop-read.reader)
+    (omega arith) (omega arith) c.loop-read.invariant.stands).1
+
+-- the text's end was reached
+pub returns-in-Ok-false-clause-printed : goal.returns-in-Ok-false-clause-printed
+returns-in-Ok-false-clause-printed g c =
+    let mid = g.R.Read.remaining c.loop-read.reader in
+    let left = g.R.Read.remaining c.next_line.new.reader in
+    let line = c.next_line.new.line.items in
+    let ended : IfSome mid (λ text. TakesLine text false line left) =
+    subst (λ b. IfSome mid (λ text. TakesLine text b line left)) c.in-Ok-false.field-0-test c.in-Ok-false.ensures.taken in
+    (told_at_end c.args.extent (g.S.LineSelector.selects c.args.selector.now) (g.P.LinePrinter.printed c.args.printer.now) c.loop-read.progress
+    (g.P.LinePrinter.printed c.loop-read.printer) c.loop-read.count (g.R.Read.remaining c.args.reader.now) mid left line c.loop-read.invariant.sound ended
+    c.loop-read.invariant.stands).0
+
+pub returns-in-Ok-false-clause-counted : goal.returns-in-Ok-false-clause-counted
+returns-in-Ok-false-clause-counted g c =
+    let mid = g.R.Read.remaining c.loop-read.reader in
+    let left = g.R.Read.remaining c.next_line.new.reader in
+    let line = c.next_line.new.line.items in
+    let ended : IfSome mid (λ text. TakesLine text false line left) =
+    subst (λ b. IfSome mid (λ text. TakesLine text b line left)) c.in-Ok-false.field-0-test c.in-Ok-false.ensures.taken in
+    (told_at_end c.args.extent (g.S.LineSelector.selects c.args.selector.now) (g.P.LinePrinter.printed c.args.printer.now) c.loop-read.progress
+    (g.P.LinePrinter.printed c.loop-read.printer) c.loop-read.count (g.R.Read.remaining c.args.reader.now) mid left line c.loop-read.invariant.sound ended
+    c.loop-read.invariant.stands).1
+
+-- a line more was read
+pub loop-read-preserved : goal.loop-read-preserved
+loop-read-preserved g c =
+    let e = c.args.extent in
+    let picks = g.S.LineSelector.selects c.args.selector.now in
+    let inv = c.loop-read.invariant in
+    let mid = g.R.Read.remaining c.loop-read.reader in
+    let left = g.R.Read.remaining c.next_line.new.reader in
+    let line = c.next_line.new.line.items in
+    let count = c.loop-read.count in
+    let more = c.if-is_selected.count in
+    let b = c.selects_more-is_selected.result in
+    let taken : IfSome mid (λ text. TakesLine text true line left) =
+    subst (λ b. IfSome mid (λ text. TakesLine text b line left)) c.in-Ok-true.field-0-test c.in-Ok-true.ensures.taken in
+    let passes : b ≡ (picks line && nat_lt 0 (e.most - count)) =
+    c.selects_more-is_selected.ensures.value
+    ∙ ap (λ (l : List ℕ). g.S.LineSelector.selects c.loop-read.selector l && nat_lt 0 (e.most - count)) c.deref.ensures.value
+    ∙ ap (λ (p : List ℕ → Bool). p line && nat_lt 0 (e.most - count)) inv.same in
+    let Counted : Type 0 = more ≡ cond b (count + 1) count in
+    let is : Counted =
+    elim c.if-is_selected.branch as (λ _. Counted) [
+      | then-is_selected w ↦ w.count-is ∙ ap (λ t. cond t (count + 1) count) (sym w.if-is_selected.true)
+      | else-is_selected w ↦ w.count-is ∙ ap (λ t. cond t (count + 1) count) (sym w.if-is_selected.false)
+    ] in
+    let ensured = c.in_default.ensures in
+    record {
+      sound = ensured.sound;
+      same = c.take.ensures.same ∙ c.selects_more-is_selected.ensures.same ∙ inv.same;
+      size = omega (arith, ensured.next, inv.size);
+      few = few_more e.most count more (picks line) b inv.few is passes;
+      stands =
+          stands_next e picks (g.P.LinePrinter.printed c.args.printer.now) c.loop-read.progress c.take.new.self (g.P.LinePrinter.printed c.loop-read.printer)
+          (g.P.LinePrinter.printed c.take.new.printer) count more line (g.R.Read.remaining c.args.reader.now) mid left b inv.stands taken passes is ensured.ok;
+    }

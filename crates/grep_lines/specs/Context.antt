@@ -1,0 +1,67 @@
+-- Which lines are printed: the selected ones, and lines around them.
+use Rattle.std.specs.Prelude.{◌≡◌, ℕ, ◌+◌, ◌-◌, ◌==◌, ◌&&◌, ◌||◌, Bool, List, [], ◌∷◌, ◌++◌, Option, None, Some, if◌then◌else◌, filter, length, nat_lt, take}
+use Rattle.std.specs.List.{list_any}
+use Rattle.grep_lines.specs.Lines.{lines}
+use Rattle.grep_lines.specs.declared.context.Extent.{Extent}
+
+-- A line of a text, and whether it is selected.
+pub record Marked : Type 0 where
+  pub line : List ℕ
+  pub selected : Bool
+
+abbrev pub is_selected : Marked → Bool
+is_selected m = m.selected
+
+-- the lines; the first `most` of those that the test passes are selected
+abbrev pub marked : (List ℕ → Bool) → ℕ → List (List ℕ) → List Marked
+marked picks most [] = []
+marked picks most (line ∷ rest) =
+    let passes = picks line && nat_lt 0 most in
+    record { line = line; selected = passes } ∷ marked picks (if passes then most - 1 else most) rest
+
+-- A line that is printed, by its number, which begins at 1: as selected, or as context.
+pub record Shown : Type 0 where
+  pub number : ℕ
+  pub selected : Bool
+  pub line : List ℕ
+
+-- A line is printed if it is selected, or one of the `after` lines before it is, or one of the `before` lines behind it. `seen` are the
+-- lines before it, the nearest first.
+abbrev pub is_shown : Extent → (seen : List Marked) → Marked → (rest : List Marked) → Bool
+is_shown e seen m rest = m.selected || (list_any is_selected (take e.after seen) || list_any is_selected (take e.before rest))
+
+-- the lines that are printed, of those behind the seen ones
+abbrev pub shown : Extent → (seen rest : List Marked) → List Shown
+shown e seen [] = []
+shown e seen (m ∷ rest) =
+    if is_shown e seen m rest
+    then record { number = length seen + 1; selected = m.selected; line = m.line } ∷ shown e (m ∷ seen) rest
+    else shown e (m ∷ seen) rest
+
+-- What is printed: a line, or the separator between two lines that don't touch.
+pub data Part : Type 0 where
+  separator : Part
+  line_of : Shown → Part
+
+-- what stands before the line with this number; `behind` is the number behind the line that was printed last
+abbrev pub gap : (behind : Option ℕ) → ℕ → List Part
+gap None number = []
+gap (Some behind) number = if behind == number then [] else separator ∷ []
+
+-- the lines, with the separators between them
+abbrev pub separated : (behind : Option ℕ) → List Shown → List Part
+separated behind [] = []
+separated behind (s ∷ rest) = gap behind s.number ++ line_of s ∷ separated (Some (s.number + 1)) rest
+
+-- what is printed of a text
+abbrev pub printed : Extent → (List ℕ → Bool) → (text : List ℕ) → List Part
+printed e picks text = separated None (shown e [] (marked picks e.most (lines text)))
+
+-- the number of selected lines
+abbrev pub selected_count : (List ℕ → Bool) → (most : ℕ) → (text : List ℕ) → ℕ
+selected_count picks most text = length (filter is_selected (marked picks most (lines text)))
+
+-- What a printer has printed gained these parts. `None` claims nothing.
+abbrev pub Prints : (old new : Option (List Part)) → List Part → Type 0
+Prints None new parts = Unit {0}
+Prints (Some before) new parts = new ≡ Some (before ++ parts)

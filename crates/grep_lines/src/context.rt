@@ -1,0 +1,242 @@
+//! Context: the selected lines, and the lines around them.
+ghost use Rattle.std.specs.Prelude.{◌≡◌, ◌≢◌, ◌<◌, ◌+◌, ◌^◌, ◌++◌, ◌∷◌, [], ℕ, List, Bool, Option, None, Some, IfOk, IfSome, OnOk, false, true, length, nat_lt, ◌&&◌, ◌-◌};
+ghost use Rattle.grep_lines.specs.Ahead.{Advances, Flushes, IsSound, Skips};
+ghost use Rattle.grep_lines.specs.Context.{Part, Prints, gap, printed, selected_count};
+ghost use Rattle.grep_lines.specs.Context.Part.{line_of, separator};
+
+use crate::select::{LineSelector, next_line};
+use std::alloc::Global;
+use std::collections::VecDeque;
+use std::io::{BufRead, ErrorKind};
+use std::{io, mem};
+
+/// How many lines are printed around a selected one, and how many are selected.
+#[derive(Clone, Copy)]
+pub struct Extent {
+    /// The number of lines before a selected line that are printed with it.
+    pub before: usize,
+    /// The number of lines behind a selected line that are printed with it.
+    pub after: u64,
+    /// The greatest number of selected lines.
+    pub most: u64,
+}
+
+/// A printer of lines, and of separators between groups of them.
+pub trait LinePrinter<S: LineSelector> {
+    /// What was printed, in order, or `None`, which claims nothing.
+    ghost printed: { Self → Option (List Part) };
+
+    /// Prints a line. It has no newline.
+    fn print_line(
+        &mut self,
+        selector: &mut S,
+        number: u64,
+        is_selected: bool,
+        line: &[u8],
+    ) -> io::Result<()>
+        ensures ok { OnOk result (Prints (printed self.old) (printed self.new)
+            (line_of (record { number = number; selected = is_selected; line = line.now }) ∷ [])) }
+        ensures same { S.selects selector.new ≡ S.selects selector.old };
+
+    /// Prints a separator.
+    fn print_separator(&mut self) -> io::Result<()>
+        ensures ok { OnOk result (Prints (printed self.old) (printed self.new) (separator ∷ [])) };
+}
+
+/// Why lines weren't printed to the end.
+#[derive(Drop)]
+pub enum PrintError {
+    /// An error of the reader, or out of memory for a line, or there are 2^64 - 2 lines.
+    Read(io::Error),
+    /// An error of the printer, or out of memory for the lines that are kept.
+    Print(io::Error),
+}
+
+/// How far the lines were read and printed.
+#[derive(Drop)]
+struct Progress {
+    alloc: Global,
+    /// The lines before the next one that are printed if a line soon after them is selected.
+    kept: VecDeque<Vec<u8>>,
+    /// The number of the first of them, or of the next line.
+    next: u64,
+    /// The number of lines that are still context of the last selected line.
+    left: u64,
+    /// The number behind the line that was printed last.
+    behind: Option<u64>,
+}
+
+impl Progress {
+    fn new(alloc: Global) -> Progress
+        ensures kept { result.kept.items ≡ [] }
+        ensures next { result.next ≡ 1 }
+        ensures left { result.left ≡ 0 }
+        ensures behind { result.behind ≡ None }
+    {
+        Progress {
+            alloc,
+            kept: VecDeque::new(alloc),
+            next: 1,
+            left: 0,
+            behind: None,
+        }
+    }
+
+    /// Prints the line with the next number, behind a separator if it doesn't touch the last one.
+    fn print<S: LineSelector, P: LinePrinter<S>>(
+        &mut self,
+        selector: &mut S,
+        printer: &mut P,
+        is_selected: bool,
+        line: &[u8],
+    ) -> io::Result<()>
+        requires { self.old.next + 1 < 2 ^ 64 }
+        ensures ok { OnOk result (Prints (P.printed printer.old) (P.printed printer.new)
+            (gap self.old.behind self.old.next ++ line_of (record {
+              number = self.old.next;
+              selected = is_selected;
+              line = line.now;
+            }) ∷ [])) }
+        ensures progress { OnOk result (self.new ≡ record self.old {
+          next = self.old.next + 1;
+          behind = Some (self.old.next + 1);
+        }) }
+        ensures same { S.selects selector.new ≡ S.selects selector.old }
+    {
+        if let Some(behind) = self.behind {
+            if behind != self.next {
+                printer.print_separator()?;
+            }
+        }
+        printer.print_line(selector, self.next, is_selected, line)?;
+        self.next += 1;
+        self.behind = Some(self.next);
+        Ok(())
+    }
+
+    /// Prints the lines that are kept, before a selected line.
+    fn print_kept<S: LineSelector, P: LinePrinter<S>>(
+        &mut self,
+        selector: &mut S,
+        printer: &mut P,
+        extent: Extent,
+    ) -> io::Result<()>
+        requires fits { self.old.next + length self.old.kept.items + 1 < 2 ^ 64 }
+        requires sound { IsSound extent self.old }
+        ensures ok { OnOk result (Flushes extent self.old self.new (P.printed printer.old)
+            (P.printed printer.new)) }
+        ensures none_kept { OnOk result (self.new.kept.items ≡ []) }
+        ensures next { OnOk result (self.new.next ≡ self.old.next + length self.old.kept.items) }
+        ensures same { S.selects selector.new ≡ S.selects selector.old }
+    {
+        while let Some(line) = self.kept.pop_front() {
+            self.print(selector, printer, false, &line)?;
+        }
+        Ok(())
+    }
+
+    /// Keeps a line that isn't selected, and lets go of the oldest one if there are enough. `line`
+    /// gets another buffer.
+    fn keep(&mut self, extent: Extent, line: &mut Vec<u8>) -> io::Result<()>
+        requires fits { self.old.next + 1 < 2 ^ 64 }
+        requires sound { IsSound extent self.old }
+        requires idle { self.old.left ≡ 0 }
+        ensures ok { OnOk result (Skips extent self.old self.new line.old.items) }
+        ensures sound { OnOk result (IsSound extent self.new) }
+        ensures next { OnOk result (self.new.next + length self.new.kept.items
+            ≡ self.old.next + length self.old.kept.items + 1) }
+    {
+        self.kept
+            .push_back(mem::replace(line, Vec::new(self.alloc)))?;
+        if self.kept.len() > extent.before {
+            if let Some(oldest) = self.kept.pop_front() {
+                *line = oldest;
+                self.next += 1;
+            }
+        }
+        Ok(())
+    }
+
+    /// Prints a line that was read if it is selected or context, or keeps it.
+    fn take<S: LineSelector, P: LinePrinter<S>>(
+        &mut self,
+        selector: &mut S,
+        printer: &mut P,
+        extent: Extent,
+        is_selected: bool,
+        line: &mut Vec<u8>,
+    ) -> io::Result<()>
+        requires fits { self.old.next + length self.old.kept.items + 1 < 2 ^ 64 }
+        requires sound { IsSound extent self.old }
+        ensures ok { OnOk result (Advances extent self.old self.new (P.printed printer.old)
+            (P.printed printer.new) (record { line = line.old.items; selected = is_selected })) }
+        ensures sound { OnOk result (IsSound extent self.new) }
+        ensures next { OnOk result (self.new.next + length self.new.kept.items
+            ≡ self.old.next + length self.old.kept.items + 1) }
+        ensures same { S.selects selector.new ≡ S.selects selector.old }
+    {
+        if is_selected {
+            self.print_kept(selector, printer, extent)?;
+            self.print(selector, printer, true, line)?;
+            self.left = extent.after;
+            return Ok(());
+        }
+        if self.left > 0 {
+            self.print(selector, printer, false, line)?;
+            self.left -= 1;
+            return Ok(());
+        }
+        self.keep(extent, line)
+    }
+}
+
+/// Whether a line is selected, behind `count` selected ones.
+fn selects_more<S: LineSelector>(selector: &mut S, line: &[u8], count: u64, most: u64) -> bool
+    ensures value { result ≡ (S.selects selector.old line.now && nat_lt 0 (most - count)) }
+    ensures same { S.selects selector.new ≡ S.selects selector.old }
+{
+    count < most && selector.selects(line)
+}
+
+/// Prints the selected lines of a reader and those around them, each once, and a separator between
+/// two that don't touch. Returns the number of selected lines.
+///
+/// It reads no further than to the last line that is printed if the greatest number of lines is
+/// selected, and else to the end. It keeps as many lines as are printed before a selected one.
+/// After an `Err` a part of them was printed.
+pub fn print_selected<R: BufRead, S: LineSelector, P: LinePrinter<S>>(
+    alloc: Global,
+    reader: &mut R,
+    selector: &mut S,
+    printer: &mut P,
+    extent: Extent,
+) -> Result<u64, PrintError>
+    ensures printed { OnOk result (IfSome (R.remaining reader.old) (λ text.
+        Prints (P.printed printer.old) (P.printed printer.new)
+        (printed extent (S.selects selector.old) text))) }
+    ensures counted { IfOk result (λ count. IfSome (R.remaining reader.old) (λ text.
+        count ≡ selected_count (S.selects selector.old) extent.most text)) }
+    ensures same { S.selects selector.new ≡ S.selects selector.old }
+{
+    let mut progress = Progress::new(alloc);
+    let mut line = Vec::new(alloc);
+    let mut count: u64 = 0;
+    for _read in 0..u64::MAX - 1 {
+        if count == extent.most && progress.left == 0 {
+            return Ok(count);
+        }
+        match next_line(reader, &mut line) {
+            Ok(true) => {}
+            Ok(false) => return Ok(count),
+            Err(fault) => return Err(PrintError::Read(fault)),
+        }
+        let is_selected = selects_more(selector, &line, count, extent.most);
+        if let Err(fault) = progress.take(selector, printer, extent, is_selected, &mut line) {
+            return Err(PrintError::Print(fault));
+        }
+        if is_selected {
+            count += 1;
+        }
+    }
+    Err(PrintError::Read(io::Error::from(ErrorKind::Other)))
+}
