@@ -25,8 +25,8 @@ use rc_pattern::check::{group_count, properties_of};
 use rc_pattern::hir::Hir;
 use rc_settings::error::BuildError;
 use rc_settings::meta::Config;
+use rc_strategy::cache;
 use rc_strategy::engines::Engines;
-use rc_strategy::{cache, early};
 use rc_text::cursor::Cursor;
 use rc_text::input::{Input, content_fits};
 use rc_text::types::{HalfMatch, Match, PatternID};
@@ -166,7 +166,7 @@ impl Regex {
             (search_for (sought self.now) input)) }
         ensures within { IfOk result (λ o. IfSome o (IsWithinBounds input)) }
     {
-        early::search_once(&self.engines, alloc, &mut input)
+        self.engines.search_once(alloc, &mut input)
     }
 
     /// Returns the match that a search of the input finds, exactly as `find` does.
@@ -206,7 +206,7 @@ impl Regex {
             (search_for (sought self.now) input.old) result }
         ensures within { IfSome result (IsWithinBounds input.old) }
     {
-        early::search(&self.engines, &mut cache.inner, input)
+        self.engines.search(&mut cache.inner, input)
     }
 
     /// Returns the pattern and the end of the match that `find` finds. An `Err` means out of
@@ -224,7 +224,7 @@ impl Regex {
         ensures within { IfOk result (λ o. IfSome o
             (λ m. (low input ≤ m.offset) × (m.offset ≤ high input))) }
     {
-        early::search_end_once(&self.engines, alloc, &mut input)
+        self.engines.search_end_once(alloc, &mut input)
     }
 
     /// Returns the pattern and the end of the match that `find` finds, in a cache that was made for
@@ -246,7 +246,7 @@ impl Regex {
         ensures within { IfSome result (λ m. (low input.old ≤ m.offset)
             × (m.offset ≤ high input.old)) }
     {
-        early::search_end(&self.engines, &mut cache.inner, input)
+        self.engines.search_end(&mut cache.inner, input)
     }
 
     /// Returns whether a search of the input finds a match. An `Err` means out of memory.

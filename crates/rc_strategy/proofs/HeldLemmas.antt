@@ -142,7 +142,7 @@ anchored_so s a = record s { anchored = a }
 
 module _ (e : Engine) (k : Lengths) (s : Searched) (bound : BoundsWalks k (places_of e.program.places.items)) (from : SeeksFromStart k s) where
   first_at : (m : Found) → IsSpelledIn (engine_search e (anchored_so s No)) m → m.start ≡ low s
-  first_at = begins_at_bound k (places_of e.program.places.items) e.program.terminator e.program.passes_over (anchored_so s No) bound from.1.0 from.1.1
+  first_at = begins_at_bound k (places_of e.program.places.items) e.program.terminator e.program.passes_over (anchored_so s No) bound from.1
 
   -- the search may answer what it may answer where it is anchored
   pub start_may : (earliest : Bool) (o : Option Found) → IsAnswerBy e.kind earliest (engine_search e (anchored_so s Yes)) o →
@@ -169,7 +169,7 @@ module _ (e : Engine) (k : Lengths) (s : Searched) (bound : BoundsWalks k (place
       let places = places_of e.program.places.items in
       subst (λ a. o ≡ answer_by e.kind (unpassed (engine_search e (anchored_so s a)))) (sym from.0)
       (held_match places (text_of e.program.terminator s) (low s) (high s) false
-      (begins_at_bound k places e.program.terminator false (anchored_so s No) bound from.1.0 from.1.1) e.kind o (sym h))
+      (begins_at_bound k places e.program.terminator false (anchored_so s No) bound from.1) e.kind o (sym h))
 
 -- the match where none is passed over is that of the input, where it is anchored if each match begins at its start
 pub unpassed_held : (e : Engine) (k : Lengths) (s t : Searched) (r : Result (Option Found) MatchError) → BoundsWalks k (places_of e.program.places.items) →

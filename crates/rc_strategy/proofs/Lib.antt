@@ -10,6 +10,7 @@ pub mod CacheLemmas
 pub mod KeptLemmas
 pub mod PatternLemmas
 pub mod EarlyLemmas
+pub mod QuestionLemmas
 pub mod JumpLemmas
 pub mod FirstLemmas
 pub mod FrontLemmas

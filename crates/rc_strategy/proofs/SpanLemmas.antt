@@ -238,12 +238,12 @@ module _ (k : Lengths) (places : List Place) (terminator : ℕ) (over : Bool) (s
       (or_parts (begin_early k s)
       ((nat_lt (high s) (low s) || end_late k s) || (are_longer k (high s - low s) || (must_fill k s && are_shorter k (high s - low s)))) e)
 
-  -- where each begins with the slice, and the search does too, each begins at the lower bound
-  pub begins_at_bound : k.begins ≡ true → low s ≤ s.slice.start → (m : Found) → IsSpelledIn S m → m.start ≡ low s
-  begins_at_bound e first m h =
+  -- where each begins with the slice, each begins at the lower bound
+  pub begins_at_bound : k.begins ≡ true → (m : Found) → IsSpelledIn S m → m.start ≡ low s
+  begins_at_bound e m h =
       let n = known m h in
       let b = begins_at m n e in let l = n.lower in
-      omega (arith, b, l, first)
+      omega (arith, b, l)
 
   -- where each ends with the slice, each ends at the upper bound
   pub ends_at_bound : k.ends ≡ true → EndsAtBound S

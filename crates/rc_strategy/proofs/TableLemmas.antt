@@ -8,6 +8,7 @@ use denote.Struct.Props.{props}
 use Rattle.rc_pattern.specs.Re.{Re}
 use Rattle.rc_text.specs.Found.{Found, HalfFound, half_of}
 use Rattle.rc_text.specs.Text.{Searched}
+use Rattle.rc_text.specs.declared.types.Anchored.TheVariants.{No}
 use Rattle.rc_text.specs.declared.types.MatchError.{MatchError}
 use Rattle.rc_text.specs.declared.types.MatchKind.{MatchKind}
 use Rattle.rc_text.specs.declared.types.MatchKind.TheVariants.{All as all_matches, LeftmostFirst as leftmost_first, LeftmostLongest as leftmost_longest}
@@ -29,7 +30,7 @@ use Rattle.rc_dfa_search.specs.declared.search.Aim.{Aim}
 use Rattle.rc_pikevm_search.specs.Engine.{engine_search}
 use Rattle.rc_pikevm_search.specs.declared.engine.Engine.{Engine}
 use Rattle.rc_strategy.specs.Slots.{NamesGroups}
-use Rattle.rc_strategy.specs.Lengths.{BoundsWalks, SeeksFromEnd, SeeksGreatestFromEnd, is_leftmost}
+use Rattle.rc_strategy.specs.Lengths.{BoundsWalks, is_leftmost}
 use Rattle.rc_strategy.specs.declared.lengths.Lengths.{Lengths}
 use Rattle.rc_strategy.specs.Starts.{unpassed}
 use Rattle.rc_strategy.specs.Tables.{AreHalvesFor, aim_of}
@@ -95,16 +96,7 @@ module _ (e : Engine) (patterns : ℕ) {AreOf : Machine → Machine → Type 0} 
       answer_by e.kind (search_for (aim_of e patterns) hs e.program.terminator s) ≡ answer_by e.kind (engine_search e s)
   same_answer hs same = ap (λ places. answer_by e.kind (search_over places e.program.terminator e.program.passes_over s)) (sym same)
 
-  -- a search by them tells the match of the engine's kind
-  pub tables_tell : (r : Result (Option Found) MatchError) →
-      ((hs : List Re) → places_of e.program.places.items ≡ program hs → AreHalvesOf AreOf a hs e.program.terminator →
-      IfOk r (IsAnswerBy a.kind a.earliest (search_for a hs e.program.terminator s))) →
-      IfOk r (λ found. found ≡ answer_by e.kind (engine_search e s))
-  tables_tell (Err x) tells = tt
-  tables_tell (Ok found) tells =
-      told (hlevel props) (λ x hs. IsAnswerBy x.kind x.earliest (search_for x hs e.program.terminator s) found) tells (λ hs same h. h ∙ same_answer hs same)
-
-  -- where none is passed over too
+  -- a search by them tells the match of the engine's kind, where none is passed over
   pub tables_tell_unpassed : (r : Result (Option Found) MatchError) →
       ((hs : List Re) → places_of e.program.places.items ≡ program hs → AreHalvesOf AreOf (record a { passes_over = false }) hs e.program.terminator →
       IfOk r (IsAnswerBy a.kind a.earliest (search_over (program hs) e.program.terminator false s))) →
@@ -136,16 +128,6 @@ module _ (e : Engine) (patterns : ℕ) {AreOf : Machine → Machine → Type 0} 
       (λ hs same h. tells hs same (record { ahead = h.ahead; back = h.back; are_of = h.are_of; machines = h.machines; counted = h.counted; few = h.few }))
       (λ hs same h. half_there e.kind (search_for (aim_of e patterns) hs e.program.terminator s) o h ∙ ap is_some (same_answer hs same))
 
-  -- and so does a match that is told early
-  pub tables_tell_any_by : (o : Option Found) →
-      ((hs : List Re) → places_of e.program.places.items ≡ program hs → AreHalvesOf AreOf (record a { earliest = true }) hs e.program.terminator →
-      IsAnswerBy a.kind true (search_for a hs e.program.terminator s) o) →
-      is_some o ≡ is_some (answer_by e.kind (engine_search e s))
-  tables_tell_any_by o tells =
-      told (hlevel props) (λ x hs. IsAnswerBy x.kind true (search_for x hs e.program.terminator s) o)
-      (λ hs same h. tells hs same (record { ahead = h.ahead; back = h.back; are_of = h.are_of; machines = h.machines; counted = h.counted; few = h.few }))
-      (λ hs same h. found_there e.kind (search_for (aim_of e patterns) hs e.program.terminator s) o h ∙ ap is_some (same_answer hs same))
-
   -- under the earliest flag a search tells what may be answered
   pub tables_tell_by : (earliest : Bool) (r : Result (Option Found) MatchError) →
       ((hs : List Re) → places_of e.program.places.items ≡ program hs → AreHalvesOf AreOf (record a { earliest = earliest }) hs e.program.terminator →
@@ -161,33 +143,35 @@ module _ (e : Engine) (patterns : ℕ) {AreOf : Machine → Machine → Type 0} 
       (subst (λ places. IsAnswerBy e.kind earliest (search_over places e.program.terminator e.program.passes_over s) found) (sym same) h)))
 
   -- and one from where the search ends, where each match ends there
-  pub tables_tell_from_end : (k : Lengths) → BoundsWalks k (places_of e.program.places.items) → SeeksFromEnd e.kind k s → (r : Result (Option Found) MatchError) →
+  pub tables_tell_from_end : (k : Lengths) → BoundsWalks k (places_of e.program.places.items) → is_leftmost e.kind ≡ true → s.anchored ≡ No → k.ends ≡ true →
+      (r : Result (Option Found) MatchError) →
       ((hs : List Re) → places_of e.program.places.items ≡ program hs → AreHalvesOf AreOf a hs e.program.terminator →
       IfOk r (IsMatchToEnd a.earliest (search_for a hs e.program.terminator s))) →
       IfOk r (λ found. found ≡ answer_by e.kind (engine_search e s))
-  tables_tell_from_end k bound from_end (Err x) tells = tt
-  tables_tell_from_end k bound from_end (Ok found) tells =
+  tables_tell_from_end k bound left free ends (Err x) tells = tt
+  tables_tell_from_end k bound left free ends (Ok found) tells =
       told (hlevel props) (λ x hs. IsMatchToEnd x.earliest (search_for x hs e.program.terminator s) found) tells
       (λ hs same h.
-      let last = ends_at_bound k (program hs) e.program.terminator e.program.passes_over s (subst (BoundsWalks k) same bound) from_end.2.0 in
-      reverse_end_law.leftmost hs e.kind (search_for (aim_of e patterns) hs e.program.terminator s) found (leftmost_kind e.kind from_end.0)
-      refl (ap anchoring_of from_end.1) last h
+      let last = ends_at_bound k (program hs) e.program.terminator e.program.passes_over s (subst (BoundsWalks k) same bound) ends in
+      reverse_end_law.leftmost hs e.kind (search_for (aim_of e patterns) hs e.program.terminator s) found (leftmost_kind e.kind left)
+      refl (ap anchoring_of free) last h
       ∙ same_answer hs same)
 
   -- the greatest too, whether or not matches are passed over
-  pub tables_tell_greatest_from_end : (k : Lengths) → BoundsWalks k (places_of e.program.places.items) → SeeksGreatestFromEnd e.kind k s → (r : Result (Option Found) MatchError) →
+  pub tables_tell_greatest_from_end : (k : Lengths) → BoundsWalks k (places_of e.program.places.items) → e.kind ≡ all_matches → s.anchored ≡ No → k.ends ≡ true →
+      (r : Result (Option Found) MatchError) →
       ((hs : List Re) → places_of e.program.places.items ≡ program hs → AreHalvesOf AreOf (record a { passes_over = false }) hs e.program.terminator →
       IfOk r (IsMatchToEnd a.earliest (search_over (program hs) e.program.terminator false s))) →
       IfOk r (λ found. found ≡ answer_by e.kind (engine_search e s))
-  tables_tell_greatest_from_end k bound from_end (Err x) tells = tt
-  tables_tell_greatest_from_end k bound from_end (Ok found) tells =
+  tables_tell_greatest_from_end k bound all free ends (Err x) tells = tt
+  tables_tell_greatest_from_end k bound all free ends (Ok found) tells =
       told (hlevel props) (λ x hs. IsMatchToEnd x.earliest (search_over (program hs) e.program.terminator false s) found)
       (λ hs same h. tells hs same (record { ahead = h.ahead; back = h.back; are_of = h.are_of; machines = h.machines; counted = h.counted; few = h.few }))
       (λ hs same h.
-      let last = ends_at_bound k (program hs) e.program.terminator false s (subst (BoundsWalks k) same bound) from_end.2.0 in
-      greatest_to_end (search_over (program hs) e.program.terminator false s) (ap anchoring_of from_end.1) last refl found h
+      let last = ends_at_bound k (program hs) e.program.terminator false s (subst (BoundsWalks k) same bound) ends in
+      greatest_to_end (search_over (program hs) e.program.terminator false s) (ap anchoring_of free) last refl found h
       ∙ greatest_law.regardless (search_for (aim_of e patterns) hs e.program.terminator s) false
-      ∙ ap (λ x. answer_by x (search_for (aim_of e patterns) hs e.program.terminator s)) (sym from_end.0) ∙ same_answer hs same)
+      ∙ ap (λ x. answer_by x (search_for (aim_of e patterns) hs e.program.terminator s)) (sym all) ∙ same_answer hs same)
 
 -- the places of so many patterns name slots of groups alone
 pub names_groups : (e : Engine) (patterns : ℕ) (hs : List Re) → places_of e.program.places.items ≡ program hs → patterns ≡ length hs →

@@ -73,35 +73,19 @@ leave_none k s =
     begin_early k s || ((nat_lt (high s) (low s) || end_late k s)
     || (are_longer k (high s - low s) || (must_fill k s && are_shorter k (high s - low s))))
 
--- Each ends with the slice, and not each begins with it.
-abbrev pub EndAlone : Lengths → Type 0
-EndAlone k = (k.ends ≡ true) × (k.begins ≡ false)
-
 -- Matches of the kind begin at the least start: leftmost-first and leftmost-longest ones do.
 abbrev pub is_leftmost : MatchKind → Bool
 is_leftmost All = false
 is_leftmost LeftmostFirst = true
 is_leftmost LeftmostLongest = true
 
--- Each begins with the slice, and the search does too.
-abbrev pub BeginAtLow : Lengths → Searched → Type 0
-BeginAtLow k s = (k.begins ≡ true) × (low s ≤ s.slice.start)
-
--- Each match begins where the search does, and that isn't anchored.
+-- Each match begins where the slice does, and the search isn't anchored.
 abbrev pub SeeksFromStart : Lengths → Searched → Type 0
-SeeksFromStart k s = (s.anchored ≡ No) × BeginAtLow k s
+SeeksFromStart k s = (s.anchored ≡ No) × (k.begins ≡ true)
 
--- The second search is the first, anchored if each match begins where the search does.
+-- The second search is the first, anchored if each match begins where the slice does.
 abbrev pub IsHeld : Lengths → Searched → Searched → Type 0
 IsHeld k s t = (t ≡ s) ⊎ (SeeksFromStart k s × (t ≡ record s { anchored = Yes }))
-
--- The leftmost match is searched for backwards from the upper bound.
-abbrev pub SeeksFromEnd : MatchKind → Lengths → Searched → Type 0
-SeeksFromEnd kind k s = (is_leftmost kind ≡ true) × (s.anchored ≡ No) × EndAlone k
-
--- The greatest match is searched for backwards from the upper bound.
-abbrev pub SeeksGreatestFromEnd : MatchKind → Lengths → Searched → Type 0
-SeeksGreatestFromEnd kind k s = (kind ≡ All) × (s.anchored ≡ No) × EndAlone k
 
 -- Each has this length.
 abbrev pub IsOneLength : Lengths → ℕ → Type 0

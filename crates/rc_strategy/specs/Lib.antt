@@ -7,7 +7,9 @@ pub mod Makes
 pub mod Narrow
 pub mod Needed
 pub mod Plans
+pub mod Questions
 pub mod Route
+pub mod Routes
 pub mod Slots
 pub mod Lengths
 pub mod Starts

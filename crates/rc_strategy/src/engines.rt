@@ -1,37 +1,30 @@
 //! Meta strategy: the engines of some patterns, and the searches that choose among them.
-ghost use Rattle.std.specs.Prelude.{◌≡◌, IfSome, option_map};
-ghost use Rattle.rc_text.specs.Found.{half_of};
+ghost use Rattle.rc_text.specs.declared.types.Anchored.TheVariants.{No};
 ghost use Rattle.rc_program.specs.Places.{places_of};
 ghost use Rattle.rc_strategy.specs.Needed.{NeedsConfine};
+ghost use Rattle.rc_strategy.specs.Routes.{Serves, ServesAll};
 ghost use Rattle.rc_strategy.specs.Slots.{IsOfPatterns, NamesGroups};
 ghost use Rattle.rc_strategy.specs.Lengths.{BoundsWalks};
 ghost use Rattle.rc_strategy.specs.Tables.{MayBeLazyFor, MayBeTablesFor};
 
 use crate::cache::Cache;
-use crate::first::find_first;
-use crate::held::find_from_start;
-use crate::last::find_greatest_from_end;
 use crate::lengths::Lengths;
-use crate::route::{Route, TableChoice};
+use crate::question::{Question, half_of};
+use crate::route::{Route, anchored_route, free_route};
 use crate::slots::fill_slots;
 use crate::tables::{are_fast, tables_of};
 use rc_captures::captures;
 use rc_captures::captures::Captures;
-use rc_dense_dfa::dense::{Dense, NoCache};
-use rc_dfa::halves::Halves;
-use rc_dfa_search::guarded::{find_end_guarded, find_guarded};
-use rc_dfa_search::search;
+use rc_dense_dfa::dense::Dense;
 use rc_dfa_search::search::Aim;
-use rc_lazy_dfa::lazy;
 use rc_lazy_dfa::lazy::Lazy;
-use rc_literals::guard::{Guard, Needs};
-use rc_needles::prefilter::Prefilter;
+use rc_literals::guard::Needs;
 use rc_pikevm_search::engine::Engine;
-use rc_pikevm_search::literals::{guards_of, literals_of};
+use rc_pikevm_search::literals::literals_of;
 use rc_program::matches::is_again;
 use rc_text::cursor::Cursor;
 use rc_text::input::{Input, advance_start};
-use rc_text::types::{HalfMatch, Match, MatchError, MatchKind, PatternID, Span};
+use rc_text::types::{HalfMatch, Match, PatternID};
 use std::alloc::{AllocError, Global};
 
 /// Up to this many patterns, the Pike VM searches for a match together with its groups.
@@ -67,6 +60,10 @@ pub struct Engines {
     pub(crate) needs: Option<Needs>,
     /// Whether the search for the prefix literals is fast.
     pub(crate) sought_fast: bool,
+    /// How DFA searches go that aren't anchored.
+    pub(crate) free_route: Route,
+    /// How anchored DFA searches go.
+    pub(crate) anchored_route: Route,
     ghost fit: { ∥ MayBeTablesFor engine patterns tables ∥₁ },
     ghost lazy_fit: { ∥ MayBeLazyFor engine patterns lazy ∥₁ },
     ghost numbered: { NamesGroups patterns (places_of engine.program.places.items) },
@@ -74,22 +71,21 @@ pub struct Engines {
     ghost bound: { BoundsWalks spans (places_of engine.program.places.items) },
     ghost needed: { NeedsConfine needs
         (places_of engine.program.places.items) engine.program.terminator },
+    ghost free: { Serves engine.kind spans No free_route },
+    ghost anchored: { ServesAll engine.kind spans anchored_route },
 }
 
 impl Engines {
     ghost use Rattle.std.specs.Prelude.{◌≡◌, ◌⊎◌, ◌≤◌, true, IfOk, IfSome, MatchOption, Option, Some, None, List, length, is_some};
     ghost use Rattle.rc_pattern.specs.Limits.{greatest_weight};
     ghost use Rattle.std.specs.Option.{option_map};
-    ghost use Rattle.rc_text.specs.Found.{Found, half_of};
+    ghost use Rattle.rc_text.specs.Found.{Found};
     ghost use Rattle.rc_pattern.specs.Re.{Re};
     ghost use Rattle.rc_pikevm_search.specs.Walks.{next_start};
-    ghost use Rattle.rc_literals.specs.Guard.{IsGuard};
-    ghost use Rattle.rc_needles.specs.Guards.{Guards};
-    ghost use Rattle.rc_needles.specs.Prefilters.{needles_of};
     ghost use Rattle.rc_captures.specs.Captures.{captures_names, captures_pattern, captures_slots};
     ghost use Rattle.rc_pikevm_search.specs.Tells.{TellsBy};
     ghost use Rattle.rc_pikevm.specs.KindSlots.{slots_by};
-    ghost use Rattle.rc_program.specs.Kinds.{answer_by, answer_by_from};
+    ghost use Rattle.rc_program.specs.Kinds.{IsAnswerBy, answer_by, answer_by_from, is_early};
     ghost use Rattle.rc_program.specs.Laws.{heaviness};
     ghost use Rattle.rc_program.specs.Places.{places_of};
     ghost use Rattle.rc_program.specs.Program.{program};
@@ -98,13 +94,14 @@ impl Engines {
     ghost use Rattle.rc_program.specs.Matches.{begin_of, end_of, next_match};
     ghost use Rattle.rc_pikevm_search.specs.Engine.{engine_search};
     ghost use Rattle.rc_pikevm_search.specs.Moved.{IsMoved};
-    ghost use Rattle.rc_strategy.specs.Caches.{IsCacheIn, IsCacheOfBoth, IsSameCacheIn, KeepsStates};
+    ghost use Rattle.rc_strategy.specs.Caches.{IsCacheIn, IsSameCacheIn};
+    ghost use Rattle.rc_strategy.specs.Early.{IsHalfBy};
     ghost use Rattle.rc_strategy.specs.Needed.{NeedsConfine};
     ghost use Rattle.rc_strategy.specs.Limits.{AreBarred, AreTooHeavy, IsLazyBarred};
     ghost use Rattle.rc_strategy.specs.Plans.{IsLazyFor, IsShortFor, plan_of};
-    ghost use Rattle.rc_strategy.specs.Route.{MayGuard};
-    ghost use Rattle.rc_strategy.specs.Lengths.{BoundsWalks, IsOneLength, SeeksFromEnd, is_leftmost};
-    ghost use Rattle.rc_strategy.specs.Tables.{AreHalvesFor, aim_of, bytes_taken};
+    ghost use Rattle.rc_strategy.specs.Lengths.{BoundsWalks};
+    ghost use Rattle.rc_strategy.specs.Questions.{question_by};
+    ghost use Rattle.rc_strategy.specs.Tables.{aim_of, bytes_taken};
 
     /// The engines of `patterns` patterns, whose program is that of `engine`. `Err` means out of
     /// memory.
@@ -143,6 +140,8 @@ impl Engines {
     {
         let tables = tables_of(alloc, &engine, needs.is_some(), patterns, limits)?;
         let sought_fast = are_fast(&engine.literals);
+        let free_route = free_route(engine.kind, &spans);
+        let anchored_route = anchored_route(engine.kind, &spans);
         Ok(Engines {
             engine,
             tables: tables.dense,
@@ -151,6 +150,8 @@ impl Engines {
             spans,
             needs,
             sought_fast,
+            free_route,
+            anchored_route,
         })
     }
 
@@ -194,311 +195,6 @@ impl Engines {
         }
     }
 
-    /// Returns the match of the least start, by a search backwards from the end of the search. An
-    /// `Err` says why the DFA has no answer.
-    pub(crate) fn find_from_end<H: Halves, C: Cursor>(
-        &self,
-        halves: &H,
-        cache: &mut H::Cache,
-        input: &mut Input<C>,
-    ) -> Result<Option<Match>, MatchError>
-        requires own { ∥ AreHalvesFor self.now.engine self.now.patterns (H.AreOf halves.now) ∥₁ }
-        requires cache { H.IsCache halves.now cache.old }
-        requires from_end { SeeksFromEnd self.now.engine.kind self.now.spans input.old }
-        ensures cache { H.IsCache halves.now cache.new }
-        ensures keeps { Keeps input.old input.new }
-        ensures found { IfOk result (λ found. found
-            ≡ answer_by self.now.engine.kind (engine_search self.now.engine input.old)) }
-        ensures within { IfOk result (λ found. IfSome found (IsWithinBounds input.old)) }
-    {
-        search::find_to_end(halves, cache, input, self.aim())
-    }
-
-    /// Returns the match by a DFA, by the route of the search. An `Err` says why the DFA has no
-    /// answer.
-    #[inline(always)]
-    fn find_by_tables<H: Halves, C: Cursor>(
-        &self,
-        halves: &H,
-        cache: &mut H::Cache,
-        input: &mut Input<C>,
-    ) -> Result<Option<Match>, MatchError>
-        requires own { ∥ AreHalvesFor self.now.engine self.now.patterns (H.AreOf halves.now) ∥₁ }
-        requires cache { H.IsCache halves.now cache.old }
-        ensures cache { H.IsCache halves.now cache.new }
-        ensures keeps { Keeps input.old input.new }
-        ensures found { IfOk result (λ found. found
-            ≡ answer_by self.now.engine.kind (engine_search self.now.engine input.old)) }
-        ensures within { IfOk result (λ found. IfSome found (IsWithinBounds input.old)) }
-    {
-        match self.route(input) {
-            Route::FromStart => find_from_start(self, halves, cache, input),
-            Route::FromEnd => self.find_from_end(halves, cache, input),
-            Route::GreatestFromEnd => find_greatest_from_end(self, halves, cache, input),
-            Route::OfLength(length, guard) => {
-                self.find_of_length(halves, cache, input, length, guard)
-            }
-            Route::Along(guard) => self.find_along(halves, cache, input, guard),
-        }
-    }
-
-    /// Returns the match by a DFA, from literal to literal if there is a guard. An `Err` says why
-    /// the DFA has no answer.
-    #[inline(always)]
-    fn find_along<H: Halves, C: Cursor>(
-        &self,
-        halves: &H,
-        cache: &mut H::Cache,
-        input: &mut Input<C>,
-        guard: Option<Guard>,
-    ) -> Result<Option<Match>, MatchError>
-        requires own { ∥ AreHalvesFor self.now.engine self.now.patterns (H.AreOf halves.now) ∥₁ }
-        requires cache { H.IsCache halves.now cache.old }
-        requires guards { MayGuard self.now.engine guard }
-        ensures cache { H.IsCache halves.now cache.new }
-        ensures keeps { Keeps input.old input.new }
-        ensures found { IfOk result (λ found. found
-            ≡ answer_by self.now.engine.kind (engine_search self.now.engine input.old)) }
-        ensures within { IfOk result (λ found. IfSome found (IsWithinBounds input.old)) }
-    {
-        if let Some(guard) = guard {
-            return self.find_by_needles(halves, cache, input, guard);
-        }
-        match guards_of(&self.engine.literals) {
-            Some(needles) => self.find_past_quit(halves, cache, input, needles),
-            None => search::find(halves, cache, input, self.aim()),
-        }
-    }
-
-    /// Returns the match by a DFA and by literals whose search is fast. If each match begins with
-    /// one, the first literal is tried first by an anchored run. An `Err` says why the DFA has no
-    /// answer.
-    #[inline(always)]
-    fn find_by_needles<H: Halves, C: Cursor>(
-        &self,
-        halves: &H,
-        cache: &mut H::Cache,
-        input: &mut Input<C>,
-        guard: Guard,
-    ) -> Result<Option<Match>, MatchError>
-        requires own { ∥ AreHalvesFor self.now.engine self.now.patterns (H.AreOf halves.now) ∥₁ }
-        requires cache { H.IsCache halves.now cache.old }
-        requires guards { IsGuard (places_of self.now.engine.program.places.items)
-            self.now.engine.program.terminator guard }
-        ensures cache { H.IsCache halves.now cache.new }
-        ensures keeps { Keeps input.old input.new }
-        ensures found { IfOk result (λ found. found
-            ≡ answer_by self.now.engine.kind (engine_search self.now.engine input.old)) }
-        ensures within { IfOk result (λ found. IfSome found (IsWithinBounds input.old)) }
-    {
-        let aim = self.aim();
-        match guard {
-            Guard::Begins(needles) => find_first(halves, cache, input, aim, needles, true),
-            Guard::Holds(_) => find_guarded(halves, cache, input, aim, guard),
-        }
-    }
-
-    /// Returns the match by a DFA and by slow prefix literals: an anchored run is tried where the
-    /// first match may begin, and then the search goes on from there. If the DFA quits, it searches
-    /// once more, from literal to literal: then it reads fewer bytes, and may not come to one that
-    /// it may not read. An `Err` says why the DFA has no answer.
-    #[inline(always)]
-    fn find_past_quit<H: Halves, C: Cursor>(
-        &self,
-        halves: &H,
-        cache: &mut H::Cache,
-        input: &mut Input<C>,
-        needles: &Prefilter,
-    ) -> Result<Option<Match>, MatchError>
-        requires own { ∥ AreHalvesFor self.now.engine self.now.patterns (H.AreOf halves.now) ∥₁ }
-        requires cache { H.IsCache halves.now cache.old }
-        requires guards { Guards (places_of self.now.engine.program.places.items)
-            self.now.engine.program.terminator (needles_of needles.now) }
-        ensures cache { H.IsCache halves.now cache.new }
-        ensures keeps { Keeps input.old input.new }
-        ensures found { IfOk result (λ found. found
-            ≡ answer_by self.now.engine.kind (engine_search self.now.engine input.old)) }
-        ensures within { IfOk result (λ found. IfSome found (IsWithinBounds input.old)) }
-    {
-        let aim = self.aim();
-        let found = find_first(halves, cache, input, aim, needles, false);
-        if let Err(MatchError::Quit { .. }) = found {
-            return find_guarded(halves, cache, input, aim, Guard::Begins(needles));
-        }
-        found
-    }
-
-    /// Returns the end of the leftmost match and its pattern, by DFA searches forwards alone, from
-    /// literal to literal if there is a guard. An `Err` says why the DFA has no answer.
-    fn find_first_end<H: Halves, C: Cursor>(
-        &self,
-        halves: &H,
-        cache: &mut H::Cache,
-        input: &mut Input<C>,
-        guard: Option<Guard>,
-    ) -> Result<Option<HalfMatch>, MatchError>
-        requires own { ∥ AreHalvesFor self.now.engine self.now.patterns (H.AreOf halves.now) ∥₁ }
-        requires cache { H.IsCache halves.now cache.old }
-        requires guards { MayGuard self.now.engine guard }
-        requires kind { is_leftmost self.now.engine.kind ≡ true }
-        ensures cache { H.IsCache halves.now cache.new }
-        ensures keeps { Keeps input.old input.new }
-        ensures found { IfOk result (λ found. found
-            ≡ option_map half_of (answer_by self.now.engine.kind
-            (engine_search self.now.engine input.old))) }
-        ensures within { IfOk result (λ found. IfSome found
-            (λ half. (low input.old ≤ half.offset) × (half.offset ≤ high input.old))) }
-    {
-        let aim = self.aim();
-        match guard {
-            Some(guard) => find_end_guarded(halves, cache, input, aim, guard),
-            None => search::find_end(halves, cache, input, aim),
-        }
-    }
-
-    /// Returns the leftmost match, if each match has this length in bytes: its start is its end
-    /// less the length, so nothing is searched backwards. An `Err` says why the DFA has no answer.
-    fn find_of_length<H: Halves, C: Cursor>(
-        &self,
-        halves: &H,
-        cache: &mut H::Cache,
-        input: &mut Input<C>,
-        length: usize,
-        guard: Option<Guard>,
-    ) -> Result<Option<Match>, MatchError>
-        requires own { ∥ AreHalvesFor self.now.engine self.now.patterns (H.AreOf halves.now) ∥₁ }
-        requires cache { H.IsCache halves.now cache.old }
-        requires guards { MayGuard self.now.engine guard }
-        requires kind { is_leftmost self.now.engine.kind ≡ true }
-        requires length { IsOneLength self.now.spans length }
-        ensures cache { H.IsCache halves.now cache.new }
-        ensures keeps { Keeps input.old input.new }
-        ensures found { IfOk result (λ found. found
-            ≡ answer_by self.now.engine.kind (engine_search self.now.engine input.old)) }
-        ensures within { IfOk result (λ found. IfSome found (IsWithinBounds input.old)) }
-    {
-        let Some(half) = self.find_first_end(halves, cache, input, guard)? else {
-            return Ok(None);
-        };
-        let end = half.offset();
-        let start = end.saturating_sub(length);
-        Ok(Some(Match::new(half.pattern(), Span { start, end })))
-    }
-
-    /// Returns the end of the match by a DFA, and its pattern. With `MatchKind::All`, the pattern
-    /// is known only with the start. If each match ends where the search does, a start must be
-    /// found to know that there is a match. An `Err` says why the DFA has no answer.
-    fn find_end_by_tables<H: Halves, C: Cursor>(
-        &self,
-        halves: &H,
-        cache: &mut H::Cache,
-        input: &mut Input<C>,
-    ) -> Result<Option<HalfMatch>, MatchError>
-        requires own { ∥ AreHalvesFor self.now.engine self.now.patterns (H.AreOf halves.now) ∥₁ }
-        requires cache { H.IsCache halves.now cache.old }
-        ensures cache { H.IsCache halves.now cache.new }
-        ensures keeps { Keeps input.old input.new }
-        ensures found { IfOk result (λ found. found
-            ≡ option_map half_of (answer_by self.now.engine.kind
-            (engine_search self.now.engine input.old))) }
-        ensures within { IfOk result (λ found. IfSome found
-            (λ half. (low input.old ≤ half.offset) × (half.offset ≤ high input.old))) }
-    {
-        match self.route(input) {
-            Route::FromStart => Ok(half_of(find_from_start(self, halves, cache, input)?)),
-            Route::FromEnd => Ok(half_of(self.find_from_end(halves, cache, input)?)),
-            Route::GreatestFromEnd => {
-                Ok(half_of(find_greatest_from_end(self, halves, cache, input)?))
-            }
-            Route::OfLength(_, guard) => self.find_first_end(halves, cache, input, guard),
-            Route::Along(guard) => self.find_end_along(halves, cache, input, guard),
-        }
-    }
-
-    /// Returns the end of the match that `find_along` returns, and its pattern. For a leftmost
-    /// match, it only searches forwards.
-    fn find_end_along<H: Halves, C: Cursor>(
-        &self,
-        halves: &H,
-        cache: &mut H::Cache,
-        input: &mut Input<C>,
-        guard: Option<Guard>,
-    ) -> Result<Option<HalfMatch>, MatchError>
-        requires own { ∥ AreHalvesFor self.now.engine self.now.patterns (H.AreOf halves.now) ∥₁ }
-        requires cache { H.IsCache halves.now cache.old }
-        requires guards { MayGuard self.now.engine guard }
-        ensures cache { H.IsCache halves.now cache.new }
-        ensures keeps { Keeps input.old input.new }
-        ensures found { IfOk result (λ found. found
-            ≡ option_map half_of (answer_by self.now.engine.kind
-            (engine_search self.now.engine input.old))) }
-        ensures within { IfOk result (λ found. IfSome found
-            (λ half. (low input.old ≤ half.offset) × (half.offset ≤ high input.old))) }
-    {
-        match self.engine.kind {
-            MatchKind::LeftmostFirst | MatchKind::LeftmostLongest => {
-                self.find_first_end(halves, cache, input, guard)
-            }
-            MatchKind::All => Ok(half_of(self.find_along(halves, cache, input, guard)?)),
-        }
-    }
-
-    /// Returns the match by the DFA, or else by the lazy DFA if the cache has its states. Returns
-    /// None if there is neither, or it has no answer.
-    pub(crate) fn find_in<C: Cursor>(
-        &self,
-        cache: &mut Option<lazy::Cache>,
-        input: &mut Input<C>,
-    ) -> Option<Option<Match>>
-        requires made { IsCacheOfBoth self.now.lazy cache.old }
-        ensures keeps { Keeps input.old input.new }
-        ensures found { IfSome result (λ found. found
-            ≡ answer_by self.now.engine.kind (engine_search self.now.engine input.old)) }
-        ensures within { IfSome result (λ found. IfSome found (IsWithinBounds input.old)) }
-        ensures cache { KeepsStates self.now.lazy cache.old cache.new }
-    {
-        match self.table_choice(cache.is_some()) {
-            TableChoice::AllStates(tables) => self.find_by_tables(tables, &mut NoCache, input).ok(),
-            TableChoice::MetStates(tables) => {
-                let Some(states) = cache else {
-                    return None;
-                };
-                self.find_by_tables(tables, states, input).ok()
-            }
-            TableChoice::NoTables => None,
-        }
-    }
-
-    /// Returns the end of the match and its pattern by the DFA, or else by the lazy DFA if the
-    /// cache has its states. Returns None if there is neither, or it has no answer.
-    pub(crate) fn find_end_in<C: Cursor>(
-        &self,
-        cache: &mut Option<lazy::Cache>,
-        input: &mut Input<C>,
-    ) -> Option<Option<HalfMatch>>
-        requires made { IsCacheOfBoth self.now.lazy cache.old }
-        ensures keeps { Keeps input.old input.new }
-        ensures found { IfSome result (λ found. found
-            ≡ option_map half_of (answer_by self.now.engine.kind
-            (engine_search self.now.engine input.old))) }
-        ensures within { IfSome result (λ found. IfSome found
-            (λ half. (low input.old ≤ half.offset) × (half.offset ≤ high input.old))) }
-        ensures cache { KeepsStates self.now.lazy cache.old cache.new }
-    {
-        match self.table_choice(cache.is_some()) {
-            TableChoice::AllStates(tables) => self
-                .find_end_by_tables(tables, &mut NoCache, input)
-                .ok(),
-            TableChoice::MetStates(tables) => {
-                let Some(states) = cache else {
-                    return None;
-                };
-                self.find_end_by_tables(tables, states, input).ok()
-            }
-            TableChoice::NoTables => None,
-        }
-    }
-
     /// Whether a search finds a match. It allocates nothing but states of the lazy DFA. Unless
     /// matches are passed over, the search ends at the first position at which some match does.
     pub fn is_match<C: Cursor>(&self, cache: &mut Cache, input: &mut Input<C>) -> bool
@@ -508,20 +204,26 @@ impl Engines {
             (answer_by self.now.engine.kind (engine_search self.now.engine input.old)) }
         ensures cache { IsSameCacheIn self.now cache.old cache.new }
     {
-        if self.spans.leave_none(input) {
-            return false;
-        }
-        if let Some(found) = self.any_in(&mut cache.lazy, input) {
-            return found;
-        }
-        self.engine.is_match(&mut cache.pass, input)
+        self.ask(cache, input, Question::Any).is_some()
     }
 
-    /// Returns the match of a search. If the lengths and anchors of the patterns rule a match out
-    /// between the bounds, nothing is searched. Else literals decide the match if they alone can,
-    /// else a DFA. If there is no DFA, or it quits or gives up, the Pike VM searches. The earliest
-    /// flag is not read. It allocates nothing but states that the lazy DFA reaches for the first
-    /// time, within the cache's capacity. If that is refused, the Pike VM searches.
+    /// Whether a search finds a match, with a cache that is made for this search. `Err` means out
+    /// of memory.
+    pub fn is_match_once<C: Cursor>(
+        &self,
+        alloc: Global,
+        input: &mut Input<C>,
+    ) -> Result<bool, AllocError>
+        ensures keeps { Keeps input.old input.new }
+        ensures found { IfOk result (λ b. b
+            ≡ is_some (answer_by self.now.engine.kind (engine_search self.now.engine input.old))) }
+    {
+        let found = self.ask_once(alloc, input, Question::Any)?;
+        Ok(found.is_some())
+    }
+
+    /// Returns the match of a search. The earliest flag is not read. It allocates nothing but
+    /// states that the lazy DFA reaches for the first time, within the cache's capacity.
     pub fn find<C: Cursor>(&self, cache: &mut Cache, input: &mut Input<C>) -> Option<Match>
         requires made { IsCacheIn self.now 0 cache.old }
         ensures keeps { Keeps input.old input.new }
@@ -530,33 +232,91 @@ impl Engines {
         ensures within { IfSome result (IsWithinBounds input.old) }
         ensures cache { IsSameCacheIn self.now cache.old cache.new }
     {
-        if self.spans.leave_none(input) {
-            return None;
-        }
-        if let Some(found) = self.find_in(&mut cache.lazy, input) {
-            return found;
-        }
-        self.engine.find(&mut cache.pass, input)
+        self.ask(cache, input, Question::Match)
     }
 
-    /// Returns the end of the match that `find` returns, and its pattern. It allocates only what
-    /// `find` does. For a leftmost match that a DFA finds, nothing is searched backwards.
-    pub fn find_end<C: Cursor>(&self, cache: &mut Cache, input: &mut Input<C>) -> Option<HalfMatch>
+    /// Returns the question of a search: `Earliest` if the input's earliest flag is on and no match
+    /// is passed over, else the one that is given.
+    #[inline(always)]
+    fn question_for<C: Cursor>(&self, input: &Input<C>, question: Question) -> Question
+        ensures { result ≡ question_by (is_early input.now.earliest
+            (engine_search self.now.engine input.now)) question }
+    {
+        if input.get_earliest() && !self.engine.program.passes_over {
+            return Question::Earliest;
+        }
+        question
+    }
+
+    /// Returns the match of a search, under the input's earliest flag. If the flag is off, or
+    /// matches are passed over, that is the one of `find`. Else it is some match, and nothing is
+    /// read beyond the first position at which a match ends, unless each match ends where the slice
+    /// does, or literals alone decide. Up to there the text is read once more, and by a DFA
+    /// backwards. It allocates only what `find` does.
+    pub fn search<C: Cursor>(&self, cache: &mut Cache, input: &mut Input<C>) -> Option<Match>
         requires made { IsCacheIn self.now 0 cache.old }
         ensures keeps { Keeps input.old input.new }
-        ensures found { result ≡ option_map half_of
-            (answer_by self.now.engine.kind (engine_search self.now.engine input.old)) }
+        ensures may { IsAnswerBy self.now.engine.kind input.old.earliest
+            (engine_search self.now.engine input.old) result }
+        ensures within { IfSome result (IsWithinBounds input.old) }
+        ensures cache { IsSameCacheIn self.now cache.old cache.new }
+    {
+        let question = self.question_for(input, Question::Match);
+        self.ask(cache, input, question)
+    }
+
+    /// Returns the end of the match that `search` returns, and its pattern. For a leftmost match
+    /// that a DFA finds, nothing is searched backwards, unless the earliest flag is on.
+    pub fn search_end<C: Cursor>(
+        &self,
+        cache: &mut Cache,
+        input: &mut Input<C>,
+    ) -> Option<HalfMatch>
+        requires made { IsCacheIn self.now 0 cache.old }
+        ensures keeps { Keeps input.old input.new }
+        ensures may { IsHalfBy self.now.engine.kind input.old.earliest
+            (engine_search self.now.engine input.old) result }
         ensures within { IfSome result (λ half. (low input.old ≤ half.offset)
             × (half.offset ≤ high input.old)) }
         ensures cache { IsSameCacheIn self.now cache.old cache.new }
     {
-        if self.spans.leave_none(input) {
-            return None;
-        }
-        if let Some(found) = self.find_end_in(&mut cache.lazy, input) {
-            return found;
-        }
-        half_of(self.engine.find(&mut cache.pass, input))
+        let question = self.question_for(input, Question::End);
+        half_of(self.ask(cache, input, question))
+    }
+
+    /// Returns the match that `search` returns, with a cache that is made for this search. Only
+    /// what the search needs is made: nothing for the DFA, and the Pike VM's lists only if no DFA
+    /// has an answer. `Err` means out of memory.
+    pub fn search_once<C: Cursor>(
+        &self,
+        alloc: Global,
+        input: &mut Input<C>,
+    ) -> Result<Option<Match>, AllocError>
+        ensures keeps { Keeps input.old input.new }
+        ensures may { IfOk result (IsAnswerBy self.now.engine.kind input.old.earliest
+            (engine_search self.now.engine input.old)) }
+        ensures within { IfOk result (λ found. IfSome found (IsWithinBounds input.old)) }
+    {
+        let question = self.question_for(input, Question::Match);
+        self.ask_once(alloc, input, question)
+    }
+
+    /// Returns the end of the match that `search_once` returns, and its pattern. `Err` means out of
+    /// memory.
+    pub fn search_end_once<C: Cursor>(
+        &self,
+        alloc: Global,
+        input: &mut Input<C>,
+    ) -> Result<Option<HalfMatch>, AllocError>
+        ensures keeps { Keeps input.old input.new }
+        ensures may { IfOk result (IsHalfBy self.now.engine.kind input.old.earliest
+            (engine_search self.now.engine input.old)) }
+        ensures within { IfOk result (λ found. IfSome found
+            (λ half. (low input.old ≤ half.offset) × (half.offset ≤ high input.old))) }
+    {
+        let question = self.question_for(input, Question::End);
+        let found = self.ask_once(alloc, input, question)?;
+        Ok(half_of(found))
     }
 
     /// Whether a search without a DFA finds the match alone before its groups: if literals decide
@@ -593,7 +353,7 @@ impl Engines {
         if self.spans.leave_none(input) {
             return None;
         }
-        if let Some(found) = self.find_in(&mut cache.lazy, input) {
+        if let Some(found) = self.ask_tables(&mut cache.lazy, input, Question::Match) {
             let found = found?;
             let pass = &mut cache.pass;
             fill_slots(&self.engine, pass, input, self.patterns, found, slots);
@@ -659,15 +419,5 @@ impl Engines {
         captures::clear(caps);
         let pattern = self.find_slots(cache, input, caps.slots_mut());
         captures::set_pattern(caps, pattern);
-    }
-}
-
-/// Returns the pattern and the end of a match, if there is one.
-pub(crate) fn half_of(found: Option<Match>) -> Option<HalfMatch>
-    ensures { result ≡ option_map half_of found }
-{
-    match found {
-        Some(found) => Some(HalfMatch::new(found.pattern(), found.end())),
-        None => None,
     }
 }

@@ -323,3 +323,31 @@ pub(crate) fn find_first<H: Halves, C: Cursor>(
     }
     find(halves, cache, input, aim)
 }
+
+/// Returns the match that `find` returns, if each match begins with a needle and the search for
+/// these is slow. If the DFA quits, it searches once more, from needle to needle: then it reads
+/// fewer bytes, and may not come to one that it may not read. An `Err` says why the DFA has no
+/// answer.
+#[inline(always)]
+pub(crate) fn find_past_quit<H: Halves, C: Cursor>(
+    halves: &H,
+    cache: &mut H::Cache,
+    input: &mut Input<C>,
+    aim: Aim,
+    needles: &Prefilter,
+) -> Result<Option<Match>, MatchError>
+    requires cache { H.IsCache halves.now cache.old }
+    ensures cache { H.IsCache halves.now cache.new }
+    ensures keeps { Keeps input.old input.new }
+    ensures found { (hs : List Re) (terminator : ℕ)
+        → AreHalvesOf (H.AreOf halves.now) aim hs terminator
+        → Guards (program hs) terminator (needles_of needles.now)
+        → IfOk result (IsAnswerBy aim.kind aim.earliest (search_for aim hs terminator input.old)) }
+    ensures within { IfOk result (λ found. IfSome found (IsWithinBounds input.old)) }
+{
+    let found = find_first(halves, cache, input, aim, needles, false);
+    if let Err(MatchError::Quit { .. }) = found {
+        return find_guarded(halves, cache, input, aim, Guard::Begins(needles));
+    }
+    found
+}

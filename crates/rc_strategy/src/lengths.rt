@@ -33,10 +33,10 @@ fn greater(left: Option<usize>, right: Option<usize>) -> Option<usize>
 }
 
 impl Lengths {
-    ghost use Rattle.std.specs.Prelude.{◌≡◌, ◌↔◌, map, All, IfSome, IsTrue};
+    ghost use Rattle.std.specs.Prelude.{◌≡◌, map, All, IfSome};
     ghost use Rattle.rc_text.specs.Text.{Keeps, high};
     ghost use Rattle.rc_pattern.specs.Meaning.{meaning};
-    ghost use Rattle.rc_strategy.specs.Lengths.{BeginAtLow, Bounds, EndAlone, IsOneLength, either, are_longer, are_shorter, begin_early, end_late, leave_none, must_fill};
+    ghost use Rattle.rc_strategy.specs.Lengths.{Bounds, IsOneLength, either, are_longer, are_shorter, begin_early, end_late, leave_none, must_fill};
 
     /// Returns the lengths and anchors of this pattern's spans.
     fn of_one(hir: &Hir) -> Lengths
@@ -87,12 +87,20 @@ impl Lengths {
         self.begins && input.get_slice_span().start < low(input)
     }
 
-    /// Whether each span begins where the slice does, and so does the search.
+    /// Whether each span begins where the slice does.
     #[inline(always)]
-    pub fn begin_at_low<C: Cursor>(&self, input: &Input<C>) -> bool
-        ensures { IsTrue result ↔ BeginAtLow self.now input.now }
+    pub(crate) fn begin_there(&self) -> bool
+        ensures { result ≡ self.now.begins }
     {
-        self.begins && low(input) <= input.get_slice_span().start
+        self.begins
+    }
+
+    /// Whether each span ends where the slice does.
+    #[inline(always)]
+    pub(crate) fn end_there(&self) -> bool
+        ensures { result ≡ self.now.ends }
+    {
+        self.ends
     }
 
     /// Whether each span ends where the slice does, but the search ends earlier, at `end`.
@@ -133,22 +141,13 @@ impl Lengths {
     }
 
     /// Returns the length of each span in bytes, if all are known to have the same.
-    #[inline(always)]
-    pub fn only_length(&self) -> Option<usize>
+    pub(crate) fn only_length(&self) -> Option<usize>
         ensures { IfSome result (λ n. IsOneLength self.now n) }
     {
         match self.greatest {
             Some(most) if most == self.least => Some(most),
             _ => None,
         }
-    }
-
-    /// Whether each span ends where the slice does, and not each begins where it does.
-    #[inline(always)]
-    pub fn end_alone(&self) -> bool
-        ensures { IsTrue result ↔ EndAlone self.now }
-    {
-        self.ends && !self.begins
     }
 
     /// Whether there can be no match. Each would begin before the search or end after it, or be

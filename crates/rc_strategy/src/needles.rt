@@ -1,5 +1,5 @@
-//! Prefilters: DFA searches for any match that go from literal to literal. Positions are in bytes
-//! of the whole content.
+//! Prefilters: DFA searches that go from literal to literal. Positions are in bytes of the whole
+//! content.
 ghost use Rattle.std.specs.Prelude.{◌≡◌, ◌↔◌, ◌≤◌, ℕ, List, IsTrue, IfOk, IfNone, IfSome};
 ghost use Rattle.rc_text.specs.Bounds.{IsWithinBounds};
 ghost use Rattle.rc_text.specs.Text.{Keeps, low, high};
@@ -13,10 +13,11 @@ ghost use Rattle.rc_dfa_search.specs.Legs.{GoesByNeedles};
 ghost use Rattle.rc_dfa_search.specs.Rests.{GivesToo, StartsGive};
 ghost use Rattle.rc_strategy.specs.Jumps.{ComesOn, GoesEarly, Tells, idle_hint, hint_of, met_hint};
 
-use crate::first::find_later;
+use crate::first::{find_first, find_later};
 use rc_dfa::ended::{Ended, Met};
 use rc_dfa::halves::Halves;
-use rc_dfa_search::search::{Aim, find};
+use rc_dfa_search::guarded::find_guarded;
+use rc_dfa_search::search::Aim;
 use rc_literals::guard::{Guard, next_start};
 use rc_text::cursor::Cursor;
 use rc_text::input::{Input, high, low};
@@ -146,6 +147,7 @@ fn start_by_needles<H: Halves, C: Cursor>(
 /// Whether a search for any match goes from needle to needle. It must not be anchored, its kind
 /// must be leftmost-first or leftmost-longest, the earliest flag must be on, and no match may be
 /// passed over.
+#[inline(always)]
 fn goes_early(aim: Aim, anchored: Anchored) -> bool
     ensures { IsTrue result ↔ GoesEarly aim anchored }
 {
@@ -187,10 +189,11 @@ fn find_by_needles<H: Halves, C: Cursor>(
 }
 
 /// Returns the match that `find` returns, by needles that guard the patterns: each match begins
-/// with one of them, or contains one. The search goes from needle to needle while nothing is under
-/// way, if it isn't anchored, is leftmost, any match is enough, and none is passed over. Every
-/// other search is that of `find`.
-pub(crate) fn find_early_guarded<H: Halves, C: Cursor>(
+/// with one of them, or contains one. A leftmost search that isn't anchored and passes no match
+/// over goes from needle to needle: if any match is enough, while nothing is under way; else, if
+/// each match begins with a needle, after it tried the first. Every other search is that of `find`.
+#[inline(always)]
+pub(crate) fn find_by_guard<H: Halves, C: Cursor>(
     halves: &H,
     cache: &mut H::Cache,
     input: &mut Input<C>,
@@ -209,5 +212,8 @@ pub(crate) fn find_early_guarded<H: Halves, C: Cursor>(
     if goes_early(aim, input.get_anchored()) {
         return find_by_needles(halves, cache, input, aim, guard);
     }
-    find(halves, cache, input, aim)
+    match guard {
+        Guard::Begins(needles) => find_first(halves, cache, input, aim, needles, true),
+        Guard::Holds(_) => find_guarded(halves, cache, input, aim, guard),
+    }
 }

@@ -1,6 +1,9 @@
-//! Meta strategy: which engine serves a search, and in which direction a DFA searches first.
+//! Meta strategy: which DFA serves a search, and how the search goes.
+ghost use Rattle.rc_text.specs.declared.types.Anchored.TheVariants.{No};
+ghost use Rattle.rc_strategy.specs.Routes.{Serves, ServesAll};
 
 use crate::engines::Engines;
+use crate::lengths::Lengths;
 use rc_dense_dfa::dense::Dense;
 use rc_lazy_dfa::lazy::Lazy;
 use rc_literals::guard::Guard;
@@ -20,26 +23,49 @@ pub(crate) enum TableChoice<'a> {
     NoTables,
 }
 
-/// How a DFA search goes.
+/// How a DFA search goes. It is chosen when the engines are built.
 #[derive(Clone, Copy)]
-pub(crate) enum Route<'a> {
+pub(crate) enum Route {
     /// Forwards, anchored where the search starts.
     FromStart,
-    /// Backwards from the end of the search, for the leftmost match.
+    /// Backwards from the end of the search.
     FromEnd,
-    /// Backwards from the end of the search, for the greatest match.
-    GreatestFromEnd,
-    /// Forwards to the end of a match of this length in bytes, from literal to literal if there is
-    /// a guard. Nothing is searched backwards.
-    OfLength(usize, Option<Guard<'a>>),
-    /// Forwards, from literal to literal if there is a guard, and then backwards.
-    Along(Option<Guard<'a>>),
+    /// Forwards to the end of a match of this length in bytes. Nothing is searched backwards.
+    OfLength(usize),
+    /// Forwards, and then backwards.
+    Along,
+}
+
+/// Returns how an anchored search goes.
+pub(crate) fn anchored_route(kind: MatchKind, lengths: &Lengths) -> Route
+    ensures { ServesAll kind lengths.now result }
+{
+    match (kind, lengths.only_length()) {
+        (MatchKind::LeftmostFirst | MatchKind::LeftmostLongest, Some(length)) => {
+            Route::OfLength(length)
+        }
+        _ => Route::Along,
+    }
+}
+
+/// Returns how a search goes that isn't anchored: the first route that fits.
+pub(crate) fn free_route(kind: MatchKind, lengths: &Lengths) -> Route
+    ensures { Serves kind lengths.now No result }
+{
+    if lengths.begin_there() {
+        return Route::FromStart;
+    }
+    if lengths.end_there() {
+        return Route::FromEnd;
+    }
+    anchored_route(kind, lengths)
 }
 
 impl Engines {
-    ghost use Rattle.std.specs.Prelude.{◌≡◌, ◌↔◌, true, IfSome, IsTrue};
-    ghost use Rattle.rc_strategy.specs.Route.{GoesBy, MayGuard, Relies};
-    ghost use Rattle.rc_strategy.specs.Lengths.{IsOneLength, SeeksFromEnd, SeeksFromStart, SeeksGreatestFromEnd, is_leftmost};
+    ghost use Rattle.std.specs.Prelude.{◌≡◌};
+    ghost use Rattle.rc_strategy.specs.Lengths.{IsHeld};
+    ghost use Rattle.rc_strategy.specs.Route.{GoesBy};
+    ghost use Rattle.rc_strategy.specs.Routes.{MayGuard, Serves};
 
     /// Returns which DFA a search uses: the DFA if there is one; else the lazy DFA, if there is one
     /// and `has_states` says that a cache has its states.
@@ -59,81 +85,21 @@ impl Engines {
         }
     }
 
-    /// Returns how a DFA search of this input goes: the first route that fits.
+    /// Returns how a DFA search of this input goes.
     #[inline(always)]
     pub(crate) fn route<C: Cursor>(&self, input: &Input<C>) -> Route
-        ensures { Relies self.now input.now result }
-    {
-        if self.seeks_from_start(input) {
-            return Route::FromStart;
-        }
-        if self.seeks_from_end(input) {
-            return Route::FromEnd;
-        }
-        if self.seeks_greatest_from_end(input) {
-            return Route::GreatestFromEnd;
-        }
-        match self.only_length() {
-            Some(length) => Route::OfLength(length, self.guard()),
-            None => Route::Along(self.guard()),
-        }
-    }
-
-    /// Whether a search is anchored where it starts: each match begins where the slice does, and so
-    /// does the search, which isn't anchored.
-    #[inline(always)]
-    pub(crate) fn seeks_from_start<C: Cursor>(&self, input: &Input<C>) -> bool
-        ensures { IsTrue result ↔ SeeksFromStart self.now.spans input.now }
+        ensures { Serves self.now.engine.kind self.now.spans input.now.anchored result }
     {
         match input.get_anchored() {
-            Anchored::No => self.spans.begin_at_low(input),
-            _ => false,
-        }
-    }
-
-    /// Whether the leftmost match is searched for backwards from the end: each match ends where the
-    /// slice does, not each begins where it does, and the search isn't anchored.
-    #[inline(always)]
-    fn seeks_from_end<C: Cursor>(&self, input: &Input<C>) -> bool
-        ensures { IsTrue result ↔ SeeksFromEnd self.now.engine.kind self.now.spans input.now }
-    {
-        match (self.engine.kind, input.get_anchored()) {
-            (MatchKind::LeftmostFirst | MatchKind::LeftmostLongest, Anchored::No) => {
-                self.spans.end_alone()
-            }
-            _ => false,
-        }
-    }
-
-    /// Whether the greatest match is searched for backwards from the end: each match ends where the
-    /// slice does, not each begins where it does, and the search isn't anchored.
-    #[inline(always)]
-    fn seeks_greatest_from_end<C: Cursor>(&self, input: &Input<C>) -> bool
-        ensures { IsTrue result ↔ SeeksGreatestFromEnd self.now.engine.kind self.now.spans
-            input.now }
-    {
-        match (self.engine.kind, input.get_anchored()) {
-            (MatchKind::All, Anchored::No) => self.spans.end_alone(),
-            _ => false,
-        }
-    }
-
-    /// Returns the length of each match in bytes, if all have the same and the kind is leftmost.
-    #[inline(always)]
-    fn only_length(&self) -> Option<usize>
-        ensures { IfSome result (λ n. (is_leftmost self.now.engine.kind ≡ true)
-            × IsOneLength self.now.spans n) }
-    {
-        match self.engine.kind {
-            MatchKind::LeftmostFirst | MatchKind::LeftmostLongest => self.spans.only_length(),
-            MatchKind::All => None,
+            Anchored::No => self.free_route,
+            _ => self.anchored_route,
         }
     }
 
     /// Returns the literals by which a search goes from literal to literal: prefix literals if the
     /// search for them is fast, else required ones.
     #[inline(always)]
-    fn guard(&self) -> Option<Guard>
+    pub(crate) fn guard(&self) -> Option<Guard>
         ensures { MayGuard self.now.engine result }
     {
         if self.sought_fast {
@@ -144,6 +110,18 @@ impl Engines {
         match &self.needs {
             Some(needs) => Some(Guard::Holds(needs)),
             None => None,
+        }
+    }
+
+    /// Anchors a search where it starts, if each match begins where the slice does.
+    pub(crate) fn hold<C: Cursor>(&self, input: &mut Input<C>)
+        ensures { IsHeld self.now.spans input.old input.new }
+    {
+        if !self.spans.begin_there() {
+            return;
+        }
+        if let Anchored::No = input.get_anchored() {
+            input.set_anchored(Anchored::Yes);
         }
     }
 }

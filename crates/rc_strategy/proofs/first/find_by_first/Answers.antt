@@ -1,6 +1,6 @@
 use Rattle.std.proofs.Common.{◌≡◌, ◌∙◌, ◌+◌, ◌<◌, ◌≤◌, ℕ, List, Option, Some, None, IfSome, arith, inl, inr, subst, sym, refl}
 use Rattle.std.specs.Prelude.{MatchOption}
-use Rattle.rc_text.specs.Text.{Keeps, low, high}
+use Rattle.rc_text.specs.Text.{Keeps, low}
 use Rattle.rc_pattern.specs.Re.{Re}
 use Rattle.rc_program.specs.Program.{program}
 use Rattle.rc_program.specs.Answer.{HasNoWalkFrom}

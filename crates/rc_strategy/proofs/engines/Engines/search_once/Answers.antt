@@ -1,0 +1,11 @@
+use Rattle.std.proofs.lemmas.Result.{IfOk-weaker}
+use Rattle.rc_pikevm_search.specs.Engine.{engine_search}
+use Rattle.rc_strategy.proofs.QuestionLemmas.{reply_may}
+use Rattle.rc_strategy.proofs.engines.Engines.search_once.Goals as goal
+
+pub returns-clause-may : goal.returns-clause-may
+returns-clause-may g c =
+    let e = c.args.self.now.engine in
+    IfOk-weaker c.ask_once.result _ _
+    (λ o h. reply_may c.question_for-question.result e.kind c.args.input.now.earliest (engine_search e c.args.input.now) o c.question_for-question.ensures h)
+    c.ask_once.ensures.reply
