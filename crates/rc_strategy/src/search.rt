@@ -243,7 +243,8 @@ impl Engines {
 
     /// Replies by the DFA, or else by the lazy DFA if the cache has its states. Returns None if
     /// there is neither, or it has no answer.
-    pub(crate) fn ask_tables<C: Cursor>(
+    #[inline(always)]
+    fn ask_dfa<C: Cursor>(
         &self,
         cache: &mut Option<lazy::Cache>,
         input: &mut Input<C>,
@@ -267,6 +268,29 @@ impl Engines {
                 self.ask_halves(tables, states, input, question).ok()
             }
             TableChoice::NoTables => None,
+        }
+    }
+
+    /// Replies as `ask_dfa` does. Each question has code of its own, so that a search tests what it
+    /// was asked for once.
+    pub(crate) fn ask_tables<C: Cursor>(
+        &self,
+        cache: &mut Option<lazy::Cache>,
+        input: &mut Input<C>,
+        question: Question,
+    ) -> Option<Option<Match>>
+        requires made { IsCacheOfBoth self.now.lazy cache.old }
+        ensures keeps { Keeps input.old input.new }
+        ensures reply { IfSome result (IsReply question self.now.engine.kind
+            (engine_search self.now.engine input.old)) }
+        ensures within { IfSome result (λ found. IfSome found (IsWithinBounds input.old)) }
+        ensures cache { KeepsStates self.now.lazy cache.old cache.new }
+    {
+        match question {
+            Question::Match => self.ask_dfa(cache, input, Question::Match),
+            Question::End => self.ask_dfa(cache, input, Question::End),
+            Question::Any => self.ask_dfa(cache, input, Question::Any),
+            Question::Earliest => self.ask_dfa(cache, input, Question::Earliest),
         }
     }
 
