@@ -7,6 +7,7 @@ ghost use Rattle.rc_pattern.specs.Meaning.{meaning, kind_meaning, class_meaning,
 ghost use Rattle.rc_pattern.specs.Dots.{dot_of};
 ghost use Rattle.rc_pattern.specs.Kinds.{has_plain_nodes, kind_has_plain_nodes, repetition_has_plain_nodes, capture_has_plain_nodes, all_have_plain_nodes};
 
+mod debug;
 mod dots;
 mod lengths;
 mod look_set;

@@ -4,6 +4,7 @@ ghost use Rattle.std.specs.Prelude.{IfOk};
 ghost use Rattle.api_pikevm.specs.Caches.{IsCacheFor};
 ghost use Rattle.api_pikevm.specs.Views.{sought};
 
+use crate::words::is_text;
 use regex_cursor::Input;
 use regex_cursor::engines::meta::BuildError;
 use regex_cursor::engines::pikevm::PikeVM;
@@ -286,6 +287,8 @@ fn a_tree_of_any_depth_is_refused_and_dropped(rt: HostRuntime) -> Result<(), Fai
         tree = deeper(alloc, tree, level)?;
     }
     assert!(rt; say_nothing(&tree.properties()));
+    let printed = "Alternation(Concat(..), Look(Start), Class(0 ranges of bytes))";
+    assert!(rt; is_text(format!(in alloc; "{tree:?}"), printed));
     let refused: Result<usize, BuildError> = Err(BuildError::IllFormed {
         pattern: PatternID::ZERO,
     });

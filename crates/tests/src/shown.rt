@@ -1,9 +1,10 @@
-//! What `{:?}` prints of inputs, searchers, captures, sets, regexes, builders, caches and iterators.
+//! What `{:?}` prints of inputs, searchers, captures, sets, patterns, regexes, caches and iterators.
 
 use crate::words::is_text;
 use regex_cursor::Input;
 use regex_cursor::engines::meta::Finder;
 use regex_cursor::engines::{dfa, hybrid, meta, pikevm};
+use regex_cursor::syntax::{Config, parse};
 use regex_cursor::types::{PatternID, PatternSet};
 use regex_cursor::util::iter::Searcher;
 use std::alloc::{AllocError, Global};
@@ -58,6 +59,27 @@ fn sets_and_groups(rt: HostRuntime) {
         "GroupInfo { names: [[Some(\"y\"), None]] } Captures { pattern: Some(PatternID { index: 0 }), \
         slots: [Some(0), Some(1), Some(0), Some(1), None, None] }";
     assert!(rt; is_text(groups(alloc), wanted));
+}
+
+/// Texts of patterns, each with what is printed of its tree.
+const PATTERNS: [(&str, &str); 4] = [
+    ("", "Empty"),
+    ("é ", r#"Literal("\xC3\xA9 ")"#),
+    (
+        "a(b|[cd])*?$",
+        r#"Concat(Literal("a"), Repetition(..), Look(End))"#,
+    ),
+    ("x{2,5}?", r#"Repetition(2..=5, lazy, Literal("x"))"#),
+];
+
+#[test]
+fn patterns(rt: HostRuntime) -> Result<(), Fail> {
+    let alloc = rt.alloc();
+    for (text, wanted) in &PATTERNS {
+        let tree = parse(alloc, text, &Config::new())?;
+        assert!(rt; is_text(text_of(alloc, tree), wanted), "{text}");
+    }
+    Ok(())
 }
 
 /// The lists of a regex, none of which has found anything yet.
