@@ -11,10 +11,10 @@ use Rattle.rc_class_sets.specs.Sets.{CodeSet, Denote}
 use Rattle.rc_class_sets.specs.Scalars.{below_surrogates, above_surrogates, cut}
 use Rattle.rc_class_sets.proofs.SetLemmas.{or_left, or_right, le_yes, within, inside, has_left, has_right, has_either}
 
-low_code : (c : ℕ) → c ≤ 0xD7FF → is_code true c ≡ true
+pub low_code : (c : ℕ) → c ≤ 0xD7FF → is_code true c ≡ true
 low_code c h = or_left (nat_lt c 0xD800) _ (grind (arith, h))
 
-high_code : (c : ℕ) → 0xE000 ≤ c → c ≤ 0x10FFFF → is_code true c ≡ true
+pub high_code : (c : ℕ) → 0xE000 ≤ c → c ≤ 0x10FFFF → is_code true c ≡ true
 high_code c h g = or_right (nat_lt c 0xD800) _ (grind (arith, h, g))
 
 and_both : (a b : Bool) → a ≡ true → b ≡ true → (a && b) ≡ true

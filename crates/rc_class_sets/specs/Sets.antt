@@ -35,3 +35,7 @@ pub record Denote (unicode : Bool) (p : CodeSet) (rs : List Range) : Type 0 wher
 pub record AreRangesOf (unicode : Bool) (p : CodeSet) (rs : List Range) : Type 0 where
   pub denote : Denote unicode p rs
   pub in_order : InOrder unicode 0 rs
+
+-- A set has one list of ranges.
+abbrev pub RangesLaw : Type 0
+RangesLaw = (unicode : Bool) (p : CodeSet) (rs qs : List Range) → AreRangesOf unicode p rs → AreRangesOf unicode p qs → rs ≡ qs

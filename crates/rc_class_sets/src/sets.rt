@@ -3,7 +3,7 @@
 ghost use Rattle.std.specs.Prelude.{◌≡◌, ◌++◌, ◌∷◌, [], IfOk, OnOk};
 ghost use Rattle.rc_tokens.specs.ClassView.{pairs};
 ghost use Rattle.rc_tokens.specs.Classes.{AreCodes};
-ghost use Rattle.rc_class_sets.specs.Sets.{CodeSet, Denote, AreRangesOf, union, intersection, difference, symmetric_difference, complement};
+ghost use Rattle.rc_class_sets.specs.Sets.{CodeSet, Denote, AreRangesOf, union, intersection, difference, symmetric_difference, complement, RangesLaw};
 
 use rc_tokens::classes::{CodeRange, class_of};
 use std::alloc::{AllocError, Global};
@@ -127,3 +127,8 @@ pub fn symmetric_difference(
     let only_right = difference(alloc, unicode, right, left)?;
     union(alloc, unicode, &only_left, &only_right)
 }
+
+/// A set has one list of ranges, so the contracts above tell each result exactly.
+pub fn ranges_are_one()
+    ensures { RangesLaw }
+{}
