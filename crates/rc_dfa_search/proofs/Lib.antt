@@ -24,3 +24,5 @@ pub mod NeedleLemmas
 pub mod RootLemmas
 pub mod ReverseEndLemmas
 pub mod SameLemmas
+pub mod JumpLemmas
+pub mod BeginLemmas

@@ -9,3 +9,5 @@ pub mod Aims
 pub mod Ends
 pub mod Rests
 pub mod Legs
+pub mod Firsts
+pub mod Jumps

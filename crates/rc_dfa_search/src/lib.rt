@@ -2,6 +2,9 @@
 #![tactic(auto)]
 
 pub mod build;
+mod early;
+pub mod first;
 pub mod guarded;
 pub mod laws;
+pub mod literals;
 pub mod search;

@@ -7,7 +7,7 @@ use Rattle.rc_text.specs.Text.{Searched, Keeps, KeepsText, high}
 use Rattle.rc_text.specs.declared.types.MatchKind.{MatchKind}
 use Rattle.rc_program.specs.Answer.{Search}
 use Rattle.rc_program.specs.Greatest.{IsSpelledIn, greatest}
-use Rattle.rc_program.specs.Kinds.{IsAnswerBy, IsAnswerWhere, answer_by, is_early}
+use Rattle.rc_program.specs.Kinds.{IsAnswerBy, answer_by, is_early}
 use Rattle.rc_program.proofs.GreatestLemmas.{greatest_law}
 use Rattle.rc_program.proofs.KindLemmas.{kind_spelled, kinds_law}
 use Rattle.rc_pikevm_search.specs.Engine.{engine_search}
@@ -60,10 +60,6 @@ pub none_may : (kind : MatchKind) (earliest : Bool) (s : Search) (b : Bool) → 
 none_may kind earliest s b told none early =
     let off = none_passed earliest s.passes_over early in
     (kinds_law.missing kind earliest s off).1 ((greatest_law.same_none s off).0 (nothing (greatest s) (sym told ∙ none)))
-
--- a span that is spelled is enough, where any is
-pub spelled_may : (kind : MatchKind) (earliest : Bool) (s : Search) (m : Found) → is_early earliest s ≡ true → IsSpelledIn s m → IsAnswerBy kind earliest s (Some m)
-spelled_may kind earliest s m early h = subst (λ b. IsAnswerWhere b kind s (Some m)) (sym early) h
 
 -- the half of an answer
 pub half_may : (kind : MatchKind) (earliest : Bool) (s : Search) (o : Option Found) (half : Option HalfFound) → IsAnswerBy kind earliest s o → half ≡ option_map half_of o →

@@ -11,8 +11,6 @@ pub mod KeptLemmas
 pub mod PatternLemmas
 pub mod EarlyLemmas
 pub mod QuestionLemmas
-pub mod JumpLemmas
-pub mod FirstLemmas
 pub mod FrontLemmas
 pub mod HeldLemmas
 pub mod StartLemmas

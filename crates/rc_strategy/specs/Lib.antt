@@ -1,7 +1,5 @@
 pub mod Caches
 pub mod Early
-pub mod Firsts
-pub mod Jumps
 pub mod Limits
 pub mod Makes
 pub mod Narrow

@@ -1,3 +1,4 @@
+-- Only proofs use this file.
 -- Questions: what a search may reply to each.
 use Rattle.std.specs.Prelude.{◌≡◌, Bool, true, false, Option, is_some}
 use Rattle.std.specs.Option.{option_map}

@@ -4,11 +4,9 @@
 pub mod cache;
 pub mod engines;
 mod entries;
-mod first;
 pub mod laws;
 pub mod lengths;
 mod longest;
-mod needles;
 mod pass;
 mod question;
 mod route;

@@ -2,14 +2,13 @@
 
 use crate::cache::Cache;
 use crate::engines::Engines;
-use crate::first::find_past_quit;
-use crate::needles::find_by_guard;
 use crate::pass::ask_pass;
 use crate::question::{Question, at_end};
 use crate::route::{Route, TableChoice};
 use rc_dense_dfa::dense::NoCache;
 use rc_dfa::halves::Halves;
 use rc_dfa_search::guarded::find_end_guarded;
+use rc_dfa_search::literals::{find_by_guard, find_past_quit};
 use rc_dfa_search::search::{Aim, find, find_end, find_to_end};
 use rc_lazy_dfa::lazy;
 use rc_literals::guard::Guard;

@@ -18,9 +18,9 @@ use rc_dense_dfa::dense::Dense;
 use rc_dense_dfa::error::TableError;
 use rc_dfa::automaton::Automaton;
 use rc_dfa_search::build::automaton_of;
+use rc_dfa_search::first::have_openings;
 use rc_lazy_dfa::error::LazyError;
 use rc_lazy_dfa::lazy::Lazy;
-use rc_needles::prefilter::Prefilter;
 use rc_pikevm_search::engine::Engine;
 use rc_pikevm_search::literals::{Literals, guards_of, literals_of};
 use std::alloc::{AllocError, Global};
@@ -38,14 +38,6 @@ fn exceeds(places: usize, limit: Option<usize>) -> bool
 {
     match limit {
         Some(most) => places > most,
-        None => false,
-    }
-}
-
-/// Whether a table of bits rules out most positions before the trie of the needles is asked.
-pub(crate) fn have_openings(needles: &Prefilter) -> bool {
-    match &needles.searcher.table.trie {
-        Some(trie) => !trie.openings.is_empty(),
         None => false,
     }
 }

@@ -1,0 +1,24 @@
+use Rattle.std.proofs.Common.{◌+◌, ◌-◌, ◌<◌, ◌≤◌, ℕ, List}
+use Rattle.rc_text.specs.Text.{Keeps}
+use Rattle.rc_pattern.specs.Re.{Re}
+use Rattle.rc_program.specs.Program.{program}
+use Rattle.rc_program.specs.Answer.{HasNoWalkFrom}
+use Rattle.rc_needles.specs.Guards.{Guards}
+use Rattle.rc_needles.specs.Prefilters.{needles_of}
+use Rattle.rc_dfa_search.specs.Aims.{AreHalvesOf, search_for}
+use Rattle.rc_dfa_search.proofs.first.find_by_first.Given as goal
+
+-- no match begins before the position
+abbrev pub invariant-runs : goal.invariant-runs
+invariant-runs g l = record {
+  cache : g.H.Halves.IsCache l.halves l.cache;
+  keeps : Keeps l.fn.input l.input;
+  low : l.lo ≤ l.at;
+  high : l.at ≤ l.hi;
+  passed : (hs : List Re) (terminator : ℕ) → AreHalvesOf (g.H.Halves.AreOf l.halves) l.aim hs terminator
+      → Guards (program hs) terminator (needles_of l.needles) → (x : ℕ) → l.lo ≤ x → x < l.at
+      → HasNoWalkFrom (search_for l.aim hs terminator l.fn.input) x;
+}
+
+abbrev pub decreases-runs : goal.decreases-runs
+decreases-runs g l = l.hi + 1 - l.at

@@ -1,0 +1,81 @@
+//! Prefilters: DFA searches by literals, whichever they are. Positions are in bytes of the whole
+//! content.
+ghost use Rattle.std.specs.Prelude.{ℕ, List, IfOk, IfSome};
+ghost use Rattle.rc_text.specs.Bounds.{IsWithinBounds};
+ghost use Rattle.rc_text.specs.Text.{Keeps};
+ghost use Rattle.rc_pattern.specs.Re.{Re};
+ghost use Rattle.rc_program.specs.Program.{program};
+ghost use Rattle.rc_program.specs.Kinds.{IsAnswerBy};
+ghost use Rattle.rc_needles.specs.Guards.{Guards};
+ghost use Rattle.rc_needles.specs.Prefilters.{needles_of};
+ghost use Rattle.rc_literals.specs.Guard.{IsGuard};
+ghost use Rattle.rc_dfa_search.specs.Aims.{AreHalvesOf, search_for};
+
+use crate::early::{find_early, goes_early};
+use crate::first::find_first;
+use crate::guarded::find_guarded;
+use crate::search::Aim;
+use rc_dfa::halves::Halves;
+use rc_literals::guard::Guard;
+use rc_needles::prefilter::Prefilter;
+use rc_text::cursor::Cursor;
+use rc_text::input::Input;
+use rc_text::types::{Match, MatchError};
+
+/// Returns the match that `find` returns, by needles that guard the patterns: each match begins
+/// with one of them, or contains one. A leftmost search that isn't anchored and passes no match
+/// over goes from needle to needle: if any match is enough, while nothing is under way; else, if
+/// each match begins with a needle, after it tried the first. Every other search is that of `find`.
+#[inline(always)]
+pub fn find_by_guard<H: Halves, C: Cursor>(
+    halves: &H,
+    cache: &mut H::Cache,
+    input: &mut Input<C>,
+    aim: Aim,
+    guard: Guard,
+) -> Result<Option<Match>, MatchError>
+    requires cache { H.IsCache halves.now cache.old }
+    ensures cache { H.IsCache halves.now cache.new }
+    ensures keeps { Keeps input.old input.new }
+    ensures found { (hs : List Re) (terminator : ℕ)
+        → AreHalvesOf (H.AreOf halves.now) aim hs terminator
+        → IsGuard (program hs) terminator guard.entry
+        → IfOk result (IsAnswerBy aim.kind aim.earliest (search_for aim hs terminator input.old)) }
+    ensures within { IfOk result (λ found. IfSome found (IsWithinBounds input.old)) }
+{
+    if goes_early(aim, input.get_anchored()) {
+        return find_early(halves, cache, input, aim, guard);
+    }
+    match guard {
+        Guard::Begins(needles) => find_first(halves, cache, input, aim, needles, true),
+        Guard::Holds(_) => find_guarded(halves, cache, input, aim, guard),
+    }
+}
+
+/// Returns the match that `find` returns, if each match begins with a needle and the search for
+/// these is slow. If the DFA quits, it searches once more, from needle to needle: then it reads
+/// fewer bytes, and may not come to one that it may not read. An `Err` says why the DFA has no
+/// answer.
+#[inline(always)]
+pub fn find_past_quit<H: Halves, C: Cursor>(
+    halves: &H,
+    cache: &mut H::Cache,
+    input: &mut Input<C>,
+    aim: Aim,
+    needles: &Prefilter,
+) -> Result<Option<Match>, MatchError>
+    requires cache { H.IsCache halves.now cache.old }
+    ensures cache { H.IsCache halves.now cache.new }
+    ensures keeps { Keeps input.old input.new }
+    ensures found { (hs : List Re) (terminator : ℕ)
+        → AreHalvesOf (H.AreOf halves.now) aim hs terminator
+        → Guards (program hs) terminator (needles_of needles.now)
+        → IfOk result (IsAnswerBy aim.kind aim.earliest (search_for aim hs terminator input.old)) }
+    ensures within { IfOk result (λ found. IfSome found (IsWithinBounds input.old)) }
+{
+    let found = find_first(halves, cache, input, aim, needles, false);
+    if let Err(MatchError::Quit { .. }) = found {
+        return find_guarded(halves, cache, input, aim, Guard::Begins(needles));
+    }
+    found
+}
