@@ -6,3 +6,4 @@ pub mod Cuts
 pub mod Preferred
 pub mod PatternSpans
 pub mod LentRuns
+pub mod Reaching

@@ -39,7 +39,7 @@ ascending_prop : (from : ℕ) (rs : List Range) → IsProp (AreAscending from rs
 ascending_prop from [] = hlevel props
 ascending_prop from (r ∷ rs) = hlevel (props, ascending_prop (r.1 + 1) rs)
 
-bounds_prop : (h : Re) → IsProp (HasBounds h)
+pub bounds_prop : (h : Re) → IsProp (HasBounds h)
 bounds_prop empty = hlevel props
 bounds_prop (literal bs) = hlevel props
 bounds_prop (byte_in rs) = ascending_prop 0 rs

@@ -6,4 +6,6 @@ pub mod Left
 pub mod Lent
 pub mod Plans
 pub mod Preferred
+pub mod Reached
+pub mod Reaching
 pub mod Laws

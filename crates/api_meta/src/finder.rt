@@ -4,6 +4,7 @@ ghost use Rattle.api_meta.specs.Caches.{IsCacheFor};
 ghost use Rattle.api_meta.specs.Views.{regex_patterns, regex_settings};
 
 use crate::cache::Cache;
+use crate::reach::Reached;
 use crate::regex::Regex;
 use rc_captures::captures::Captures;
 use rc_pattern_set::sets::PatternSet;
@@ -38,7 +39,7 @@ impl<'r> Model for Finder<'r> {
 }
 
 impl<'r> Finder<'r> {
-    ghost use Rattle.std.specs.Prelude.{◌≡◌, ◌↔◌, ◌≤◌, IfOk, IfSome, IsSome, IsTrue, OnErr, false, option_map};
+    ghost use Rattle.std.specs.Prelude.{◌≡◌, ◌+◌, ◌↔◌, ◌≤◌, IfOk, IfSome, IsSome, IsTrue, OnErr, false, option_map};
     ghost use Rattle.rc_captures.specs.Captures.{IsCapturesFor, match_of};
     ghost use Rattle.rc_pikevm_search.specs.Tells.{KeepsAll, Tells, TellsBy};
     ghost use Rattle.rc_strategy.specs.Early.{IsHalfBy};
@@ -52,7 +53,9 @@ impl<'r> Finder<'r> {
     ghost use Rattle.rc_settings.specs.Settings.{match_kind_of};
     ghost use Rattle.rc_text.specs.Found.{half_of};
     ghost use Rattle.rc_text.specs.Bounds.{IsWithinBounds};
-    ghost use Rattle.rc_text.specs.Text.{Keeps, high, low};
+    ghost use Rattle.rc_text.specs.Text.{Keeps, high, low, slice_end};
+    ghost use Rattle.rc_reach.specs.Settled.{IsSettled};
+    ghost use Rattle.api_meta.specs.Reached.{IsNear};
     ghost use Rattle.rc_text.specs.declared.types.MatchKind.TheVariants.{LeftmostFirst};
 
     /// Returns a finder for this regex, with a cache of its own. An `Err` means out of memory.
@@ -90,6 +93,23 @@ impl<'r> Finder<'r> {
         ensures within { IfSome result (IsWithinBounds input.old) }
     {
         self.regex.search_with(&mut self.cache, input)
+    }
+
+    /// Returns the match that `find` finds with the earliest flag off, and how many bytes settle
+    /// it, as `Regex::search_reach_with` does. It takes no memory.
+    pub fn find_reach<C: Cursor>(&mut self, input: &mut Input<C>) -> Reached
+        ensures regex { self.new ≡ self.old }
+        ensures keeps { Keeps input.old input.new }
+        ensures found { result.found
+            ≡ answer_by (regex_kind self.old) (search_for (sought self.old) input.old) }
+        ensures settled { IsSettled (regex_kind self.old) result.reach
+            (search_for (sought self.old) input.old) }
+        ensures within { (IfSome result.found (λ m. m.end ≤ result.reach))
+            × (result.reach ≤ slice_end input.old + 1) }
+        ensures near { IsNear (regex_kind self.old) (regex_patterns self.old)
+            result.found result.reach }
+    {
+        self.regex.search_reach_with(&mut self.cache, input)
     }
 
     /// Returns the pattern and the end of the match that `find` finds. It takes no memory.
