@@ -3,6 +3,7 @@ pub mod WriteLemmas
 pub mod NameLemmas
 pub mod StepLemmas
 pub mod SpendLemmas
-pub mod ForwardLemmas
-pub mod BackwardLemmas
+pub mod CellLemmas
+pub mod TableLemmas
+pub mod SearchLemmas
 pub mod MakeLemmas

@@ -4,11 +4,13 @@ use Rattle.rc_lazy_dfa.specs.Errors.{is_memory}
 use Rattle.rc_lazy_dfa.specs.SpendLaws.{spends_within, spends_both, may_later, may_within}
 use Rattle.rc_lazy_dfa.specs.Stores.{Frame, Spends, IsRefused}
 use Rattle.std.proofs.lemmas.Option.{none-some, same_Some}
-use Rattle.rc_dfa.specs.Ended.{HasEnded, gave_up}
+use Rattle.rc_dfa.specs.Ended.{gave_up}
+use Rattle.rc_table_search.specs.Ways.{HasEndedBy, IsOn}
+use Rattle.rc_table_search.proofs.WayLemmas.{gave_so}
 use Rattle.rc_dfa.specs.declared.ended.Ended.{Ended}
 use Rattle.rc_dfa.specs.declared.ended.Ended.TheVariants.{GaveUp}
 use Rattle.rc_lazy_dfa.specs.Halves.{IsHalf}
-use Rattle.rc_lazy_dfa.specs.Courses.{Request, text_in, all_spent, MayGiveUp, IsOver, SaysMet}
+use Rattle.rc_lazy_dfa.specs.Courses.{Request, course_of, text_in, all_spent, MayGiveUp, IsOver, Says}
 use Rattle.rc_lazy_dfa.specs.declared.half.Half.{Half}
 use Rattle.rc_lazy_dfa.specs.declared.store.Store.{Store}
 use Rattle.rc_lazy_dfa.specs.declared.error.Refusal.{Refusal}
@@ -21,7 +23,7 @@ refused_may f a b Short h = h
 -- HOW A SEARCH ENDS
 
 pub over_done : (q : Request) (h : Half) (n : ℕ) (e : Ended) → IsHalf q.frame h → Spends q.frame q.begun h.store n → n ≤ all_spent q →
-    HasEnded q.frame.machine (text_in q) q.bound q.from q.anchored q.earliest q.may_rest e → gave_up e ≡ None → IsOver q h e
+    HasEndedBy q.backwards q.frame.machine (text_in q) (course_of q) q.extent.may_rest e → gave_up e ≡ None → IsOver q h e
 over_done q h n e half spends le ended done = record {
   half = half;
   spends = spends_within q.frame q.begun h.store n (all_spent q) le spends;
@@ -30,17 +32,17 @@ over_done q h n e half spends le ended done = record {
 }
 
 pub over_refused : (q : Request) (h : Half) (b : Store) (n at : ℕ) (refusal : Refusal) (memory : Bool) → IsHalf q.frame h → Spends q.frame q.begun b n →
-    Spends q.frame b h.store 1 → IsRefused q.frame b h.store refusal → n + 1 ≤ all_spent q → q.from ≤ at → at ≤ q.bound → memory ≡ is_memory refusal →
+    Spends q.frame b h.store 1 → IsRefused q.frame b h.store refusal → n + 1 ≤ all_spent q → IsOn q.backwards q.from at → IsOn q.backwards at q.bound → memory ≡ is_memory refusal →
     IsOver q h (GaveUp at memory)
 over_refused q h b n at refusal memory half before spends refused le low high is = record {
   half = half;
   spends = spends_within q.frame q.begun h.store (n + 1) (all_spent q) le (spends_both q.frame q.begun b h.store n 1 before spends);
-  ended = (low, high);
+  ended = gave_so q.frame.machine (text_in q) (course_of q) q.backwards q.extent.may_rest at memory low high;
   gives_up = λ m k.
       let same : memory ≡ m = same_Some memory m k in
       may_within q.frame q.begun h.store (n + 1) (all_spent q) m le
       (may_later q.frame q.begun b h.store n 1 m before (subst (λ x. MayGiveUp q.frame b h.store 1 x) (sym is ∙ same) (refused_may q.frame b h.store refusal refused)));
 }
 
-pub says_by : (f g : Frame) (met : Option (ℕ × ℕ)) (e : Ended) → g ≡ f → SaysMet g.machine met e → SaysMet f.machine met e
-says_by f g met e same h = subst (λ (k : Frame). SaysMet k.machine met e) same h
+pub says_by : (backwards : Bool) (f g : Frame) (met : Option (ℕ × ℕ)) (e : Ended) → g ≡ f → Says backwards g.machine met e → Says backwards f.machine met e
+says_by backwards f g met e same h = subst (λ (k : Frame). Says backwards k.machine met e) same h

@@ -7,3 +7,4 @@ pub mod SpendLaws
 pub mod Caches
 pub mod CacheLaws
 pub mod Errors
+pub mod Rows

@@ -7,7 +7,7 @@ ghost use Rattle.rc_lazy_dfa.specs.Stores.{frame_of, minimum_of};
 
 use crate::error::LazyError;
 use crate::half::{Half, starts_in};
-use crate::{backward, forward};
+use crate::search;
 use rc_dfa::automaton::{Automaton, Direction};
 use rc_dfa::ended::Ended;
 use rc_dfa::halves::Halves;
@@ -182,7 +182,7 @@ impl Halves for Lazy {
         if !is_asked(automaton, &anchored) {
             return Ended::Found(None);
         }
-        forward::run_forwards(
+        search::run_forwards(
             automaton,
             &mut cache.forward,
             input,
@@ -208,7 +208,7 @@ impl Halves for Lazy {
         if !is_asked(automaton, &anchored) {
             return Ended::Found(None);
         }
-        backward::run_backwards(
+        search::run_backwards(
             automaton,
             &mut cache.reverse,
             input,

@@ -10,11 +10,11 @@
 //!     row 10, [4, 0],  .: to [] after a match, row 15 with `MET` and `DEAD`
 #![tactic(auto)]
 
-mod backward;
 mod cells;
 pub mod error;
-mod forward;
 mod half;
 pub mod lazy;
+mod rows;
 mod run;
+mod search;
 mod store;

@@ -3,13 +3,13 @@ ghost use Rattle.std.specs.Prelude.{◌≡◌, ℕ, Option};
 ghost use Rattle.rc_determinize.specs.States.{State, best_at};
 ghost use Rattle.rc_lazy_dfa.specs.Stores.{Frame, Held, IsRow, Names};
 ghost use Rattle.rc_dfa.specs.Automata.{machine_of};
-ghost use Rattle.rc_dfa.specs.declared.automaton.Direction.TheVariants.{Forwards};
-ghost use Rattle.rc_lazy_dfa.specs.Courses.{IsNoted, SaysLeast, SaysMet};
+ghost use Rattle.rc_lazy_dfa.specs.Courses.{IsNoted, Says, direction_of};
 
 use crate::cells::{MET, row_of};
 use crate::store::Store;
 use rc_dfa::automaton::Automaton;
 use rc_dfa::ended::{Ended, Met};
+use rc_table_search::way::Way;
 
 /// A run between two bytes: its row, and its last find.
 #[derive(Clone, Copy)]
@@ -18,18 +18,6 @@ pub(crate) struct Stand {
     pub row: usize,
     /// The last find, and its position: forwards a match place, backwards the index of an entry.
     pub met: Option<(usize, usize)>,
-}
-
-/// A run over a piece, between two bytes: its row, and its last finds in the piece and before.
-#[derive(Clone, Copy)]
-pub(crate) struct Noted {
-    /// The row of its state.
-    pub row: usize,
-    /// The row that has what was found last in the piece, and the position of that; None if nothing
-    /// was found.
-    pub noted: Option<(usize, usize)>,
-    /// The last find before the piece, and its position.
-    pub before: Option<(usize, usize)>,
 }
 
 /// The outcome of a search over some bytes.
@@ -76,34 +64,23 @@ pub(crate) fn told(
     }
 }
 
-/// Returns the result of a forward search, by what was found last: a match place and its position.
+/// Returns the result of a search, by what was found last, and its position: forwards a match place,
+/// backwards the index of an entry.
 #[inline(always)]
-pub(crate) fn found(automaton: &Automaton, met: Option<(usize, usize)>) -> Ended
-    ensures { SaysMet (machine_of automaton.now Forwards) met result }
+pub(crate) fn found<W: Way>(automaton: &Automaton, met: Option<(usize, usize)>) -> Ended
+    ensures { Says W.BACKWARDS (machine_of automaton.now (direction_of W.BACKWARDS)) met result }
 {
-    match met {
-        Some((place, at)) => {
-            let pattern = if place < automaton.places_len() {
-                automaton.pattern_at(place)
-            } else {
-                0
-            };
-            Ended::Found(Some(Met { pattern, at }))
-        }
-        None => Ended::Found(None),
-    }
-}
-
-/// Returns the result of a reverse search, by what was found last: the index of an entry and its
-/// position.
-#[inline(always)]
-pub(crate) fn found_down(met: Option<(usize, usize)>) -> Ended
-    ensures { SaysLeast met result }
-{
-    match met {
-        Some((pattern, at)) => Ended::Found(Some(Met { pattern, at })),
-        None => Ended::Found(None),
-    }
+    let Some((code, at)) = met else {
+        return Ended::Found(None);
+    };
+    let pattern = if W::BACKWARDS {
+        code
+    } else if code < automaton.places_len() {
+        automaton.pattern_at(code)
+    } else {
+        0
+    };
+    Ended::Found(Some(Met { pattern, at }))
 }
 
 /// Returns what was found last, once a cell was read at the position.

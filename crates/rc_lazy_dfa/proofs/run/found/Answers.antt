@@ -1,20 +1,25 @@
-use Rattle.std.proofs.Common.{◌≡◌, refl, subst, ap, arith}
+use Rattle.std.proofs.Common.{◌≡◌, ◌∙◌, Some, false, ap, refl, subst, sym, arith}
 use Rattle.rc_program.specs.Program.{place_at}
 use Rattle.rc_program.specs.Answer.{pattern_at}
 use Rattle.rc_program.proofs.WayLemmas.{past_places}
-use Rattle.rc_dfa.specs.declared.automaton.Direction.TheVariants.{Forwards}
 use Rattle.rc_dfa.specs.Automata.{machine_of}
 use Rattle.rc_dfa.specs.Runs.{SearchEnds, met_last}
+use Rattle.rc_dfa.specs.declared.ended.Ended.TheVariants.{Found}
+use Rattle.rc_dfa.specs.declared.automaton.Direction.TheVariants.{Forwards}
+use Rattle.rc_lazy_dfa.specs.Courses.{Says, direction_of}
 use Rattle.rc_lazy_dfa.proofs.run.found.Goals as goal
 
-pub returns-else-place-places_len : goal.returns-else-place-places_len
-returns-else-place-places_len c =
+pub returns-else-code-places_len : goal.returns-else-code-places_len
+returns-else-code-places_len g c =
     let m = machine_of c.args.automaton.now Forwards in
+    let forwards : false ≡ g.W.Way.BACKWARDS = sym (sym c.BACKWARDS.ensures ∙ c.if-BACKWARDS.false) in
     let len = c.places_len.ensures Forwards in
-    let past = c.if-place-places_len.false in
-    let none : pattern_at (place_at m.setting.places c.in-Some.place) ≡ 0 = ap pattern_at (past_places m.setting.places c.in-Some.place (omega (arith, len, past))) in
-    record {
+    let past = c.if-code-places_len.false in
+    let none : pattern_at (place_at m.setting.places c.in-Some.code) ≡ 0 = ap pattern_at (past_places m.setting.places c.in-Some.code (omega (arith, len, past))) in
+    let e = Found (Some (record { pattern = 0; at = c.in-Some.at })) in
+    let said : Says false m c.args.met e = record {
       done = refl;
-      says = λ t hi from anchored earliest may_rest e.
-          (c.in-Some.place, none, subst (λ o. SearchEnds m t hi from anchored earliest (met_last o)) c.in-Some.is e);
-    }
+      says = λ t k may_rest h.
+          (c.in-Some.code, none, subst (λ o. SearchEnds m t k.bound k.from k.anchored k.earliest (met_last o)) c.in-Some.is h);
+    } in
+    subst (λ way. Says way (machine_of c.args.automaton.now (direction_of way)) c.args.met e) forwards said

@@ -1,0 +1,16 @@
+use Rattle.std.proofs.Common.{true}
+use Rattle.rc_dfa.specs.declared.automaton.Direction.TheVariants.{Backwards}
+use Rattle.rc_lazy_dfa.specs.Stores.{frame_of}
+use Rattle.rc_lazy_dfa.proofs.search.run_backwards.Given as goal
+
+abbrev pub ghost-search : goal.ghost-search
+ghost-search g a = record {
+  backwards = true;
+  frame = frame_of a.automaton.now Backwards;
+  begun = a.half.now.store;
+  seen = a.input.now;
+  from = a.from;
+  bound = a.end;
+  anchored = a.anchored.now;
+  extent = a.extent;
+}

@@ -1,0 +1,10 @@
+use Rattle.rc_lazy_dfa.proofs.search.step.Given as goal
+
+abbrev pub ghost-next : goal.ghost-next
+ghost-next g a = g.course.frame
+
+abbrev pub ghost-met_by : goal.ghost-met_by
+ghost-met_by g a = g.course.frame
+
+abbrev pub ghost-idles_at : goal.ghost-idles_at
+ghost-idles_at g a = g.course.frame

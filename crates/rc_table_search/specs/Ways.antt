@@ -1,0 +1,93 @@
+-- Searches in either direction.
+use Rattle.std.specs.Prelude.{◌≡◌, ℕ, ◌+◌, ◌-◌, ◌<◌, ◌≤◌, Bool, true, false, not, List, Option, Some, None, slice_get}
+use Rattle.rc_text.specs.declared.types.Anchored.{Anchored}
+use Rattle.rc_text.specs.Text.{Searched, slice_end}
+use Rattle.rc_program.specs.Text.{Text}
+use Rattle.rc_program.specs.Sought.{text_of}
+use Rattle.rc_determinize.specs.States.{State}
+use Rattle.rc_dfa.specs.Machine.{Machine, Begins}
+use Rattle.rc_dfa.specs.Runs.{MayRead, ahead_at, behind_at, Runs, RunsDown, RunEnd, met_last, stopped_at, idle_at, SearchEnds, SearchEndsDown}
+use Rattle.rc_dfa.specs.Ended.{HasEnded, HasEndedDown}
+use Rattle.rc_dfa.specs.declared.ended.Ended.{Ended}
+
+-- The byte before the position, or the one at it, within what the search sees. A search reads the
+-- first of them next if it goes backwards, and the second if it goes forwards.
+abbrev pub beside_at : Bool → Text → ℕ → Option ℕ
+beside_at false = ahead_at
+beside_at true = behind_at
+
+-- The offset of that byte.
+abbrev pub offset_of : Bool → ℕ → ℕ
+offset_of false i = i
+offset_of true i = i - 1
+
+-- That byte stands in the content.
+abbrev pub IsBeside : Bool → List ℕ → ℕ → ℕ → Type 0
+IsBeside false content i b = slice_get content i ≡ Some b
+IsBeside true content i b = (1 ≤ i) × (slice_get content (i - 1) ≡ Some b)
+
+-- How many bytes lie from the first position on to the second.
+abbrev pub span : Bool → ℕ → ℕ → ℕ
+span false i k = k - i
+span true i k = i - k
+
+-- The second position lies on from the first, or is the first.
+abbrev pub IsOn : Bool → ℕ → ℕ → Type 0
+IsOn false i k = i ≤ k
+IsOn true i k = k ≤ i
+
+-- A search: from which position, up to or down to which bound, and how.
+pub record Course : Type 0 where
+  pub from : ℕ
+  pub bound : ℕ
+  pub anchored : Anchored
+  pub earliest : Bool
+
+-- The position first.
+abbrev pub swapped : Option (ℕ × ℕ) → Option (ℕ × ℕ)
+swapped None = None
+swapped (Some n) = Some (n.1, n.0)
+
+abbrev pub swapped_end : RunEnd → RunEnd
+swapped_end (met_last found) = met_last (swapped found)
+swapped_end (stopped_at p) = stopped_at p
+swapped_end (idle_at i) = idle_at i
+
+-- From the first state, the bytes up to the position lead to this state, and this was found last.
+abbrev pub RunsBy : Bool → Machine → Text → Course → State → ℕ → State → Option (ℕ × ℕ) → Type 0
+RunsBy false m t c first i s found = Runs m t c.bound c.from first i s found
+RunsBy true m t c first i s found = RunsDown m t c.bound c.from first i s (swapped found)
+
+abbrev pub EndsBy : Bool → Machine → Text → Course → RunEnd → Type 0
+EndsBy false m t c e = SearchEnds m t c.bound c.from c.anchored c.earliest e
+EndsBy true m t c e = SearchEndsDown m t c.bound c.from c.anchored c.earliest (swapped_end e)
+
+abbrev pub HasEndedBy : Bool → Machine → Text → Course → Bool → Ended → Type 0
+HasEndedBy false m t c may_rest e = HasEnded m t c.bound c.from c.anchored c.earliest may_rest e
+HasEndedBy true m t c may_rest e = HasEndedDown m t c.bound c.from c.anchored c.earliest e
+
+-- From a state in which the search begins, the bytes up to the position lead to this state, and
+-- this was found last.
+pub record IsStanding (backwards : Bool) (m : Machine) (t : Text) (c : Course) (i : ℕ) (s : State) (found : Option (ℕ × ℕ)) : Type 0 where
+  pub first : State
+  pub read : MayRead m (beside_at (not backwards) t c.from)
+  pub begins : Begins m c.anchored (beside_at (not backwards) t c.from) first
+  pub runs : RunsBy backwards m t c first i s found
+
+-- OVER A PIECE
+
+-- The bound lies within the slice.
+abbrev pub IsBounded : Bool → Searched → ℕ → Type 0
+IsBounded false seen bound = bound ≤ slice_end seen
+IsBounded true seen bound = seen.slice.start ≤ bound
+
+-- The piece of this length does not lie beyond the bound.
+abbrev pub LiesWithin : Bool → ℕ → ℕ → ℕ → Type 0
+LiesWithin false start len bound = start + len ≤ bound
+LiesWithin true start len bound = bound ≤ start
+
+-- The byte is read next at the position, which is not the bound.
+pub record IsNext (backwards : Bool) (seen : Searched) (bound i b : ℕ) : Type 0 where
+  pub beside : (terminator : ℕ) → beside_at backwards (text_of terminator seen) i ≡ Some b
+  pub there : IsBeside backwards seen.content i b
+  pub left : 0 < span backwards i bound
