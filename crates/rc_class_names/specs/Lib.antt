@@ -1,0 +1,2 @@
+pub mod Posix
+pub mod Properties

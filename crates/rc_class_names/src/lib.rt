@@ -1,0 +1,7 @@
+//! Names of classes: POSIX classes, and properties of Unicode with their values.
+#![tactic(auto)]
+
+pub mod posix;
+pub mod properties;
+#[cfg(test)]
+mod tests;
