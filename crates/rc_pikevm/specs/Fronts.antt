@@ -1,3 +1,4 @@
+-- Only proofs use this file.
 -- The choices in front of the patterns, and the patterns to which their ways lead.
 use Rattle.std.specs.Prelude.{◌≡◌, ℕ, ◌+◌, Bool, List, [], ◌∷◌, IsTrue}
 use Rattle.rc_walks.specs.Walks.{Pair, IsWalk}
