@@ -1,10 +1,11 @@
 -- What is built and what builds, as contracts see them.
-use Rattle.std.specs.Prelude.{ℕ, List, length, map}
+use Rattle.std.specs.Prelude.{ℕ, List, Option, length, map}
 use Rattle.rc_pattern.specs.Re.{Re}
 use Rattle.rc_pattern.specs.Meaning.{meaning}
 use Rattle.rc_captures.specs.Names.{Names}
 use Rattle.rc_program.specs.Program.{program, shown}
 use Rattle.rc_program.specs.Sought.{Sought}
+use Rattle.rc_pikevm_search.specs.Choices.{guarding}
 use Rattle.rc_settings.specs.Which.{is_grouped}
 use Rattle.rc_build.specs.Names.{names_shown}
 use Rattle.rc_parser.specs.Settings.{Settings as SyntaxSettings, settings_of as syntax_of}
@@ -23,6 +24,10 @@ vm_program vm = settings_of vm.thompson
 
 abbrev pub vm_settings : PikeVM → SearchSettings
 vm_settings vm = search_settings_of vm.config
+
+-- the needles with which its searches begin
+abbrev pub vm_needles : PikeVM → Option (List (List ℕ))
+vm_needles vm = guarding vm.built.engine.literals
 
 -- what it seeks
 abbrev pub sought : PikeVM → Sought

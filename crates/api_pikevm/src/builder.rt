@@ -1,14 +1,15 @@
 //! Pike VM builder: settings, and patterns built under them.
 
-ghost use Rattle.std.specs.Prelude.{◌≡◌, ◌≤◌, ◌∷◌, [], IfOk, IfErr, length, map};
+ghost use Rattle.std.specs.Prelude.{◌≡◌, ◌≤◌, ◌∷◌, [], IfOk, IfErr, false, length, map};
 ghost use Rattle.rc_text.specs.Limits.{most_patterns};
 ghost use Rattle.rc_pattern.specs.Meaning.{meaning};
 ghost use Rattle.rc_build.specs.Refusals.{IsBuildable, IsRefusal};
 ghost use Rattle.rc_build.specs.TextRefusals.{AllRead, IsTextRefusal, texts_of};
+ghost use Rattle.rc_pikevm_search.specs.Choices.{IsGuard};
 ghost use Rattle.rc_parser.specs.Settings.{default_settings, settings_of as syntax_of};
-ghost use Rattle.rc_settings.specs.SearchSettings.{search_settings_of, none_set, set_over};
+ghost use Rattle.rc_settings.specs.SearchSettings.{search_settings_of, none_set, prefilter_of, set_over};
 ghost use Rattle.rc_settings.specs.Thompson.{settings_of, unset, overwritten, nfa_size_limit_of};
-ghost use Rattle.api_pikevm.specs.Views.{builder_settings, builder_program, builder_syntax, vm_patterns, vm_program, vm_settings};
+ghost use Rattle.api_pikevm.specs.Views.{builder_settings, builder_program, builder_syntax, vm_needles, vm_patterns, vm_program, vm_settings};
 
 use crate::vm::PikeVM;
 use rc_build::build::build_all;
@@ -84,6 +85,8 @@ impl Builder {
             (vm_patterns vm)) }
         ensures settings { IfOk result (λ vm. vm_settings vm ≡ builder_settings self.now) }
         ensures program { IfOk result (λ vm. vm_program vm ≡ builder_program self.now) }
+        ensures needles { IfOk result (λ vm. IsGuard (vm_patterns vm)
+            (prefilter_of (builder_settings self.now)) false (vm_needles vm)) }
         ensures buildable { IfOk result (λ vm. IsBuildable
             (nfa_size_limit_of (builder_program self.now)) (vm_patterns vm)) }
         ensures refused { IfErr result (λ e. IsTextRefusal
@@ -104,6 +107,8 @@ impl Builder {
             (vm_patterns vm)) }
         ensures settings { IfOk result (λ vm. vm_settings vm ≡ builder_settings self.now) }
         ensures program { IfOk result (λ vm. vm_program vm ≡ builder_program self.now) }
+        ensures needles { IfOk result (λ vm. IsGuard (vm_patterns vm)
+            (prefilter_of (builder_settings self.now)) false (vm_needles vm)) }
         ensures buildable { IfOk result (λ vm. IsBuildable
             (nfa_size_limit_of (builder_program self.now)) (vm_patterns vm)) }
         ensures refused { IfErr result (λ e. IsTextRefusal
@@ -116,6 +121,9 @@ impl Builder {
 
     /// Builds a `PikeVM` from these patterns, at most 2,147,483,647.
     ///
+    /// Its searches look for the needles of the prefilter that is set, if prefixes of the patterns
+    /// are known and each begins with one of them, and for no others.
+    ///
     /// The error is the first of these that applies: `IllFormed`, with the first pattern that isn't
     /// well-formed; `SizeLimit`, if 32 times the weight of the patterns is above the size limit;
     /// `PlaceLimit`, if the weight is above 2,147,483,646. `Memory` means out of memory. The
@@ -125,6 +133,8 @@ impl Builder {
         ensures patterns { IfOk result (λ vm. vm_patterns vm ≡ map meaning hirs.now) }
         ensures settings { IfOk result (λ vm. vm_settings vm ≡ builder_settings self.now) }
         ensures program { IfOk result (λ vm. vm_program vm ≡ builder_program self.now) }
+        ensures needles { IfOk result (λ vm. IsGuard (vm_patterns vm)
+            (prefilter_of (builder_settings self.now)) false (vm_needles vm)) }
         ensures buildable { IfOk result (λ _. IsBuildable
             (nfa_size_limit_of (builder_program self.now)) (map meaning hirs.now)) }
         ensures refused { IfErr result (λ e. IsRefusal

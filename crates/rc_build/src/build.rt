@@ -8,7 +8,7 @@ ghost use Rattle.rc_program.specs.Heads.{AreHeads, flags_in};
 ghost use Rattle.rc_program.specs.Places.{places_of};
 ghost use Rattle.rc_program.specs.Sought.{IsRunnable, may_be_empty, passes_over};
 ghost use Rattle.rc_needles.specs.Prefilters.{needles_of};
-ghost use Rattle.rc_pikevm_search.specs.Choices.{answering, guarding};
+ghost use Rattle.rc_pikevm_search.specs.Choices.{IsGuard, answering, guarding};
 ghost use Rattle.rc_pikevm_search.specs.Literals.{MayGoBy};
 ghost use Rattle.rc_settings.specs.Thompson.{settings_of, nfa_size_limit_of, line_terminator_of};
 ghost use Rattle.rc_build.specs.Fits.{Fits, sought_by};
@@ -66,6 +66,9 @@ pub fn build_all(
     ensures fits { IfOk result (λ b. Fits (settings_of settings) kind
         (map meaning b.hirs.items) b.engine b.info) }
     ensures unanswered { is_auto ≡ false → IfOk result (λ b. answering b.engine.literals ≡ None) }
+    ensures guards { IfOk result (λ b. answering b.engine.literals ≡ None
+        → IsGuard (map meaning hirs.now) (option_map (λ p. needles_of p.now) prefilter.entry)
+        is_auto (guarding b.engine.literals)) }
     ensures unguarded { is_auto ≡ false → option_map (λ p. needles_of p.now) prefilter.entry ≡ None
         → IfOk result (λ b. guarding b.engine.literals ≡ None) }
     ensures refused { IfErr result (λ e. IsRefusal (nfa_size_limit_of (settings_of settings))
