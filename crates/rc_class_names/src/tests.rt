@@ -119,13 +119,18 @@ fn item_of(
     item(alloc, unicode, fold, negated, &ranges)
 }
 
-/// The class with the name `[:text:]`, folded.
-fn folded_posix(alloc: Global, text: &str) -> Result<Vec<CodeRange>, AllocError> {
+/// The class with the name `[:text:]`, folded or not, or the complement of it.
+fn posix_item(
+    alloc: Global,
+    fold: bool,
+    negated: bool,
+    text: &str,
+) -> Result<Vec<CodeRange>, AllocError> {
     let text = chars(alloc, text)?;
     match Posix::named(&text) {
         Some(class) => {
             let ranges = posix_class(alloc, true, class)?;
-            item(alloc, true, true, false, &ranges)
+            item(alloc, true, fold, negated, &ranges)
         }
         None => Ok(Vec::new(alloc)),
     }
@@ -150,8 +155,10 @@ fn folded_classes(rt: HostRuntime) {
     let sigma = item_of(alloc, true, true, false, &[(0x3C3, 0x3C3)]);
     assert!(rt; is_class(sigma, &[(0x3A3, 0x3A3), (0x3C2, 0x3C3)]));
     let upper = [(0x41, 0x5A), (0x61, 0x7A), (0x17F, 0x17F), (0x212A, 0x212A)];
-    assert!(rt; is_class(folded_posix(alloc, "upper"), &upper));
-    assert!(rt; is_class(folded_posix(alloc, "foo"), &[]));
+    assert!(rt; is_class(posix_item(alloc, true, false, "upper"), &upper));
+    assert!(rt; is_class(posix_item(alloc, true, false, "foo"), &[]));
+    let others = [(0, 0x40), (0x5B, 0x60), (0x7B, 0x10_FFFF)];
+    assert!(rt; is_class(posix_item(alloc, false, true, "alpha"), &others));
 }
 
 /// The result of a set operation, as `&`, `-`, `~` or `|`.
@@ -181,6 +188,22 @@ fn set_operations(rt: HostRuntime) {
     assert!(rt; is_class(both, &[(0x78, 0x79)]));
     let less = operated(alloc, '-', &[(0x30, 0x39)], &[(0x34, 0x34)]);
     assert!(rt; is_class(less, &[(0x30, 0x33), (0x35, 0x39)]));
+    let vowels = [
+        (0x61, 0x61),
+        (0x65, 0x65),
+        (0x69, 0x69),
+        (0x6F, 0x6F),
+        (0x75, 0x75),
+    ];
+    let consonants = operated(alloc, '-', &[(0x61, 0x7A)], &vowels);
+    let wanted = [
+        (0x62, 0x64),
+        (0x66, 0x68),
+        (0x6A, 0x6E),
+        (0x70, 0x74),
+        (0x76, 0x7A),
+    ];
+    assert!(rt; is_class(consonants, &wanted));
     let one = operated(alloc, '~', &[(0x61, 0x67)], &[(0x62, 0x68)]);
     assert!(rt; is_class(one, &[(0x61, 0x61), (0x68, 0x68)]));
     let all = operated(alloc, '|', &[(0x78, 0x78)], &[(0, 0x77), (0x7B, 0x10_FFFF)]);

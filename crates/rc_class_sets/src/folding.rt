@@ -1,11 +1,11 @@
-//! Simple case folding of classes.
+//! Simple case folding of classes: of characters if `unicode` is set, else of bytes.
 
 ghost use Rattle.std.specs.Prelude.{◌≡◌, ◌++◌, IfOk, OnOk};
 ghost use Rattle.unicode.specs.CaseFolding.{fold_pairs};
 ghost use Rattle.rc_tokens.specs.ClassView.{pair, pairs};
 ghost use Rattle.rc_tokens.specs.Classes.{AreCodes};
 ghost use Rattle.rc_class_sets.specs.Sets.{CodeSet, Denote, AreRangesOf};
-ghost use Rattle.rc_class_sets.specs.Folding.{folded, folded_if, complement_if, item, FoldLaw, FoldOrderLaw};
+ghost use Rattle.rc_class_sets.specs.Folding.{folded, folded_if, item, FoldLaw, FoldOrderLaw};
 ghost use Rattle.rc_class_sets.specs.Others.{others, with_others};
 
 use crate::sets::{complement, in_order, push};
@@ -77,22 +77,6 @@ fn folded_if(
     in_order(alloc, unicode, ranges)
 }
 
-fn complement_if(
-    alloc: Global,
-    unicode: bool,
-    negated: bool,
-    ranges: &[CodeRange],
-) -> Result<Vec<CodeRange>, AllocError>
-    requires { AreCodes unicode (pairs ranges.now) }
-    ensures { (p : CodeSet) → Denote unicode p (pairs ranges.now)
-        → IfOk result (λ v. AreRangesOf unicode (complement_if negated p) (pairs v.items)) }
-{
-    if negated {
-        return complement(alloc, unicode, ranges);
-    }
-    in_order(alloc, unicode, ranges)
-}
-
 /// An item of a list: the ranges, folded first if `fold` is set, and then complemented if the item
 /// is negated.
 pub fn item(
@@ -107,7 +91,10 @@ pub fn item(
         → IfOk result (λ v. AreRangesOf unicode (item unicode fold negated p) (pairs v.items)) }
 {
     let all = folded_if(alloc, unicode, fold, ranges)?;
-    complement_if(alloc, unicode, negated, &all)
+    if negated {
+        return complement(alloc, unicode, &all);
+    }
+    Ok(all)
 }
 
 /// Folding brings each character with the same simple case folding, and no other.

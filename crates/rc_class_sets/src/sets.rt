@@ -1,4 +1,4 @@
-//! Set operations on classes of characters and of bytes.
+//! Set operations on classes: of characters if `unicode` is set, else of bytes.
 
 ghost use Rattle.std.specs.Prelude.{◌≡◌, ◌++◌, ◌∷◌, [], IfOk, OnOk};
 ghost use Rattle.rc_tokens.specs.ClassView.{pairs};
