@@ -4,6 +4,7 @@ use Rattle.std.proofs.lemmas.List.{map-append, take_more_set}
 use Rattle.rc_text.specs.Found.{Found}
 use Rattle.rc_text.specs.Text.{Searched, Keeps}
 use Rattle.rc_text.specs.declared.types.Span.{Span}
+use Rattle.rc_text.specs.declared.types.Anchored.TheVariants.{Yes}
 use Rattle.rc_text.specs.declared.types.MatchKind.{MatchKind}
 use Rattle.rc_program.specs.Answer.{Search}
 use Rattle.rc_program.specs.Kinds.{answer_by, answer_by_from, matches_by_kind}
@@ -13,13 +14,21 @@ use Rattle.rc_program.specs.Sought.{Sought, passes_over, search_for}
 use Rattle.rc_pikevm_search.specs.Moved.{IsMoved}
 use Rattle.rc_pikevm_search.proofs.Steps.{search_kept, search_moved, step_none, step_some}
 use Rattle.searcher.specs.Places.{IsFilled, found_at}
-use Rattle.searcher.specs.Ranges.{in_range}
+use Rattle.searcher.specs.Ranges.{at_start, in_range}
 use Rattle.searcher.specs.declared.answers.MatchAt.{MatchAt}
 
 -- an input in a range is searched as the text in that range
 pub same_search : (q : Sought) (text : List ℕ) (start end : ℕ) (i : Searched) → Keeps (in_range text start end) i →
     search_for q i ≡ search_for q (in_range text start end)
 same_search q text start end i = search_kept (program (shown q.grouped q.patterns)) q.terminator (passes_over q) (in_range text start end) i
+
+-- an input in a range that is anchored is searched as the text in that range for a match at its start
+pub same_anchored : (q : Sought) (text : List ℕ) (start end : ℕ) (i j : Searched) → Keeps (in_range text start end) i → j ≡ record i { anchored = Yes } →
+    search_for q j ≡ search_for q (at_start text start end)
+same_anchored q text start end i j k e =
+    search_kept (program (shown q.grouped q.patterns)) q.terminator (passes_over q) (at_start text start end) j
+    (subst (λ x. Keeps (at_start text start end) x) (sym e)
+    (record { content = k.content; span = k.span; slice = k.slice; anchored = refl; earliest = k.earliest }))
 
 moved : (q : Sought) (i j : Searched) → IsMoved i j → search_for q j ≡ from_on (search_for q i) j.span.start
 moved q = search_moved (program (shown q.grouped q.patterns)) q.terminator (passes_over q)
@@ -98,6 +107,13 @@ module _ (kind : MatchKind) (q : Sought) where
   left_same : (text : List ℕ) (start from end : ℕ) (last : Option ℕ) → Left (in_range text start end) from last ≡ Left (in_range text from end) from last
   unfolding matches_by_kind
   left_same text start from end last = refl
+
+  -- the matches of an input in a range are those of the text in that range
+  pub same_matches : (text : List ℕ) (start end : ℕ) (i : Searched) → Keeps (in_range text start end) i →
+      Left i i.span.start None ≡ Left (in_range text start end) start None
+  same_matches text start end i in_it =
+      ap (λ x. matches_by_kind kind x i.span.start None) (same_search q text start end i in_it)
+      ∙ ap (λ (s : Span). Left (in_range text start end) s.start None) in_it.span
 
   -- a batch that was filled from an input in a range was filled from the text in that range
   pub filled_in : (text : List ℕ) (from end : ℕ) (i : Searched) (last : Option ℕ) (next : ℕ) (after : Option ℕ) (xs : List MatchAt) (n : ℕ) →

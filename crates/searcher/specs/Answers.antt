@@ -11,8 +11,8 @@ use Rattle.rc_build.specs.Refusals.{IsBuildable}
 use Rattle.rc_build.specs.TextRefusals.{AllRead, IsTextRefusal, texts_of}
 use Rattle.api_meta.specs.Views.{regex_kind, regex_patterns, regex_settings, sought}
 use Rattle.api_meta.specs.declared.regex.Regex.{Regex}
-use Rattle.searcher.specs.Flags.{kind_of, search_settings, syntax_settings}
-use Rattle.searcher.specs.Ranges.{AreTexts, IsBroken, in_range}
+use Rattle.searcher.specs.Flags.{kind_of, search_settings, size_limit_in, syntax_settings}
+use Rattle.searcher.specs.Ranges.{AreTexts, IsBroken, at_start, in_range}
 use Rattle.searcher.specs.Searching.{Searching}
 use Rattle.searcher.specs.declared.answers.Refusal.{Refusal}
 use Rattle.searcher.specs.declared.answers.Refusal.TheVariants.{Build, Memory, NoKind, NotUtf8, TooMany}
@@ -25,6 +25,18 @@ search_in r text start end = search_for (sought r) (in_range text start end)
 -- the match that it finds
 abbrev pub answer_in : Regex → List ℕ → ℕ → ℕ → Option Found
 answer_in r text start end = answer_by (regex_kind r) (search_in r text start end)
+
+-- the search of a text for a match that begins where the range does
+abbrev pub search_at : Regex → List ℕ → ℕ → ℕ → Search
+search_at r text start end = search_for (sought r) (at_start text start end)
+
+-- the match that it finds
+abbrev pub answer_at : Regex → List ℕ → ℕ → ℕ → Option Found
+answer_at r text start end = answer_by (regex_kind r) (search_at r text start end)
+
+-- the matches of the text in a range
+abbrev pub matches_in : Regex → List ℕ → ℕ → ℕ → List Found
+matches_in r text start end = matches_by_kind (regex_kind r) (search_in r text start end) start None
 
 -- the matches of the text, up to `end`, that are left to the iteration
 abbrev pub left_in : Searching → List ℕ → ℕ → List Found
@@ -44,7 +56,7 @@ pub record IsBuilt (settings : Settings) (patterns : List (Bor (List ℕ))) (s :
   pub few : length patterns ≤ most_patterns
   pub texts : AreTexts patterns
   pub read : AllRead (syntax_settings settings) (texts_of patterns) (regex_patterns s.regex)
-  pub buildable : IsBuildable (Some 10485760) (regex_patterns s.regex)
+  pub buildable : IsBuildable (Some (size_limit_in settings)) (regex_patterns s.regex)
   pub set : regex_settings s.regex ≡ search_settings settings kind
   pub from : s.from ≡ 0
   pub last : s.last ≡ None
@@ -63,5 +75,5 @@ IsRefused settings patterns NoKind = kind_of settings.kind ≡ None
 IsRefused settings patterns TooMany = HasKind settings × (most_patterns < length patterns)
 IsRefused settings patterns (NotUtf8 p) = IsCounted settings patterns × IsBroken patterns p
 IsRefused settings patterns (Build e) =
-    IsCounted settings patterns × AreTexts patterns × IsTextRefusal (Some 10485760) (syntax_settings settings) (texts_of patterns) e
+    IsCounted settings patterns × AreTexts patterns × IsTextRefusal (Some (size_limit_in settings)) (syntax_settings settings) (texts_of patterns) e
 IsRefused settings patterns Memory = Unit {0}

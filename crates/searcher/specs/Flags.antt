@@ -1,5 +1,5 @@
 -- What settings set.
-use Rattle.std.specs.Prelude.{ℕ, Bool, not, Option, Some, None, if◌then◌else◌, nat_eq}
+use Rattle.std.specs.Prelude.{ℕ, Bool, not, Option, Some, None, if◌then◌else◌, nat_eq, option_map, unwrap_or}
 use Rattle.rc_text.specs.declared.types.MatchKind.{MatchKind}
 use Rattle.rc_text.specs.declared.types.MatchKind.TheVariants.{All as all_matches, LeftmostFirst as leftmost_first, LeftmostLongest as leftmost_longest}
 use Rattle.rc_parser.specs.Settings as syntax
@@ -30,9 +30,19 @@ kind_of number =
     else if nat_eq number 2 then Some leftmost_longest
     else None
 
--- which matches are sought, of a kind
+-- a number that is set, where it isn't 0
+abbrev pub unless_zero : ℕ → Option ℕ
+unless_zero n = if nat_eq n 0 then None else Some n
+
+-- the limit on the size of the patterns
+abbrev pub size_limit_in : Settings → ℕ
+size_limit_in s = unwrap_or (unless_zero s.size_limit) 10485760
+
+-- which matches are sought, of a kind, and within which limits
 abbrev pub search_settings : Settings → MatchKind → search.Settings
 search_settings s kind = record search.unset {
   match_kind = Some kind;
   utf8_empty = Some (not (is_on s.split_characters));
+  nfa_size_limit = option_map (λ n. Some n) (unless_zero s.size_limit);
+  hybrid_cache_capacity = unless_zero s.cache_capacity;
 }

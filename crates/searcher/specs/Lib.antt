@@ -1,5 +1,6 @@
 pub mod Answers
 pub mod Flags
+pub mod Last
 pub mod Places
 pub mod Ranges
 pub mod Searching

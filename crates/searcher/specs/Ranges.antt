@@ -3,7 +3,7 @@ use Rattle.std.specs.Prelude.{ℕ, ◌+◌, ◌<◌, ◌≤◌, ◌^◌, List, f
 use Rattle.std.specs.Borrow.{Bor}
 use Rattle.rc_text.specs.Joined.{IsTooLong, chunk_at, joined}
 use Rattle.rc_text.specs.Text.{Searched}
-use Rattle.rc_text.specs.declared.types.Anchored.TheVariants.{No}
+use Rattle.rc_text.specs.declared.types.Anchored.TheVariants.{No, Yes}
 use Rattle.searcher.specs.declared.answers.Fault.{Fault}
 use Rattle.searcher.specs.declared.answers.Fault.TheVariants.{Outside, TooLong}
 use Rattle.searcher.specs.declared.answers.Refusal.{Refusal}
@@ -21,6 +21,10 @@ in_range text start end = record {
   anchored = No;
   earliest = false;
 }
+
+-- the same, where a match has to begin at `start`
+abbrev pub at_start : List ℕ → ℕ → ℕ → Searched
+at_start text start end = record (in_range text start end) { anchored = Yes }
 
 -- the range begins where the text has a place for it, and not behind its end
 abbrev pub IsInside : List (Bor (List ℕ)) → ℕ → ℕ → Type 0

@@ -34,6 +34,16 @@ pub struct GroupAt {
     pub end: usize,
 }
 
+/// Roughly how many bytes the parts of a searcher take.
+#[repr(C)]
+#[derive(Clone, Copy)]
+pub struct MemoryParts {
+    /// The patterns.
+    pub patterns: usize,
+    /// The cache of their searches.
+    pub cache: usize,
+}
+
 /// Why a search failed.
 #[derive(Clone, Copy)]
 pub enum Fault {

@@ -1,5 +1,5 @@
 //! Batches: the next matches of an iteration, written to places that a caller lends.
-ghost use Rattle.std.specs.Prelude.{◌≡◌, ◌≤◌, IfSome, false};
+ghost use Rattle.std.specs.Prelude.{◌≡◌, ◌≤◌, IfSome, None, false};
 ghost use Rattle.rc_pikevm_search.specs.Moved.{IsMoved};
 ghost use Rattle.api_meta.specs.Caches.{IsCacheFor};
 ghost use Rattle.api_meta.specs.Views.{regex_kind, regex_patterns, regex_settings, sought};
@@ -8,6 +8,7 @@ ghost use Rattle.rc_program.specs.Matches.{begin_of, end_of, next_match};
 ghost use Rattle.rc_program.specs.Sought.{search_for};
 ghost use Rattle.rc_text.specs.Bounds.{IsWithinBounds};
 ghost use Rattle.rc_text.specs.Text.{Keeps, high};
+ghost use Rattle.searcher.specs.Last.{last_before};
 ghost use Rattle.searcher.specs.Places.{IsFilled};
 
 use crate::answers::MatchAt;
@@ -85,6 +86,30 @@ fn next_match<C: Cursor>(
     }
     input.set_start(start + 1);
     search(regex, cache, input)
+}
+
+/// Returns the last match of the input that begins before the place. The span may start elsewhere
+/// afterwards.
+pub(crate) fn last_before<C: Cursor>(
+    regex: &Regex,
+    cache: &mut Cache,
+    input: &mut Input<C>,
+    place: usize,
+) -> Option<Match>
+    requires made { IsCacheFor (regex_patterns regex.now) (regex_settings regex.now) cache.old }
+    ensures cache { IsCacheFor (regex_patterns regex.now) (regex_settings regex.now) cache.new }
+    ensures found { result ≡ last_before place
+        (matches_by_kind (regex_kind regex.now)
+        (search_for (sought regex.now) input.old) input.old.span.start None) }
+{
+    let mut last = None;
+    for found in regex.find_iter_with(cache, input) {
+        if found.start() >= place {
+            return last;
+        }
+        last = Some(found);
+    }
+    last
 }
 
 /// Fills the batch with the next matches of the iteration; the last one ended at `before`.

@@ -5,11 +5,11 @@ ghost use Rattle.rc_build.specs.Refusals.{IsBuildable};
 ghost use Rattle.rc_build.specs.TextRefusals.{AllRead, IsTextRefusal, texts_of};
 ghost use Rattle.api_meta.specs.Views.{regex_patterns, regex_settings};
 ghost use Rattle.rc_text.specs.Joined.{joined};
-ghost use Rattle.searcher.specs.Flags.{search_settings, syntax_settings};
+ghost use Rattle.searcher.specs.Flags.{search_settings, size_limit_in, syntax_settings};
 ghost use Rattle.rc_text.specs.Text.{Keeps};
 ghost use Rattle.searcher.specs.Ranges.{AreTexts, IsFault, IsNotText, IsServed, in_range};
 
-use crate::answers::{Fault, MatchAt, Refusal, write_marks};
+use crate::answers::{Fault, MatchAt, MemoryParts, Refusal, write_marks};
 use crate::batch;
 use crate::parts::Parts;
 use crate::settings::Settings;
@@ -20,7 +20,7 @@ use rc_pattern_set::sets::PatternSet;
 use rc_settings::error::BuildError;
 use rc_text::chunks::{AtError, ChunkCursor};
 use rc_text::input::{Input, content_fits};
-use rc_text::types::{Match, MatchKind, Span};
+use rc_text::types::{Anchored, Match, MatchKind, Span};
 use std::alloc::{AllocError, Global};
 use std::marker::Model;
 
@@ -76,7 +76,8 @@ impl Searcher {
     ghost use Rattle.rc_pikevm_search.specs.Tells.{KeepsAll, TellsBy};
     ghost use Rattle.api_meta.specs.Views.{regex_kind, regex_names};
     ghost use Rattle.rc_text.specs.Joined.{joined};
-    ghost use Rattle.searcher.specs.Answers.{IsBuilt, IsRefused, IsSame, answer_in, left_in, search_in};
+    ghost use Rattle.searcher.specs.Answers.{IsBuilt, IsRefused, IsSame, answer_at, answer_in, left_in, matches_in, search_in};
+    ghost use Rattle.searcher.specs.Last.{last_before};
     ghost use Rattle.searcher.specs.Places.{AreMarks, IsFilled};
     ghost use Rattle.searcher.specs.Ranges.{IsFault, IsServed};
 
@@ -135,6 +136,14 @@ impl Searcher {
             .saturating_add(self.cache.memory_usage())
     }
 
+    /// Roughly the number of bytes that the regex takes, and the number that the cache takes.
+    pub fn memory_parts(&self) -> MemoryParts {
+        MemoryParts {
+            patterns: self.regex.memory_usage(),
+            cache: self.cache.memory_usage(),
+        }
+    }
+
     /// Whether there is a match in the text from `start` to `end`.
     pub fn is_match(&mut self, chunks: &[&[u8]], start: usize, end: usize) -> Result<bool, Fault>
         ensures found { IfOk result (λ b. b
@@ -163,6 +172,46 @@ impl Searcher {
     {
         let mut input = input_over(chunks, start, end)?;
         Ok(batch::search(&self.regex, &mut self.cache, &mut input))
+    }
+
+    /// Returns the match in the text that begins at `start`: of the matches that do, and end at
+    /// `end` or before, the one that `find` prefers. Assertions see the whole text.
+    pub fn match_at(
+        &mut self,
+        chunks: &[&[u8]],
+        start: usize,
+        end: usize,
+    ) -> Result<Option<Match>, Fault>
+        ensures found { IfOk result (λ m. m
+            ≡ answer_at self.old.regex (joined chunks.now) start end) }
+        ensures served { OnOk result (IsServed chunks.now start end) }
+        ensures fault { IfErr result (IsFault chunks.now start end) }
+        ensures kept { self.new ≡ self.old }
+    {
+        let mut input = input_over(chunks, start, end)?;
+        input.set_anchored(Anchored::Yes);
+        let found = batch::search(&self.regex, &mut self.cache, &mut input);
+        Ok(found)
+    }
+
+    /// Returns the last match of the text from `start` to `end` that begins before `place`.
+    /// The matches are those of an iteration that begins at `start`. It goes over all of them up to
+    /// the place.
+    pub fn find_last(
+        &mut self,
+        chunks: &[&[u8]],
+        start: usize,
+        end: usize,
+        place: usize,
+    ) -> Result<Option<Match>, Fault>
+        ensures found { IfOk result (λ m. m ≡ last_before place
+            (matches_in self.old.regex (joined chunks.now) start end)) }
+        ensures served { OnOk result (IsServed chunks.now start end) }
+        ensures fault { IfErr result (IsFault chunks.now start end) }
+        ensures kept { self.new ≡ self.old }
+    {
+        let mut input = input_over(chunks, start, end)?;
+        Ok(batch::last_before(&self.regex, &mut self.cache, &mut input, place))
     }
 
     /// Marks which patterns have a match in the text from `start` to `end`: the mark at the number
@@ -309,8 +358,9 @@ fn build(
     ensures read { IfOk result (λ r. AllRead (syntax_settings settings.now) (texts_of texts.now)
         (regex_patterns r)) }
     ensures set { IfOk result (λ r. regex_settings r ≡ search_settings settings.now kind) }
-    ensures buildable { IfOk result (λ r. IsBuildable (Some 10485760) (regex_patterns r)) }
-    ensures refused { IfErr result (λ e. IsTextRefusal (Some 10485760)
+    ensures buildable { IfOk result (λ r. IsBuildable (Some (size_limit_in settings.now))
+        (regex_patterns r)) }
+    ensures refused { IfErr result (λ e. IsTextRefusal (Some (size_limit_in settings.now))
         (syntax_settings settings.now) (texts_of texts.now) e) }
 {
     let mut builder = Regex::builder();

@@ -6,8 +6,8 @@ use rc_parser as syntax;
 use rc_settings::meta;
 use rc_text::types::MatchKind;
 
-/// How patterns are parsed, and which match a search finds. Each field but `kind` is a flag, off at
-/// 0 and on at any other number. With all fields 0, the settings are the defaults.
+/// How patterns are parsed, which match a search finds, and limits. Each field before `kind` is a
+/// flag, off at 0 and on at any other number. With all fields 0, the settings are the defaults.
 #[repr(C)]
 #[derive(Clone, Copy)]
 pub struct Settings {
@@ -33,6 +33,11 @@ pub struct Settings {
     /// The number of the kind of match: 0 for the preferred match of the least start, 1 for the
     /// match with the greatest end, 2 for the longest match of the least start.
     pub kind: u8,
+    /// The limit on the size of the patterns, which is 32 times their weight; 0 for 10,485,760.
+    pub size_limit: usize,
+    /// The capacity of the cache of a lazy DFA, in bytes; 0 for 2,097,152. No search result depends
+    /// on it.
+    pub cache_capacity: usize,
 }
 
 impl Settings {
@@ -41,7 +46,7 @@ impl Settings {
     ghost use Rattle.searcher.specs.Flags.{kind_of, search_settings, syntax_settings};
 
     /// The syntax settings.
-    pub(crate) fn syntax(&self) -> syntax::Config
+    pub fn syntax(&self) -> syntax::Config
         ensures { syntax_of result ≡ syntax_settings self.now }
     {
         syntax::Config::new()
@@ -70,8 +75,16 @@ impl Settings {
     pub(crate) fn search(&self, kind: MatchKind) -> meta::Config
         ensures { settings_of result ≡ search_settings self.now kind }
     {
-        meta::Config::new()
+        let config = meta::Config::new()
             .match_kind(kind)
-            .utf8_empty(self.split_characters == 0)
+            .utf8_empty(self.split_characters == 0);
+        let config = match self.size_limit {
+            0 => config,
+            limit => config.nfa_size_limit(Some(limit)),
+        };
+        match self.cache_capacity {
+            0 => config,
+            capacity => config.hybrid_cache_capacity(capacity),
+        }
     }
 }

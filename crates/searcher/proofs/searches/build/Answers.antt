@@ -4,6 +4,7 @@ use Rattle.rc_build.specs.TextRefusals.{AllRead, IsTextRefusal, texts_of}
 use Rattle.rc_settings.specs.Settings.{nfa_size_limit_of}
 use Rattle.api_meta.specs.Views.{builder_settings, builder_syntax, regex_patterns}
 use Rattle.searcher.specs.Flags.{search_settings, syntax_settings}
+use Rattle.searcher.proofs.Limited.{limit_is}
 use Rattle.searcher.proofs.searches.build.Goals as goal
 
 pub returns-clause-read : goal.returns-clause-read
@@ -14,11 +15,13 @@ returns-clause-read c =
 pub returns-clause-buildable : goal.returns-clause-buildable
 returns-clause-buildable c =
     let set : builder_settings c.syntax-2.result.now ≡ search_settings c.args.settings.now c.args.kind = search rules in
-    subst (λ s. IfOk c.build_many.result (λ r. IsBuildable (nfa_size_limit_of s) (regex_patterns r))) set c.build_many.ensures.buildable
+    subst (λ l. IfOk c.build_many.result (λ r. IsBuildable l (regex_patterns r))) (ap nfa_size_limit_of set ∙ limit_is c.args.settings.now c.args.kind)
+    c.build_many.ensures.buildable
 
 pub returns-clause-refused : goal.returns-clause-refused
 returns-clause-refused c =
     let set : builder_settings c.syntax-2.result.now ≡ search_settings c.args.settings.now c.args.kind = search rules in
-    subst (λ s. IfErr c.build_many.result (λ e. IsTextRefusal (nfa_size_limit_of s) (syntax_settings c.args.settings.now) (texts_of c.args.texts.now) e)) set
+    subst (λ l. IfErr c.build_many.result (λ e. IsTextRefusal l (syntax_settings c.args.settings.now) (texts_of c.args.texts.now) e))
+    (ap nfa_size_limit_of set ∙ limit_is c.args.settings.now c.args.kind)
     (subst (λ s. IfErr c.build_many.result (λ e. IsTextRefusal (nfa_size_limit_of (builder_settings c.syntax-2.result.now)) s (texts_of c.args.texts.now) e))
     (c.syntax-2.ensures.value ∙ c.syntax.ensures) c.build_many.ensures.refused)

@@ -1,0 +1,17 @@
+use Rattle.std.proofs.Common.{ap, ◌∙◌}
+use Rattle.rc_text.specs.Joined.{joined}
+use Rattle.rc_program.specs.Kinds.{answer_by}
+use Rattle.api_meta.specs.Views.{regex_kind, sought}
+use Rattle.searcher.specs.Answers.{answer_at}
+use Rattle.searcher.specs.Searching.{Searching}
+use Rattle.searcher.proofs.Filling.{same_anchored}
+use Rattle.searcher.proofs.searches.Searcher.match_at.Goals as goal
+
+pub returns-clause-found : goal.returns-clause-found
+returns-clause-found c =
+    let r = c.self.inside.regex in
+    let text = joined c.args.chunks.now in
+    c.search-found.ensures.found
+    ∙ ap (answer_by (regex_kind r)) (same_anchored (sought r) text c.args.start c.args.end c.in_ok-input.input c.set_anchored.new.self
+    c.in_ok-input.ensures.in_range c.set_anchored.ensures)
+    ∙ ap (λ (s : Searching). answer_at s.regex text c.args.start c.args.end) c.self.view_is
