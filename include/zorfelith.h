@@ -4,7 +4,7 @@
  * answers are those of the whole text, wherever it is cut, also inside a character. All places and lengths are in bytes of the whole text.
  *
  * What a caller owes:
- *   - Each pointer is valid for its length, aligned, and not null, also where the length is 0 (zf_none is there to point at). What a call
+ *   - Each pointer is valid for its length, aligned, and not null, also where the length is 0 (zf_bytes_of sees to that). What a call
  *     writes overlaps nothing else that is passed to it.
  *   - The text stands still while a call runs.
  *   - A handle begins as bytes that are 0 (`struct zf_handle handle = {0};`). It may be moved. It is not copied, and what is in it is
@@ -15,8 +15,8 @@
  * There is nothing else to owe: each call tests its handle, its range, its UTF-8 and its capacities, and answers a status.
  *
  * Who owns what: a full handle owns memory, which malloc gave and zf_free or the next zf_compile gives back. All else is the caller's.
- * Only zf_compile takes memory, but for searches of some patterns, whose cache may grow up to a fixed limit; where that is refused they go
- * on without it, and answer the same.
+ * Only zf_compile, zf_explain and zf_replace take memory, but for searches of some patterns, whose cache may grow up to a limit, which
+ * the settings may set; where that is refused they go on without it, and answer the same.
  */
 #ifndef ZORFELITH_H
 #define ZORFELITH_H
@@ -38,13 +38,17 @@ enum {
     ZF_TOO_LONG = 3,  /* The chunks hold SIZE_MAX bytes, or more. */
     ZF_OUTSIDE = 4,   /* The range begins behind its end, or behind the text's. */
     ZF_ABSENT = 5,    /* There is no such pattern or group, or it has no name. */
-    ZF_SHORT = 6,     /* The place for a name is too short. */
-    ZF_NOT_UTF8 = 7,  /* The bytes of a pattern or of a name aren't UTF-8. */
-    ZF_SYNTAX = 8,    /* No pattern is read from the text. */
+    ZF_SHORT = 6,     /* The place for a name or another text is too short. */
+    ZF_NOT_UTF8 = 7,  /* The bytes of a pattern, a name, a text to escape or a template aren't UTF-8. */
+    ZF_SYNTAX = 8,    /* No pattern is read from the text, or no template. */
     ZF_TOO_LARGE = 9, /* The patterns are too large, or more than 2,147,483,647. */
     ZF_MEMORY = 10,   /* Memory was refused. */
-    ZF_NO_KIND = 11   /* No kind of match has the number. */
+    ZF_NO_KIND = 11,  /* No kind of match has the number; or the kind has no groups, to replace by. */
+    ZF_UNKNOWN = 12   /* The settings have a byte that is on behind those that the library knows. */
 };
+
+/* The version of this header: 1,000,000 times its first number, 1,000 times its second, and its third. */
+#define ZF_VERSION 1000
 
 /* As the end of a range: the text's end. Of a group: it took no part. */
 #define ZF_NONE SIZE_MAX
@@ -57,6 +61,14 @@ struct zf_bytes {
     const uint8_t *bytes; /* never null */
     size_t len;
 };
+
+/* Some bytes, of which the pointer may be null where there are none. */
+static inline struct zf_bytes zf_bytes_of(const void *bytes, size_t len) {
+    struct zf_bytes some;
+    some.bytes = len == 0 ? zf_none : (const uint8_t *)bytes;
+    some.len = len;
+    return some;
+}
 
 /* A compiled list of patterns, with its cache and the state of an iteration. All of it is the library's. */
 struct zf_handle {
@@ -71,7 +83,12 @@ enum {
     ZF_LEFTMOST_LONGEST = 2 /* the longest match of the least start, and of these the preferred one */
 };
 
-/* How patterns are read, and which match is sought. Each field but `kind` is off at 0, and on at each other number. All 0: the defaults.
+/* How patterns are read, which match is sought, and limits. Each field before `kind` is off at 0, and on at each other number. All 0: the
+ * defaults.
+ *
+ * A call that takes settings takes their size too, sizeof(struct zf_settings), and reads no byte behind it. So a program that was built with
+ * an older header, whose structure is shorter, gets 0 in the fields that it doesn't have. A longer one, of a newer header, is read as far as
+ * the library knows it, and is refused with ZF_UNKNOWN if a byte behind that is on. New fields come behind the last.
  *
  * With `split_characters` off, if some pattern may be empty, each match that ends inside a character is passed over, whether it is empty or
  * not: `a*` in "aa" followed by the byte 80 finds 3..3 alone. A place is inside a character if the byte there is from 80 to BF. Under ZF_ALL
@@ -86,6 +103,8 @@ struct zf_settings {
     uint8_t any_bytes;            /* patterns may match what isn't UTF-8 */
     uint8_t split_characters;     /* matches may end inside a character, also if some pattern may be empty */
     uint8_t kind;                 /* ZF_LEFTMOST_FIRST, ZF_ALL or ZF_LEFTMOST_LONGEST; each other number is ZF_NO_KIND */
+    size_t size_limit;            /* the limit on the size of the patterns, beyond which they are ZF_TOO_LARGE; 0 for 10,485,760 */
+    size_t cache_capacity;        /* how many bytes the cache of a lazy DFA may take; 0 for 2,097,152. No answer depends on it. */
 };
 
 /* Why patterns were refused. */
@@ -108,18 +127,52 @@ struct zf_group {
     size_t end;
 };
 
+/* A fault in the text of a pattern. */
+struct zf_fault {
+    size_t start; /* where the part of the text begins that is at fault */
+    size_t end;   /* where it ends */
+    size_t len;   /* how many bytes the words for it have */
+};
+
+/* What a replacement wrote, or where it failed. */
+struct zf_replaced {
+    size_t count; /* how many matches were replaced */
+    size_t len;   /* how many bytes the replaced text has */
+    size_t at;    /* with ZF_SYNTAX: the byte of the template at which the fault is; else 0 */
+};
+
+/* About how many bytes the parts of a handle take. */
+struct zf_parts {
+    size_t patterns;
+    size_t cache;
+};
+
 /* How far an iteration has come. */
 struct zf_progress {
     size_t count; /* how many matches the call wrote */
     size_t next;  /* where the next search begins */
 };
 
+/* The version of the library, as ZF_VERSION is that of the header. */
+uint32_t zf_version(void);
+
 /* Compiles patterns into the handle, and frees what it held before. There may be none, and then there is never a match.
  *
- * ZF_DONE, and `refused` is as it was; or ZF_NO_KIND, ZF_TOO_LARGE for too many, ZF_NOT_UTF8, ZF_SYNTAX, ZF_TOO_LARGE, ZF_MEMORY: the first
- * of these that applies, want of memory at any time. Then the handle is empty, and `refused` tells the status and where. */
+ * ZF_DONE, and `refused` is as it was; or ZF_UNKNOWN, ZF_NO_KIND, ZF_TOO_LARGE for too many, ZF_NOT_UTF8, ZF_SYNTAX, ZF_TOO_LARGE, ZF_MEMORY:
+ * the first of these that applies, want of memory at any time. Then the handle is empty, and `refused` tells the status and where. */
 uint32_t zf_compile(struct zf_handle *handle, const struct zf_bytes *patterns, size_t pattern_count, const struct zf_settings *settings,
-                    struct zf_refused *refused);
+                    size_t settings_size, struct zf_refused *refused);
+
+/* What is wrong with the text of a pattern. ZF_DONE: nothing, it is read as a pattern. ZF_FOUND: `fault` is written, and the first fault->len
+ * bytes of `words` are a line that says what is wrong, in UTF-8 and without a 0 behind it: 64 bytes are enough. ZF_SHORT: `words` has fewer than
+ * fault->len bytes, and is as it was. ZF_UNKNOWN, ZF_NOT_UTF8, ZF_MEMORY. `kind` and the limits of the settings change nothing. */
+uint32_t zf_explain(const uint8_t *pattern, size_t pattern_len, const struct zf_settings *settings, size_t settings_size,
+                    struct zf_fault *fault, uint8_t *words, size_t words_len);
+
+/* The pattern that matches a text and nothing else: the text, with a `\` before each of the characters \.+*?()|[{^$. It is not for a text that
+ * is to stand in a class. ZF_DONE: the first *len bytes of `place` are the pattern. ZF_SHORT: `place` has fewer than the *len bytes that it
+ * has, and is as it was. ZF_NOT_UTF8. */
+uint32_t zf_escape(const uint8_t *text, size_t text_len, uint8_t *place, size_t place_len, size_t *len);
 
 /* Frees what the handle holds, and leaves it empty. An empty one stays empty. */
 void zf_free(struct zf_handle *handle);
@@ -133,7 +186,18 @@ uint32_t zf_is_match(struct zf_handle *handle, const struct zf_bytes *chunks, si
 uint32_t zf_find(struct zf_handle *handle, const struct zf_bytes *chunks, size_t chunk_count, size_t start, size_t end,
                  struct zf_match *found);
 
-/* The same match with its groups, and `found` as there. With ZF_FOUND and with ZF_DONE each of the `group_count` places is written: groups[i]
+/* The match that begins at `start`, and ends at `end` or before: of those that do, the one that the kind prefers. Statuses and `found` as
+ * zf_find. The iteration stays as it was. */
+uint32_t zf_match_at(struct zf_handle *handle, const struct zf_bytes *chunks, size_t chunk_count, size_t start, size_t end,
+                     struct zf_match *found);
+
+/* The last match that begins before `place`, of the matches that zf_next gives from `start` to `end`. It goes over all of these up to the
+ * place: where that is long, begin at a line or at another place where an iteration may begin. Statuses and `found` as zf_find. The iteration
+ * stays as it was. */
+uint32_t zf_find_last(struct zf_handle *handle, const struct zf_bytes *chunks, size_t chunk_count, size_t start, size_t end, size_t place,
+                      struct zf_match *found);
+
+/* The match of zf_find with its groups, and `found` as there. With ZF_FOUND and with ZF_DONE each of the `group_count` places is written: groups[i]
  * is group i of the pattern that matched, groups[0] the whole match; a group that took no part, or that the pattern doesn't have, is ZF_NONE,
  * and so is each where there is no match. Under ZF_LEFTMOST_LONGEST they are those of the way that is preferred of the ways to match that
  * much. Under ZF_ALL the groups but for the whole match are ZF_NONE. Statuses as zf_is_match. The iteration stays as it was. */
@@ -169,6 +233,16 @@ uint32_t zf_restart(struct zf_handle *handle, size_t from, uint8_t follows);
 uint32_t zf_next(struct zf_handle *handle, const struct zf_bytes *chunks, size_t chunk_count, size_t end, struct zf_match *batch,
                  size_t batch_len, struct zf_progress *progress);
 
+/* The whole text with each match replaced by a template: in it `${1}` and `${name}` are the bytes of a group, or none where it took no part or
+ * the pattern doesn't have it, `$$` is a `$`, and all else stands for itself. The matches are those of zf_next from 0 on. Memory is taken for
+ * the replaced text while the call runs.
+ *
+ * ZF_DONE: the first replaced->len bytes of `place` are the replaced text. ZF_SHORT: `place` has fewer than replaced->len bytes, and is as it
+ * was. ZF_SYNTAX: a `$` of the template begins nothing of that, and replaced->at tells where. `replaced` is written with these three alone.
+ * ZF_NO_KIND: the kind is ZF_ALL. Else ZF_EMPTY, ZF_NOT_UTF8 (the template), ZF_TOO_LONG, ZF_MEMORY. The iteration stays as it was. */
+uint32_t zf_replace(struct zf_handle *handle, const struct zf_bytes *chunks, size_t chunk_count, const uint8_t *template_bytes,
+                    size_t template_len, uint8_t *place, size_t place_len, struct zf_replaced *replaced);
+
 /* How many patterns there are. ZF_DONE or ZF_EMPTY. */
 uint32_t zf_pattern_count(struct zf_handle *handle, size_t *count);
 
@@ -186,6 +260,9 @@ uint32_t zf_group_number(struct zf_handle *handle, size_t pattern, const uint8_t
 
 /* About how many bytes the patterns and their cache take. ZF_DONE or ZF_EMPTY. */
 uint32_t zf_memory(struct zf_handle *handle, size_t *bytes);
+
+/* The same by parts. ZF_DONE or ZF_EMPTY. */
+uint32_t zf_memory_parts(struct zf_handle *handle, struct zf_parts *parts);
 
 #ifdef __cplusplus
 }

@@ -121,6 +121,7 @@ class error : public std::runtime_error {
         case ZF_TOO_LONG: return "the text is too long";
         case ZF_OUTSIDE: return "the range is outside of the text";
         case ZF_NOT_UTF8: return "pattern " + std::to_string(refused.pattern) + " isn't UTF-8";
+        case ZF_UNKNOWN: return "the settings are of a newer version";
         case ZF_SYNTAX: return "pattern " + std::to_string(refused.pattern) + " isn't read: byte " + std::to_string(refused.at);
         case ZF_TOO_LARGE: return "the patterns are too large";
         case ZF_MEMORY: return "out of memory";
@@ -153,6 +154,45 @@ class captures {
     match found_;
     std::vector<zf_group> groups_;
 };
+
+// A fault in the text of a pattern: the part of it that is at fault, and a line that says what is wrong.
+struct fault {
+    range where;
+    std::string words;
+};
+
+// What is wrong with the text of a pattern; nothing if it is read as one.
+inline std::optional<fault> explain(std::string_view pattern, const settings &with = settings{}) {
+    const chunk text(pattern);
+    zf_fault met{};
+    std::string words(64, ' ');
+    std::uint32_t status = ZF_SHORT;
+    while (status == ZF_SHORT) {
+        status = zf_explain(text.bytes, text.len, &with, sizeof with, &met, reinterpret_cast<std::uint8_t *>(words.data()), words.size());
+        if (status == ZF_SHORT || status == ZF_FOUND)
+            words.resize(met.len);
+    }
+    if (status == ZF_DONE)
+        return std::nullopt;
+    if (status != ZF_FOUND)
+        throw error(status);
+    return fault{range{met.start, met.end}, words};
+}
+
+// The pattern that matches a text in UTF-8 and nothing else.
+inline std::string escape(std::string_view text) {
+    const chunk plain(text);
+    std::string pattern(2 * text.size(), ' ');
+    std::size_t len = 0;
+    const std::uint32_t status = zf_escape(plain.bytes, plain.len, reinterpret_cast<std::uint8_t *>(pattern.data()), pattern.size(), &len);
+    if (status != ZF_DONE)
+        throw error(status);
+    pattern.resize(len);
+    return pattern;
+}
+
+// The version of the library, as ZF_VERSION is that of the header.
+inline std::uint32_t version() noexcept { return zf_version(); }
 
 class matches;
 
@@ -194,6 +234,38 @@ class regex {
         if (!told(zf_find(&handle_, first(in), in.size(), within.start, within.end, &found)))
             return std::nullopt;
         return found;
+    }
+
+    // The match that begins where the range does.
+    std::optional<match> match_at(text in, range within = {}) {
+        match found{};
+        if (!told(zf_match_at(&handle_, first(in), in.size(), within.start, within.end, &found)))
+            return std::nullopt;
+        return found;
+    }
+
+    // The last match that begins before a place, of those that `matches` gives.
+    std::optional<match> find_last(text in, std::size_t place, range within = {}) {
+        match found{};
+        if (!told(zf_find_last(&handle_, first(in), in.size(), within.start, within.end, place, &found)))
+            return std::nullopt;
+        return found;
+    }
+
+    // The whole text with each match replaced by a template: in it `${1}` and `${name}` are the bytes of a group, and `$$` is a `$`. A fault in
+    // the template is thrown with ZF_SYNTAX; `at` is a byte of the template.
+    std::string replace(text in, std::string_view by) {
+        const chunk made_of(by);
+        std::string out;
+        zf_replaced told_of{};
+        std::uint32_t status = replace_into(out, in, made_of, told_of);
+        if (status == ZF_SHORT) {
+            out.resize(told_of.len);
+            status = replace_into(out, in, made_of, told_of);
+        }
+        if (status != ZF_DONE)
+            throw error(zf_refused{status, 0, told_of.at});
+        return out;
     }
 
     // The match in the range with its groups.
@@ -270,14 +342,25 @@ class regex {
         return count;
     }
 
+    // The same by parts.
+    zf_parts memory_parts() {
+        zf_parts parts{};
+        told(zf_memory_parts(&handle_, &parts));
+        return parts;
+    }
+
   private:
     friend class zorfelith::matches;
 
     regex() noexcept = default;
 
+    std::uint32_t replace_into(std::string &out, text in, const chunk &by, zf_replaced &told_of) {
+        return zf_replace(&handle_, first(in), in.size(), by.bytes, by.len, bytes(out), out.size(), &told_of);
+    }
+
     void compile(text patterns, const settings &with) {
         zf_refused refused{};
-        if (zf_compile(&handle_, first(patterns), patterns.size(), &with, &refused) != ZF_DONE)
+        if (zf_compile(&handle_, first(patterns), patterns.size(), &with, sizeof with, &refused) != ZF_DONE)
             throw error(refused);
     }
 

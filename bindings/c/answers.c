@@ -16,7 +16,7 @@ static uint8_t nibble(char c) { return (uint8_t)(c <= '9' ? c - '0' : c - 'a' + 
 
 /* The bytes that the word writes, in place. */
 static struct zf_bytes bytes_of(char *word) {
-    struct zf_bytes all = {zf_none, 0};
+    struct zf_bytes all = zf_bytes_of(NULL, 0);
     if (strcmp(word, "-") == 0)
         return all;
     uint8_t *out = (uint8_t *)word;
@@ -125,9 +125,10 @@ int main(void) {
         return 1;
     while (fgets(line, LINE, stdin) != NULL) {
         char kind = strtok(line, " \n")[0];
-        struct zf_settings settings;
-        memcpy(&settings, strtok(NULL, " \n"), sizeof settings);
-        for (size_t i = 0; i < sizeof settings; i++)
+        struct zf_settings settings = {0};
+        const size_t flags = offsetof(struct zf_settings, kind) + 1;
+        memcpy(&settings, strtok(NULL, " \n"), flags);
+        for (size_t i = 0; i < flags; i++)
             ((uint8_t *)&settings)[i] -= '0';
         size_t cut = strtoul(strtok(NULL, " \n"), NULL, 10);
         size_t capacity = strtoul(strtok(NULL, " \n"), NULL, 10);
@@ -140,7 +141,7 @@ int main(void) {
         struct zf_bytes text = bytes_of(strtok(NULL, " \n"));
         struct zf_handle handle = {0, NULL};
         struct zf_refused refused = {0, 0, 0};
-        uint32_t status = zf_compile(&handle, patterns, count, &settings, &refused);
+        uint32_t status = zf_compile(&handle, patterns, count, &settings, sizeof settings, &refused);
         if (status != ZF_DONE)
             printf("refused %u %zu %zu", refused.status, refused.pattern, refused.at);
         else if (kind == 'r')

@@ -59,7 +59,7 @@ int main(void) {
     struct zf_handle words = {0};
     struct zf_refused refused;
     struct gap_buffer text = {{0}, 0, 256};
-    if (zf_compile(&words, &pattern, 1, &settings, &refused) != ZF_DONE)
+    if (zf_compile(&words, &pattern, 1, &settings, sizeof settings, &refused) != ZF_DONE)
         return 1;
     insert(&text, "one two three four");
     move_to(&text, 6); /* the gap stands inside "two" */

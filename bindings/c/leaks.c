@@ -23,7 +23,7 @@ static uint32_t compile(struct zf_handle *handle, const char *pattern, uint8_t k
     const struct zf_bytes patterns[1] = {{(const uint8_t *)pattern, strlen(pattern)}};
     const struct zf_settings settings = {.kind = kind};
     struct zf_refused refused;
-    return zf_compile(handle, patterns, 1, &settings, &refused);
+    return zf_compile(handle, patterns, 1, &settings, sizeof settings, &refused);
 }
 
 static const char compiled[] = "a(?P<abc>b)c";
@@ -123,6 +123,59 @@ static void call_memory(struct zf_handle *handle) {
     wanted("bytes", zf_memory(handle, &bytes), ZF_DONE);
 }
 
+static void call_version(struct zf_handle *handle) {
+    wanted("a version", zf_version(), ZF_VERSION);
+    wanted("the handle stays", handle->full, 1);
+}
+
+static void call_explain(struct zf_handle *handle) {
+    const struct zf_settings settings = {0};
+    struct zf_fault fault;
+    uint8_t words[64];
+    wanted("no fault", zf_explain((const uint8_t *)"a", 1, &settings, sizeof settings, &fault, words, 64), ZF_DONE);
+    wanted("a fault", zf_explain((const uint8_t *)"(a", 2, &settings, sizeof settings, &fault, words, 64), ZF_FOUND);
+    wanted("too short a place", zf_explain((const uint8_t *)"(a", 2, &settings, sizeof settings, &fault, words, 3), ZF_SHORT);
+    wanted("not UTF-8", zf_explain((const uint8_t *)"\xff", 1, &settings, sizeof settings, &fault, words, 64), ZF_NOT_UTF8);
+    wanted("the handle stays", handle->full, 1);
+}
+
+static void call_escape(struct zf_handle *handle) {
+    uint8_t place[4];
+    size_t len;
+    wanted("a pattern", zf_escape((const uint8_t *)"a.", 2, place, 4, &len), ZF_DONE);
+    wanted("too short a place", zf_escape((const uint8_t *)"...", 3, place, 4, &len), ZF_SHORT);
+    wanted("not UTF-8", zf_escape((const uint8_t *)"\xff", 1, place, 4, &len), ZF_NOT_UTF8);
+    wanted("the handle stays", handle->full, 1);
+}
+
+static void call_match_at(struct zf_handle *handle) {
+    struct zf_match found;
+    wanted("a match", zf_match_at(handle, text, 2, 2, ZF_NONE, &found), ZF_FOUND);
+    wanted("no match", zf_match_at(handle, text, 2, 0, ZF_NONE, &found), ZF_DONE);
+    wanted("behind the end", zf_match_at(handle, text, 2, 3, 2, &found), ZF_OUTSIDE);
+}
+
+static void call_find_last(struct zf_handle *handle) {
+    struct zf_match found;
+    wanted("a match", zf_find_last(handle, text, 2, 0, ZF_NONE, 5, &found), ZF_FOUND);
+    wanted("no match", zf_find_last(handle, text, 2, 0, ZF_NONE, 2, &found), ZF_DONE);
+    wanted("behind the end", zf_find_last(handle, text, 2, 3, 2, 9, &found), ZF_OUTSIDE);
+}
+
+static void call_replace(struct zf_handle *handle) {
+    struct zf_replaced replaced;
+    uint8_t place[8];
+    wanted("a text", zf_replace(handle, text, 2, (const uint8_t *)"${1}", 4, place, 8, &replaced), ZF_DONE);
+    wanted("too short a place", zf_replace(handle, text, 2, (const uint8_t *)"${1}", 4, place, 2, &replaced), ZF_SHORT);
+    wanted("no template", zf_replace(handle, text, 2, (const uint8_t *)"$", 1, place, 8, &replaced), ZF_SYNTAX);
+    wanted("not UTF-8", zf_replace(handle, text, 2, (const uint8_t *)"\xff", 1, place, 8, &replaced), ZF_NOT_UTF8);
+}
+
+static void call_memory_parts(struct zf_handle *handle) {
+    struct zf_parts parts;
+    wanted("bytes", zf_memory_parts(handle, &parts), ZF_DONE);
+}
+
 static const struct {
     const char *name;
     void (*call)(struct zf_handle *);
@@ -140,6 +193,13 @@ static const struct {
     {"zf_group_name", call_group_name},
     {"zf_group_number", call_group_number},
     {"zf_memory", call_memory},
+    {"zf_version", call_version},
+    {"zf_explain", call_explain},
+    {"zf_escape", call_escape},
+    {"zf_match_at", call_match_at},
+    {"zf_find_last", call_find_last},
+    {"zf_replace", call_replace},
+    {"zf_memory_parts", call_memory_parts},
 };
 
 int main(int argc, char **argv) {

@@ -51,7 +51,7 @@ int main(int argc, char **argv) {
     struct zf_bytes *pages = malloc(MOST_PAGES * sizeof *pages);
     if (file == NULL || pages == NULL || page == 0)
         return 2;
-    if (zf_compile(&handle, &pattern, 1, &settings, &refused) != ZF_DONE) {
+    if (zf_compile(&handle, &pattern, 1, &settings, sizeof settings, &refused) != ZF_DONE) {
         fprintf(stderr, "refused: status %u, byte %zu\n", refused.status, refused.at);
         return 2;
     }

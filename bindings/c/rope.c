@@ -101,7 +101,7 @@ int main(void) {
     const struct zf_settings settings = {0};
     struct zf_handle words = {0};
     struct zf_refused refused;
-    if (zf_compile(&words, &pattern, 1, &settings, &refused) != ZF_DONE)
+    if (zf_compile(&words, &pattern, 1, &settings, sizeof settings, &refused) != ZF_DONE)
         return 1;
     struct node *rope = joined(joined(leaf("one t", 5), leaf("", 0)), joined(leaf("wo thr", 6), leaf("ee four five six", 16)));
     size_t next = print_batch("the first words", &words, rope);

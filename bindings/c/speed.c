@@ -82,7 +82,7 @@ int main(int argc, char **argv) {
     unsigned long least = (unsigned long)-1;
     struct zf_handle handle = {0};
     struct zf_refused refused;
-    if (chunk == 0 || zf_compile(&handle, &pattern, 1, &settings, &refused) != ZF_DONE)
+    if (chunk == 0 || zf_compile(&handle, &pattern, 1, &settings, sizeof settings, &refused) != ZF_DONE)
         return 2;
     struct zf_bytes text = read_all();
     struct zf_bytes *chunks = cut_up(text, chunk, &count);

@@ -11,8 +11,50 @@ static void told(const char *what, uint32_t status) { printf("%s: %u\n", what, s
 static void refused(const char *what, struct zf_handle *handle, struct zf_bytes pattern, uint8_t kind) {
     struct zf_settings settings = {.kind = kind};
     struct zf_refused refused = {7, 7, 7};
-    uint32_t status = zf_compile(handle, &pattern, 1, &settings, &refused);
+    uint32_t status = zf_compile(handle, &pattern, 1, &settings, sizeof settings, &refused);
     printf("%s: %u, pattern %zu, byte %zu, full %u\n", what, status, refused.pattern, refused.at, handle->full);
+}
+
+/* What is wrong with a pattern, in words and as a span. */
+static void explained(const char *what, struct zf_bytes pattern, size_t room) {
+    const struct zf_settings settings = {0};
+    struct zf_fault fault = {7, 7, 7};
+    uint8_t words[64];
+    told(what, zf_explain(pattern.bytes, pattern.len, &settings, sizeof settings, &fault, words, room));
+    if (fault.len <= room && fault.len != 7)
+        printf("  %zu..%zu, %.*s\n", fault.start, fault.end, (int)fault.len, (const char *)words);
+    else
+        printf("  %zu..%zu, %zu\n", fault.start, fault.end, fault.len);
+}
+
+/* Settings of an older and of a newer header: shorter ones, and longer ones whose last byte is off or on. */
+static void sizes(struct zf_handle *handle) {
+    const struct zf_bytes pattern = bytes_of("a");
+    struct {
+        struct zf_settings known;
+        uint8_t newer;
+    } settings = {.known = {.kind = 9, .size_limit = 1}};
+    struct zf_refused refused;
+    told("without the kind and the limits", zf_compile(handle, &pattern, 1, &settings.known, offsetof(struct zf_settings, kind), &refused));
+    settings.known.kind = ZF_LEFTMOST_FIRST;
+    told("without the limits", zf_compile(handle, &pattern, 1, &settings.known, offsetof(struct zf_settings, size_limit), &refused));
+    told("with a limit", zf_compile(handle, &pattern, 1, &settings.known, sizeof settings.known, &refused));
+    settings.known.size_limit = 0;
+    told("of a newer header", zf_compile(handle, &pattern, 1, &settings.known, sizeof settings.known + 1, &refused));
+    settings.newer = 1;
+    told("with what isn't known", zf_compile(handle, &pattern, 1, &settings.known, sizeof settings.known + 1, &refused));
+    printf("  %u, full %u\n", refused.status, handle->full);
+}
+
+/* A text as a pattern. */
+static void escaped(void) {
+    uint8_t place[8];
+    size_t len = 7;
+    told("escaped", zf_escape((const uint8_t *)"1+1?", 4, place, sizeof place, &len));
+    printf("  %.*s\n", (int)len, (const char *)place);
+    told("escaped in too short a place", zf_escape((const uint8_t *)"1+1?", 4, place, 5, &len));
+    printf("  %zu\n", len);
+    told("no text", zf_escape((const uint8_t *)"\xff", 1, place, sizeof place, &len));
 }
 
 /* What is asked of patterns and their groups. */
@@ -58,6 +100,28 @@ static void searches(struct zf_handle *handle) {
     told("a start behind the text", zf_is_match(handle, long_text, 2, 6, 9));
 }
 
+/* One match at a place, the last before one, and all replaced. */
+static void places(struct zf_handle *handle) {
+    const struct zf_bytes text[2] = {{(const uint8_t *)"abc abc", 7}, {(const uint8_t *)" abc", 4}};
+    struct zf_match found = {7, 7, 7};
+    struct zf_replaced replaced = {7, 7, 7};
+    uint8_t place[32];
+    told("a match at 4", zf_match_at(handle, text, 2, 4, ZF_NONE, &found));
+    printf("  %zu..%zu\n", found.start, found.end);
+    told("none at 3", zf_match_at(handle, text, 2, 3, ZF_NONE, &found));
+    told("at a place behind the text", zf_match_at(handle, text, 2, 12, ZF_NONE, &found));
+    told("the last before 8", zf_find_last(handle, text, 2, 0, ZF_NONE, 8, &found));
+    printf("  %zu..%zu\n", found.start, found.end);
+    told("none before 0", zf_find_last(handle, text, 2, 0, ZF_NONE, 0, &found));
+    told("replaced", zf_replace(handle, text, 2, (const uint8_t *)"<${abc}$$>", 10, place, sizeof place, &replaced));
+    printf("  %zu, %.*s\n", replaced.count, (int)replaced.len, (const char *)place);
+    told("replaced in too short a place", zf_replace(handle, text, 2, (const uint8_t *)"<${abc}$$>", 10, place, 13, &replaced));
+    printf("  %zu, %zu\n", replaced.count, replaced.len);
+    told("no template", zf_replace(handle, text, 2, (const uint8_t *)"a${", 3, place, sizeof place, &replaced));
+    printf("  %zu\n", replaced.at);
+    told("a template that isn't UTF-8", zf_replace(handle, text, 2, (const uint8_t *)"\xff", 1, place, sizeof place, &replaced));
+}
+
 /* What one pattern finds of each kind. */
 static void kinds(struct zf_handle *handle) {
     const struct zf_bytes text[2] = {{(const uint8_t *)"xa", 2}, {(const uint8_t *)"b ab", 4}};
@@ -74,7 +138,14 @@ int main(void) {
     struct zf_handle handle = {0};
     struct zf_match batch[1];
     struct zf_progress progress = {7, 7};
+    struct zf_parts parts = {0, 0};
     size_t bytes = 0;
+    printf("version %d\n", zf_version() == ZF_VERSION);
+    explained("a fault", bytes_of("ab(c"), 64);
+    explained("a fault in too short a place", bytes_of("ab(c"), 3);
+    explained("no fault", bytes_of("abc"), 64);
+    explained("no text", bytes_of("a\xff"), 64);
+    escaped();
     told("an empty handle", zf_memory(&handle, &bytes));
     told("a batch of an empty handle", zf_next(&handle, (const struct zf_bytes[1]){{zf_none, 0}}, 1, 0, batch, 1, &progress));
     refused("no such kind", &handle, bytes_of("a"), 9);
@@ -84,8 +155,11 @@ int main(void) {
     refused("compiled", &handle, bytes_of("a(?P<abc>b)c"), ZF_LEFTMOST_FIRST);
     names(&handle);
     searches(&handle);
+    places(&handle);
     told("memory", zf_memory(&handle, &bytes));
     printf("  %d\n", bytes > 0);
+    told("memory by part", zf_memory_parts(&handle, &parts));
+    printf("  %d\n", parts.patterns + parts.cache == bytes);
     told("a batch", zf_next(&handle, (const struct zf_bytes[1]){{(const uint8_t *)"abcabc", 6}}, 1, ZF_NONE, batch, 1, &progress));
     printf("  %zu, %zu..%zu, next %zu\n", progress.count, batch[0].start, batch[0].end, progress.next);
     told("a text that became too short", zf_next(&handle, (const struct zf_bytes[1]){{(const uint8_t *)"ab", 2}}, 1, ZF_NONE, batch, 1, &progress));
@@ -94,5 +168,8 @@ int main(void) {
     zf_free(&handle);
     told("freed", zf_restart(&handle, 0, 0));
     kinds(&handle);
+    refused("of the kind without groups", &handle, bytes_of("a"), ZF_ALL);
+    told("replaced", zf_replace(&handle, (const struct zf_bytes[1]){zf_bytes_of(NULL, 0)}, 1, zf_none, 0, (uint8_t[1]){0}, 1, &(struct zf_replaced){0}));
+    sizes(&handle);
     return handle.full;
 }

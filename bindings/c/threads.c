@@ -28,7 +28,7 @@ static void *run(void *given) {
         struct zf_handle handle = {0};
         struct zf_refused refused;
         struct zf_group groups[LEVELS + 1];
-        work->status = zf_compile(&handle, &bytes, 1, &settings, &refused);
+        work->status = zf_compile(&handle, &bytes, 1, &settings, sizeof settings, &refused);
         if (work->status == ZF_DONE)
             work->status = zf_find_groups(&handle, text, 3, 0, ZF_NONE, &work->found, groups, LEVELS + 1);
         if (work->status == ZF_FOUND && groups[LEVELS].start != work->found.start)

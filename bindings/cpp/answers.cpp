@@ -86,7 +86,7 @@ int main() {
         zorfelith::settings settings{};
         for (char &flag : flags)
             flag = static_cast<char>(flag - '0');
-        std::memcpy(&settings, flags.data(), sizeof settings);
+        std::memcpy(&settings, flags.data(), flags.size());
         try {
             zorfelith::regex regex = zorfelith::regex::of_patterns(texts, settings);
             try {

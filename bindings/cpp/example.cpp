@@ -82,6 +82,17 @@ static void many() {
     std::printf("%zu matches, the last up to %zu\n", count, end);
 }
 
+// One match at a place, the last before one, all replaced, and what is of patterns alone.
+static void places(zorfelith::text text) {
+    zorfelith::regex regex(R"((\d{4})-(\d{2})-\d{2})");
+    std::printf("at 4: %s, at 5: %s\n", regex.match_at(text, {4}) ? "yes" : "no", regex.match_at(text, {5}) ? "yes" : "no");
+    std::printf("before 21: %zu\n", regex.find_last(text, 21)->start);
+    std::printf("%s\n", regex.replace(text, "${2}/${1}").c_str());
+    const auto fault = zorfelith::explain("a(b");
+    std::printf("%zu..%zu: %s\n", fault->where.start, fault->where.end, fault->words.c_str());
+    std::printf("%s, %d\n", zorfelith::escape("1+1").c_str(), zorfelith::version() == ZF_VERSION);
+}
+
 #if __cplusplus >= 202002L
 static_assert(std::ranges::input_range<zorfelith::matches>);
 #endif
@@ -94,5 +105,6 @@ int main() {
     refused("a\xff");
     loops();
     many();
+    places(text);
     return 0;
 }

@@ -131,6 +131,46 @@ class Replacing(unittest.TestCase):
         self.assertEqual(digits.subn(b".", b"12345", 3), (b"...45", 3))
 
 
+class Places(unittest.TestCase):
+    def test_match_and_last(self):
+        dates, text = zorfelith.compile(r"\d{4}-\d\d"), [b"due 20", b"26-11, paid 2027", b"-01"]
+        self.assertEqual(dates.match(text, 18).span(), (18, 25))
+        self.assertIsNone(dates.match(text, 3))
+        self.assertEqual([dates.last(text, place) and dates.last(text, place).span() for place in (4, 5, 18, 19)],
+                         [None, (4, 11), (4, 11), (18, 25)])
+
+    def test_replace(self):
+        dates = zorfelith.compile(r"(?P<y>\d+)-(\d+)")
+        self.assertEqual(dates.replace("${2}/${y}$$", [b"on 2026-", b"11"]), (b"on 11/2026$", 1))
+        self.assertEqual(dates.replace(b"", []), (b"", 0))
+        with self.assertRaisesRegex(ValueError, "at byte 1"):
+            dates.replace("a${", b"a")
+
+
+class Patterns(unittest.TestCase):
+    def test_explain(self):
+        self.assertEqual(zorfelith.explain("a(b"), (1, 2, "unclosed group"))
+        self.assertIsNone(zorfelith.explain("a(b)"))
+
+    def test_escape(self):
+        text = "".join(map(chr, range(128)))
+        pattern = zorfelith.escape(text)
+        self.assertEqual(zorfelith.compile(pattern).search(text.encode()).span(), (0, 128))
+        self.assertIsNone(zorfelith.compile(zorfelith.escape("a.c")).search(b"abc"))
+
+    def test_limits(self):
+        rules = [rf"word{number}\s+\w+" for number in range(200)]
+        with self.assertRaises(zorfelith.Error) as raised:
+            zorfelith.compile(rules)
+        self.assertEqual(raised.exception.status, 9)
+        held = zorfelith.compile(rules, size_limit=1 << 30, cache_capacity=1 << 24)
+        self.assertEqual(held.search(b"word7  ab").span(), (0, 9))
+        self.assertEqual(sum(held.memory_parts()), held.memory())
+
+    def test_version(self):
+        self.assertEqual(len(zorfelith.version()), 3)
+
+
 class Refusals(unittest.TestCase):
     def test_patterns(self):
         for pattern, status in (("(", 8), (b"\xff", 7)):

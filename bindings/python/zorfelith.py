@@ -21,11 +21,11 @@ import os
 import re
 import threading
 
-__all__ = ["ALL", "Error", "LEFTMOST_FIRST", "LEFTMOST_LONGEST", "Match", "Pattern", "compile"]
+__all__ = ["ALL", "Error", "Fault", "LEFTMOST_FIRST", "LEFTMOST_LONGEST", "Match", "Pattern", "compile", "escape", "explain", "version"]
 
 LEFTMOST_FIRST, ALL, LEFTMOST_LONGEST = 0, 1, 2
 
-_FOUND, _ABSENT, _SHORT = 1, 5, 6
+_FOUND, _ABSENT, _SHORT, _SYNTAX = 1, 5, 6, 8
 _WORDS = {
     2: "the pattern was closed",
     3: "the text is too long",
@@ -35,8 +35,10 @@ _WORDS = {
     9: "the patterns are too large",
     10: "out of memory",
     11: "there is no such kind of match",
+    12: "the settings are of a newer version",
 }
 _FLAGS = ("case_insensitive", "multi_line", "dot_matches_new_line", "crlf", "swap_greed", "bytes", "any_bytes", "split_characters")
+_LIMITS = ("size_limit", "cache_capacity")
 _BATCH = 256
 
 _size = ctypes.c_size_t
@@ -52,7 +54,7 @@ class _Handle(ctypes.Structure):
 
 
 class _Settings(ctypes.Structure):
-    _fields_ = [(name, ctypes.c_uint8) for name in (*_FLAGS, "kind")]
+    _fields_ = [(name, ctypes.c_uint8) for name in (*_FLAGS, "kind")] + [(name, _size) for name in _LIMITS]
 
 
 class _Refused(ctypes.Structure):
@@ -65,6 +67,18 @@ class _Match(ctypes.Structure):
 
 class _Group(ctypes.Structure):
     _fields_ = [("start", _size), ("end", _size)]
+
+
+class _Fault(ctypes.Structure):
+    _fields_ = [("start", _size), ("end", _size), ("len", _size)]
+
+
+class _Replaced(ctypes.Structure):
+    _fields_ = [("count", _size), ("len", _size), ("at", _size)]
+
+
+class _Parts(ctypes.Structure):
+    _fields_ = [("patterns", _size), ("cache", _size)]
 
 
 class _Progress(ctypes.Structure):
@@ -90,10 +104,17 @@ def _loaded():
     """The library, with the types of its functions."""
     library = ctypes.CDLL(os.environ.get("ZORFELITH_LIBRARY", "libzorfelith.so.0"))
     handle, text, match, at = ctypes.POINTER(_Handle), [ctypes.POINTER(_Bytes), _size], ctypes.POINTER(_Match), ctypes.POINTER(_size)
+    settings, chars = [ctypes.POINTER(_Settings), _size], [ctypes.c_char_p, _size]
     types = {
-        "zf_compile": [handle, *text, ctypes.POINTER(_Settings), ctypes.POINTER(_Refused)],
+        "zf_version": [],
+        "zf_compile": [handle, *text, *settings, ctypes.POINTER(_Refused)],
+        "zf_explain": [*chars, *settings, ctypes.POINTER(_Fault), *chars],
+        "zf_escape": [*chars, *chars, at],
         "zf_is_match": [handle, *text, _size, _size],
         "zf_find": [handle, *text, _size, _size, match],
+        "zf_match_at": [handle, *text, _size, _size, match],
+        "zf_find_last": [handle, *text, _size, _size, _size, match],
+        "zf_replace": [handle, *text, *chars, *chars, ctypes.POINTER(_Replaced)],
         "zf_find_groups": [handle, *text, _size, _size, match, ctypes.POINTER(_Group), _size],
         "zf_which_patterns": [handle, *text, _size, _size, ctypes.POINTER(ctypes.c_uint8), _size],
         "zf_restart": [handle, _size, ctypes.c_uint8],
@@ -103,6 +124,7 @@ def _loaded():
         "zf_group_name": [handle, _size, _size, ctypes.c_char_p, _size, at],
         "zf_group_number": [handle, _size, ctypes.c_char_p, _size, at],
         "zf_memory": [handle, at],
+        "zf_memory_parts": [handle, ctypes.POINTER(_Parts)],
     }
     for name, arguments in types.items():
         getattr(library, name).argtypes = arguments
@@ -238,7 +260,7 @@ class Pattern:
             _zf.zf_free(ctypes.byref(_owner.dropped.popleft()))
         self._handle, self._dropped, self._thread = _Handle(), _owner.dropped, threading.get_ident()
         refused, texts = _Refused(), _Text(patterns)
-        if _zf.zf_compile(self._handle, texts.array, texts.count, settings, refused):
+        if _zf.zf_compile(self._handle, texts.array, texts.count, settings, ctypes.sizeof(settings), refused):
             raise Error(refused.status, refused.pattern, refused.at)
 
     def __del__(self):
@@ -267,6 +289,35 @@ class Pattern:
         if not _told(_zf.zf_find(handle, text.array, text.count, start, _NONE if end is None else end, found)):
             return None
         return Match(self, text, found.pattern, found.start, found.end)
+
+    def match(self, text, start=0, end=None):
+        """The match that begins at start, or None."""
+        handle, text, found = self._own(), _Text(text), _Match()
+        if not _told(_zf.zf_match_at(handle, text.array, text.count, start, _NONE if end is None else end, found)):
+            return None
+        return Match(self, text, found.pattern, found.start, found.end)
+
+    def last(self, text, place, start=0, end=None):
+        """The last match that begins before the place, of those that `finditer` gives, or None."""
+        handle, text, found = self._own(), _Text(text), _Match()
+        if not _told(_zf.zf_find_last(handle, text.array, text.count, start, _NONE if end is None else end, place, found)):
+            return None
+        return Match(self, text, found.pattern, found.start, found.end)
+
+    def replace(self, template, text):
+        """The text as one bytes object with each match replaced by a template, a str or bytes as in `subn`, and how many were. The library makes
+        it in one call."""
+        template = template.encode() if isinstance(template, str) else bytes(template)
+        handle, text, told, place = self._own(), _Text(text), _Replaced(), ctypes.create_string_buffer(1)
+        while True:
+            size = len(place) - 1
+            status = _zf.zf_replace(handle, text.array, text.count, template, len(template), place, size, told)
+            if status == _SYNTAX:
+                raise ValueError(f"error parsing template at byte {told.at}")
+            if status != _SHORT:
+                _told(status)
+                return place.raw[:told.len], told.count
+            place = ctypes.create_string_buffer(told.len + 1)
 
     def which(self, text, start=0, end=None):
         """The numbers of the patterns that have a match from start to end."""
@@ -349,6 +400,12 @@ class Pattern:
         _told(_zf.zf_memory(self._own(), count))
         return count.value
 
+    def memory_parts(self):
+        """About how many bytes the patterns take, and how many their cache."""
+        parts = _Parts()
+        _told(_zf.zf_memory_parts(self._own(), parts))
+        return parts.patterns, parts.cache
+
     def _number(self, pattern, group):
         """The number of a group that is named or numbered."""
         if isinstance(group, int):
@@ -417,16 +474,51 @@ def _filler(template):
     return filled
 
 
+def _settings(kind, flags):
+    """The structure of settings for these names."""
+    unknown = sorted(set(flags) - {*_FLAGS, *_LIMITS})
+    if unknown:
+        raise TypeError(f"no flag {unknown[0]}")
+    return _Settings(kind=kind, **{name: value if name in _LIMITS else bool(value) for name, value in flags.items()})
+
+
+def _encoded(pattern):
+    return pattern.encode("utf-8", "surrogatepass") if isinstance(pattern, str) else pattern
+
+
 def compile(patterns, *, kind=LEFTMOST_FIRST, **flags):
     """Compiles a pattern, or a list of patterns: each a str or bytes of UTF-8.
 
     `kind` is LEFTMOST_FIRST, LEFTMOST_LONGEST or ALL. The flags, all off, are case_insensitive, multi_line, dot_matches_new_line, crlf,
-    swap_greed, bytes, any_bytes and split_characters: zorfelith.h says what each does.
+    swap_greed, bytes, any_bytes and split_characters, and the limits size_limit and cache_capacity: zorfelith.h says what each does.
     """
-    unknown = sorted(set(flags) - set(_FLAGS))
-    if unknown:
-        raise TypeError(f"no flag {unknown[0]}")
     texts = [patterns] if isinstance(patterns, (str, bytes)) else list(patterns)
-    texts = [it.encode("utf-8", "surrogatepass") if isinstance(it, str) else it for it in texts]
-    settings = _Settings(kind=kind, **{name: bool(value) for name, value in flags.items()})
-    return Pattern(texts, settings)
+    return Pattern([_encoded(it) for it in texts], _settings(kind, flags))
+
+
+# What is wrong with a pattern: the part of it in bytes, and a line that says what.
+Fault = collections.namedtuple("Fault", "start end words")
+
+
+def explain(pattern, **flags):
+    """What is wrong with the text of a pattern, as a Fault, or None if it is read as one."""
+    text, settings, fault, words = _encoded(pattern), _settings(LEFTMOST_FIRST, flags), _Fault(), ctypes.create_string_buffer(64)
+    while True:
+        status = _zf.zf_explain(text, len(text), settings, ctypes.sizeof(settings), fault, words, len(words))
+        if status != _SHORT:
+            return Fault(fault.start, fault.end, words.raw[:fault.len].decode()) if _told(status) else None
+        words = ctypes.create_string_buffer(fault.len)
+
+
+def escape(text):
+    """The pattern, a str, that matches a text and nothing else. The text is a str or bytes of UTF-8."""
+    text, length = _encoded(text), _size()
+    place = ctypes.create_string_buffer(2 * len(text) + 1)
+    _told(_zf.zf_escape(text, len(text), place, len(place), length))
+    return place.raw[:length.value].decode()
+
+
+def version():
+    """The version of the library, as a tuple of three numbers."""
+    number = _zf.zf_version()
+    return number // 1000000, number // 1000 % 1000, number % 1000

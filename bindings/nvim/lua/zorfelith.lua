@@ -10,11 +10,14 @@ struct zf_bytes { const uint8_t *bytes; size_t len; };
 struct zf_handle { uint8_t full; void *held; };
 struct zf_settings {
     uint8_t case_insensitive, multi_line, dot_matches_new_line, crlf, swap_greed, bytes, any_bytes, split_characters, kind;
+    size_t size_limit, cache_capacity;
 };
+struct zf_fault { size_t start; size_t end; size_t len; };
 struct zf_refused { uint32_t status; size_t pattern; size_t at; };
 struct zf_match { size_t pattern; size_t start; size_t end; };
 struct zf_progress { size_t count; size_t next; };
-uint32_t zf_compile(struct zf_handle *, const struct zf_bytes *, size_t, const struct zf_settings *, struct zf_refused *);
+uint32_t zf_compile(struct zf_handle *, const struct zf_bytes *, size_t, const struct zf_settings *, size_t, struct zf_refused *);
+uint32_t zf_explain(const uint8_t *, size_t, const struct zf_settings *, size_t, struct zf_fault *, uint8_t *, size_t);
 void zf_free(struct zf_handle *);
 uint32_t zf_restart(struct zf_handle *, size_t, uint8_t);
 uint32_t zf_next(struct zf_handle *, const struct zf_bytes *, size_t, size_t, struct zf_match *, size_t, struct zf_progress *);
@@ -40,15 +43,26 @@ end
 local newline = "\n"
 local as_bytes = ffi.typeof("const uint8_t *")
 
+-- What is wrong with a pattern that isn't read, in words.
+local function fault_of(pattern, settings)
+  local fault, words = ffi.new("struct zf_fault"), ffi.new("uint8_t[64]")
+  if zf().zf_explain(as_bytes(pattern), #pattern, settings, ffi.sizeof(settings), fault, words, 64) ~= 1 then
+    return nil
+  end
+  local at = tonumber(fault.start)
+  return ("%s at byte %d: %s"):format(ffi.string(words, fault.len), at, pattern:sub(at + 1, tonumber(fault["end"])))
+end
+
 -- Compiles a pattern. `flags` has names of fields of zf_settings. Returns nil and a message if it is refused.
 function M.compile(pattern, flags)
   local handle = ffi.gc(ffi.new("struct zf_handle"), zf().zf_free)
   local settings = ffi.new("struct zf_settings", flags or {})
   local refused = ffi.new("struct zf_refused")
   local text = ffi.new("struct zf_bytes[1]", { { as_bytes(pattern), #pattern } })
-  local status = zf().zf_compile(handle, text, 1, settings, refused)
+  local status = zf().zf_compile(handle, text, 1, settings, ffi.sizeof(settings), refused)
   if status == 8 then
-    return nil, ("%s isn't read: byte %d"):format(pattern, tonumber(refused.at))
+    local fault = fault_of(pattern, settings)
+    return nil, fault or ("%s isn't read: byte %d"):format(pattern, tonumber(refused.at))
   elseif status ~= 0 then
     return nil, WORDS[status] or ("status %d"):format(status)
   end

@@ -1,5 +1,9 @@
+pub mod Escaping
+pub mod Explaining
 pub mod Held
 pub mod Names
+pub mod Options
 pub mod Refusals
+pub mod Replacing
 pub mod Statuses
 pub mod Tells

@@ -1,5 +1,5 @@
 -- How refusals are told.
-use Rattle.std.specs.Prelude.{◌≡◌, ℕ, List}
+use Rattle.std.specs.Prelude.{◌≡◌, ◌⊎◌, ℕ, List}
 use Rattle.std.specs.Borrow.{Bor}
 use Rattle.rc_pattern.specs.declared.syntax.Error.TheVariants.{Memory as no_memory, Syntax as fault_at}
 use Rattle.rc_settings.specs.declared.error.BuildError.TheVariants.{CacheTooSmall, DfaSizeLimit, IllFormed, PlaceLimit, SizeLimit, Memory as none_left, Syntax as unread}
@@ -7,7 +7,8 @@ use Rattle.searcher.specs.Answers.{IsRefused}
 use Rattle.searcher.specs.declared.answers.Refusal.{Refusal}
 use Rattle.searcher.specs.declared.answers.Refusal.TheVariants.{Build, Memory, NoKind, NotUtf8, TooMany}
 use Rattle.searcher.specs.declared.settings.Settings.{Settings}
-use Rattle.zorfelith_c.specs.Statuses.{memory, no_kind, not_utf8, syntax, too_large}
+use Rattle.zorfelith_c.specs.Options.{IsKnown, settings_in}
+use Rattle.zorfelith_c.specs.Statuses.{memory, no_kind, not_utf8, syntax, too_large, unknown}
 use Rattle.zorfelith_c.specs.declared.build.Refused.{Refused}
 
 -- a status alone
@@ -35,3 +36,14 @@ pub record IsToldRefusal (settings : Settings) (patterns : List (Bor (List ℕ))
   pub applies : IsRefused settings patterns refusal
   pub told : refused ≡ told_refusal refusal
   pub coded : status ≡ refused.status
+
+-- the settings have a byte that is on behind those that are known, and that is told
+pub record IsToldUnknown (settings : List ℕ) (status : ℕ) (refused : Refused) : Type 0 where
+  pub applies : ¬ IsKnown settings
+  pub told : refused ≡ only unknown
+  pub coded : status ≡ unknown
+
+-- Settings that aren't known are told before all else.
+abbrev pub IsToldBuild : List ℕ → List (Bor (List ℕ)) → ℕ → Refused → Type 0
+IsToldBuild settings patterns status refused =
+    IsToldUnknown settings status refused ⊎ (IsKnown settings × IsToldRefusal (settings_in settings) patterns status refused)

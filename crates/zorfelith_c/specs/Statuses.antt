@@ -25,7 +25,7 @@ outside = 4
 abbrev pub absent : ℕ
 absent = 5
 
--- the place for a name is too short
+-- the place for a name or another text is too short
 abbrev pub short : ℕ
 short = 6
 
@@ -48,3 +48,7 @@ memory = 10
 -- no kind of match has the number
 abbrev pub no_kind : ℕ
 no_kind = 11
+
+-- the settings have a byte that is on behind those that are known
+abbrev pub unknown : ℕ
+unknown = 12

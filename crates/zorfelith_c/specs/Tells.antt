@@ -6,7 +6,8 @@ use Rattle.rc_text.specs.Joined.{joined}
 use Rattle.rc_pikevm_search.specs.Tells.{KeepsAll, TellsBy}
 use Rattle.api_meta.specs.Views.{regex_kind, regex_names, regex_patterns}
 use Rattle.api_meta.specs.declared.regex.Regex.{Regex}
-use Rattle.searcher.specs.Answers.{IsSame, answer_in, left_in, search_in}
+use Rattle.searcher.specs.Answers.{IsSame, answer_at, answer_in, left_in, matches_in, search_in}
+use Rattle.searcher.specs.Last.{last_before}
 use Rattle.searcher.specs.Places.{AreGroups, AreMarks, IsFilled, found_at}
 use Rattle.searcher.specs.Ranges.{IsFault, IsServed}
 use Rattle.searcher.specs.Searching.{Searching}
@@ -33,6 +34,17 @@ TellsWhether r chunks start end status =
 abbrev pub TellsMatch : Regex → List (Bor (List ℕ)) → ℕ → ℕ → ℕ → MatchAt → Type 0
 TellsMatch r chunks start end status m =
     TellsOf (answer_in r (joined chunks) start end ≡ None) (answer_in r (joined chunks) start end ≡ Some (found_at m)) chunks start end status
+
+-- the match in the text that begins at `start`
+abbrev pub TellsMatchAt : Regex → List (Bor (List ℕ)) → ℕ → ℕ → ℕ → MatchAt → Type 0
+TellsMatchAt r chunks start end status m =
+    TellsOf (answer_at r (joined chunks) start end ≡ None) (answer_at r (joined chunks) start end ≡ Some (found_at m)) chunks start end status
+
+-- the last match in the text that begins before the place
+abbrev pub TellsLast : Regex → List (Bor (List ℕ)) → ℕ → ℕ → ℕ → ℕ → MatchAt → Type 0
+TellsLast r chunks start end place status m =
+    TellsOf (last_before place (matches_in r (joined chunks) start end) ≡ None)
+    (last_before place (matches_in r (joined chunks) start end) ≡ Some (found_at m)) chunks start end status
 
 -- which patterns have a match in the text
 abbrev pub TellsMarks : Regex → List (Bor (List ℕ)) → ℕ → ℕ → ℕ → List ℕ → Type 0

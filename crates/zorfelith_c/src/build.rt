@@ -1,15 +1,20 @@
 //! Compile and free: how a handle is filled and emptied.
 ghost use Rattle.std.specs.Prelude.{◌≡◌, ◌≢◌, MatchOption, None};
 ghost use Rattle.searcher.specs.Answers.{IsBuilt};
-ghost use Rattle.zorfelith_c.specs.Refusals.{IsToldRefusal, told_refusal};
+ghost use Rattle.zorfelith_c.specs.Options.{IsKnown, settings_in};
+ghost use Rattle.zorfelith_c.specs.Refusals.{IsToldBuild, only, told_refusal};
 ghost use Rattle.zorfelith_c.specs.Statuses.{done};
 
 use crate::handle::Handle;
-use crate::status::{DONE, MEMORY, NO_KIND, NOT_UTF8, SYNTAX, TOO_LARGE};
+use crate::options::settings_of;
+use crate::status::{DONE, MEMORY, NO_KIND, NOT_UTF8, SYNTAX, TOO_LARGE, UNKNOWN};
 use rc_pattern::syntax;
 use rc_settings::error::BuildError;
-use searcher::{Refusal, Searcher, Settings, free};
+use searcher::{Refusal, Searcher, free};
 use std::alloc::Global;
+
+/// The version of the library, 0.1.0.
+pub const VERSION: u32 = 1_000;
 
 /// Why patterns were refused, and where: the number of the pattern, and a byte of it. Both are 0 if
 /// the status isn't about a pattern.
@@ -22,6 +27,17 @@ pub struct Refused {
     pub pattern: usize,
     /// The byte of its text at which the fault is.
     pub at: usize,
+}
+
+/// A status that isn't about a pattern.
+fn only(status: u32) -> Refused
+    ensures { result ≡ only status }
+{
+    Refused {
+        status,
+        pattern: 0,
+        at: 0,
+    }
 }
 
 /// Returns an error as plain numbers.
@@ -53,23 +69,30 @@ fn told(refusal: Refusal) -> Refused
     }
 }
 
-/// Frees what the handle holds, and fills it with a searcher for these patterns, each in UTF-8. If
-/// the status isn't `DONE`, the handle is empty, and `refused` says why.
+/// Frees what the handle holds, and fills it with a searcher for these patterns, each in UTF-8. The
+/// settings are the bytes of a `struct zf_settings`. If the status isn't `DONE`, the handle is
+/// empty, and `refused` says why.
 #[unsafe(no_mangle)]
 pub extern "C" fn zf_compile(
     alloc: Global,
     handle: &mut Handle,
     patterns: &[&[u8]],
-    settings: &Settings,
+    settings: &[u8],
     refused: &mut Refused,
 ) -> u32
     ensures built { MatchOption handle.new.held.value (result ≢ done)
-        (λ s. (result ≡ done) × IsBuilt settings.now patterns.now s) }
-    ensures refused { result ≢ done → IsToldRefusal settings.now patterns.now result refused.new }
+        (λ s. (result ≡ done) × IsKnown settings.now
+        × IsBuilt (settings_in settings.now) patterns.now s) }
+    ensures refused { result ≢ done
+        → IsToldBuild settings.now patterns.now result refused.new }
     ensures unwritten { result ≡ done → refused.new ≡ refused.old }
 {
     zf_free(alloc, handle);
-    match Searcher::boxed(alloc, patterns, settings) {
+    let Some(settings) = settings_of(settings) else {
+        *refused = only(UNKNOWN);
+        return UNKNOWN;
+    };
+    match Searcher::boxed(alloc, patterns, &settings) {
         Ok(searcher) => {
             *handle = Handle::of(searcher);
             DONE
@@ -79,6 +102,15 @@ pub extern "C" fn zf_compile(
             refused.status
         }
     }
+}
+
+/// The version of the library: 1,000,000 times its first number, 1,000 times its second, and its
+/// third.
+#[unsafe(no_mangle)]
+pub extern "C" fn zf_version() -> u32
+    ensures { result ≡ VERSION }
+{
+    VERSION
 }
 
 /// Frees what the handle holds, and leaves it empty.

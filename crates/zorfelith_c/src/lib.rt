@@ -6,8 +6,12 @@
 #![tactic(auto)]
 
 pub mod build;
+pub mod escape;
+pub mod explain;
 pub mod groups;
 pub mod handle;
 pub mod held;
+mod options;
+pub mod replace;
 pub mod search;
 pub mod status;

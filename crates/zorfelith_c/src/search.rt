@@ -2,12 +2,12 @@
 ghost use Rattle.std.specs.Prelude.{◌≡◌, ◌≢◌, MatchOption, None, Some, if◌then◌else◌, option_map};
 ghost use Rattle.searcher.specs.Flags.{is_on};
 ghost use Rattle.searcher.specs.Searching.{Searching};
-ghost use Rattle.zorfelith_c.specs.Tells.{LeavesGroups, TellsBatch, TellsMarks, TellsMatch, TellsWhether};
+ghost use Rattle.zorfelith_c.specs.Tells.{LeavesGroups, TellsBatch, TellsLast, TellsMarks, TellsMatch, TellsMatchAt, TellsWhether};
 ghost use Rattle.zorfelith_c.specs.Statuses.{done, empty};
 
 use crate::handle::Handle;
 use crate::status::{DONE, EMPTY, FOUND, OUTSIDE, TOO_LONG};
-use searcher::{Fault, GroupAt, MatchAt};
+use searcher::{Fault, GroupAt, MatchAt, MemoryParts};
 use std::alloc::Global;
 
 /// How far an iteration has come.
@@ -67,6 +67,73 @@ pub extern "C" fn zf_find(
     }
     let mut held = handle.take(alloc);
     let answer = held.find(chunks, start, end);
+    *handle = Handle::of(held);
+    match answer {
+        Ok(Some(m)) => {
+            *found = MatchAt::of(m);
+            FOUND
+        }
+        Ok(None) => DONE,
+        Err(Fault::TooLong) => TOO_LONG,
+        Err(Fault::Outside) => OUTSIDE,
+    }
+}
+
+/// Finds the match in the text that begins at `start` and ends at `end` or before: `FOUND`, and the
+/// match is written, or `DONE`.
+#[unsafe(no_mangle)]
+pub extern "C" fn zf_match_at(
+    alloc: Global,
+    handle: &mut Handle,
+    chunks: &[&[u8]],
+    start: usize,
+    end: usize,
+    found: &mut MatchAt,
+) -> u32
+    ensures answered { MatchOption handle.old.held.value (result ≡ empty)
+        (λ s. TellsMatchAt s.regex chunks.now start end result found.new) }
+    ensures unwritten { result ≢ 1 → found.new ≡ found.old }
+    ensures kept { handle.new.held.value ≡ handle.old.held.value }
+{
+    if !handle.is_full() {
+        return EMPTY;
+    }
+    let mut held = handle.take(alloc);
+    let answer = held.match_at(chunks, start, end);
+    *handle = Handle::of(held);
+    match answer {
+        Ok(Some(m)) => {
+            *found = MatchAt::of(m);
+            FOUND
+        }
+        Ok(None) => DONE,
+        Err(Fault::TooLong) => TOO_LONG,
+        Err(Fault::Outside) => OUTSIDE,
+    }
+}
+
+/// Finds the last match of the text from `start` to `end` that begins before `place`: `FOUND`, and
+/// the match is written, or `DONE`. The matches are those of an iteration that begins at `start`.
+#[unsafe(no_mangle)]
+pub extern "C" fn zf_find_last(
+    alloc: Global,
+    handle: &mut Handle,
+    chunks: &[&[u8]],
+    start: usize,
+    end: usize,
+    place: usize,
+    found: &mut MatchAt,
+) -> u32
+    ensures answered { MatchOption handle.old.held.value (result ≡ empty)
+        (λ s. TellsLast s.regex chunks.now start end place result found.new) }
+    ensures unwritten { result ≢ 1 → found.new ≡ found.old }
+    ensures kept { handle.new.held.value ≡ handle.old.held.value }
+{
+    if !handle.is_full() {
+        return EMPTY;
+    }
+    let mut held = handle.take(alloc);
+    let answer = held.find_last(chunks, start, end, place);
     *handle = Handle::of(held);
     match answer {
         Ok(Some(m)) => {
@@ -219,6 +286,26 @@ pub extern "C" fn zf_memory(alloc: Global, handle: &mut Handle, bytes: &mut usiz
     }
     let held = handle.take(alloc);
     *bytes = held.memory_usage();
+    *handle = Handle::of(held);
+    DONE
+}
+
+/// Writes roughly the number of bytes that the patterns take, and the number that the cache takes.
+#[unsafe(no_mangle)]
+pub extern "C" fn zf_memory_parts(
+    alloc: Global,
+    handle: &mut Handle,
+    parts: &mut MemoryParts,
+) -> u32
+    ensures answered { MatchOption handle.old.held.value (result ≡ empty) (λ _. result ≡ done) }
+    ensures unwritten { result ≢ done → parts.new ≡ parts.old }
+    ensures kept { handle.new.held.value ≡ handle.old.held.value }
+{
+    if !handle.is_full() {
+        return EMPTY;
+    }
+    let held = handle.take(alloc);
+    *parts = held.memory_parts();
     *handle = Handle::of(held);
     DONE
 }

@@ -12,7 +12,7 @@ pub const TOO_LONG: u32 = 3;
 pub const OUTSIDE: u32 = 4;
 /// There is no such pattern or group, or it has no name.
 pub const ABSENT: u32 = 5;
-/// The buffer for a name is too short.
+/// The buffer for a name or another text is too short.
 pub const SHORT: u32 = 6;
 /// The bytes aren't UTF-8.
 pub const NOT_UTF8: u32 = 7;
@@ -24,3 +24,5 @@ pub const TOO_LARGE: u32 = 9;
 pub const MEMORY: u32 = 10;
 /// No kind of match has the number.
 pub const NO_KIND: u32 = 11;
+/// The settings have a byte that is on behind those that are known.
+pub const UNKNOWN: u32 = 12;

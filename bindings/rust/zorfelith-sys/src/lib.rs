@@ -17,6 +17,10 @@ pub const ZF_SYNTAX: u32 = 8;
 pub const ZF_TOO_LARGE: u32 = 9;
 pub const ZF_MEMORY: u32 = 10;
 pub const ZF_NO_KIND: u32 = 11;
+pub const ZF_UNKNOWN: u32 = 12;
+
+/// The version that these declarations are of.
+pub const ZF_VERSION: u32 = 1000;
 
 pub const ZF_LEFTMOST_FIRST: u8 = 0;
 pub const ZF_ALL: u8 = 1;
@@ -52,6 +56,8 @@ pub struct zf_settings {
     pub any_bytes: u8,
     pub split_characters: u8,
     pub kind: u8,
+    pub size_limit: usize,
+    pub cache_capacity: usize,
 }
 
 #[repr(C)]
@@ -79,19 +85,54 @@ pub struct zf_group {
 
 #[repr(C)]
 #[derive(Clone, Copy, Default)]
+pub struct zf_fault {
+    pub start: usize,
+    pub end: usize,
+    pub len: usize,
+}
+
+#[repr(C)]
+#[derive(Clone, Copy, Default)]
+pub struct zf_replaced {
+    pub count: usize,
+    pub len: usize,
+    pub at: usize,
+}
+
+#[repr(C)]
+#[derive(Clone, Copy, Default)]
+pub struct zf_parts {
+    pub patterns: usize,
+    pub cache: usize,
+}
+
+#[repr(C)]
+#[derive(Clone, Copy, Default)]
 pub struct zf_progress {
     pub count: usize,
     pub next: usize,
 }
 
 unsafe extern "C" {
+    pub fn zf_version() -> u32;
     pub fn zf_compile(
         handle: *mut zf_handle,
         patterns: *const zf_bytes<'_>,
         pattern_count: usize,
         settings: *const zf_settings,
+        settings_size: usize,
         refused: *mut zf_refused,
     ) -> u32;
+    pub fn zf_explain(
+        pattern: *const u8,
+        pattern_len: usize,
+        settings: *const zf_settings,
+        settings_size: usize,
+        fault: *mut zf_fault,
+        words: *mut u8,
+        words_len: usize,
+    ) -> u32;
+    pub fn zf_escape(text: *const u8, text_len: usize, place: *mut u8, place_len: usize, len: *mut usize) -> u32;
     pub fn zf_free(handle: *mut zf_handle);
     pub fn zf_is_match(handle: *mut zf_handle, chunks: *const zf_bytes<'_>, chunk_count: usize, start: usize, end: usize) -> u32;
     pub fn zf_find(
@@ -100,6 +141,23 @@ unsafe extern "C" {
         chunk_count: usize,
         start: usize,
         end: usize,
+        found: *mut zf_match,
+    ) -> u32;
+    pub fn zf_match_at(
+        handle: *mut zf_handle,
+        chunks: *const zf_bytes<'_>,
+        chunk_count: usize,
+        start: usize,
+        end: usize,
+        found: *mut zf_match,
+    ) -> u32;
+    pub fn zf_find_last(
+        handle: *mut zf_handle,
+        chunks: *const zf_bytes<'_>,
+        chunk_count: usize,
+        start: usize,
+        end: usize,
+        place: usize,
         found: *mut zf_match,
     ) -> u32;
     pub fn zf_find_groups(
@@ -131,6 +189,16 @@ unsafe extern "C" {
         batch_len: usize,
         progress: *mut zf_progress,
     ) -> u32;
+    pub fn zf_replace(
+        handle: *mut zf_handle,
+        chunks: *const zf_bytes<'_>,
+        chunk_count: usize,
+        template_bytes: *const u8,
+        template_len: usize,
+        place: *mut u8,
+        place_len: usize,
+        replaced: *mut zf_replaced,
+    ) -> u32;
     pub fn zf_pattern_count(handle: *mut zf_handle, count: *mut usize) -> u32;
     pub fn zf_group_count(handle: *mut zf_handle, pattern: usize, count: *mut usize) -> u32;
     pub fn zf_group_name(
@@ -143,4 +211,5 @@ unsafe extern "C" {
     ) -> u32;
     pub fn zf_group_number(handle: *mut zf_handle, pattern: usize, name: *const u8, name_len: usize, number: *mut usize) -> u32;
     pub fn zf_memory(handle: *mut zf_handle, bytes: *mut usize) -> u32;
+    pub fn zf_memory_parts(handle: *mut zf_handle, parts: *mut zf_parts) -> u32;
 }

@@ -23,6 +23,7 @@ fn settings_of(word: &str) -> Settings {
         any_bytes: on[6],
         split_characters: on[7],
         kind: on[8],
+        ..Settings::default()
     }
 }
 
@@ -31,7 +32,7 @@ fn status(error: Error) -> u32 {
     match error {
         Error::TooLong => 3,
         Error::Outside => 4,
-        Error::Syntax { .. } => 8,
+        Error::Syntax { .. } | Error::Template { .. } => 8,
         Error::TooLarge => 9,
         Error::Memory => 10,
         Error::NoKind => 11,

@@ -13,6 +13,12 @@
 //!     assert_eq!(captures.get(2).map(|month| month.len()), Some(2));
 //! }
 //! assert_eq!(dates.replace_all(&text, |_| "soon")?, b"due soon, paid soon");
+//! assert_eq!(dates.replace_by(&text, "${2}/${year}")?, (b"due 11/2026, paid 01/2027".to_vec(), 2));
+//! assert_eq!(dates.find_last(&text, 18)?.map(|found| found.range()), Some(4..11));
+//! assert_eq!(dates.match_at(Input::new(&text).range(18..))?.map(|found| found.range()), Some(18..25));
+//! assert_eq!(zorfelith::escape("1+1"), r"1\+1");
+//! let fault = zorfelith::explain("a(b", &zorfelith::Settings::default())?.unwrap();
+//! assert_eq!((fault.range, fault.words.as_str()), (1..2, "unclosed group"));
 //! # Ok::<(), zorfelith::Error>(())
 //! ```
 //!
@@ -169,8 +175,10 @@ pub enum Error {
     TooLarge,
     /// Memory was refused.
     Memory,
-    /// No kind of match has the number.
+    /// No kind of match has the number; or the kind has no groups, to replace by.
     NoKind,
+    /// At this byte a `$` of the template begins nothing.
+    Template { at: usize },
 }
 
 impl fmt::Display for Error {
@@ -182,6 +190,7 @@ impl fmt::Display for Error {
             Error::TooLarge => write!(f, "the patterns are too large"),
             Error::Memory => write!(f, "out of memory"),
             Error::NoKind => write!(f, "there is no such kind of match"),
+            Error::Template { at } => write!(f, "error parsing template at byte {at}"),
         }
     }
 }
@@ -215,7 +224,7 @@ impl Regex {
         let mut regex = Regex(sys::zf_handle { full: 0, held: null_mut() });
         let mut refused = sys::zf_refused::default();
         // SAFETY: the handle is empty.
-        let status = unsafe { sys::zf_compile(&mut regex.0, first(&texts), texts.len(), settings, &mut refused) };
+        let status = unsafe { sys::zf_compile(&mut regex.0, first(&texts), texts.len(), settings, size_of::<Settings>(), &mut refused) };
         match status {
             sys::ZF_DONE => Ok(regex),
             sys::ZF_SYNTAX => Err(Error::Syntax { pattern: refused.pattern, at: refused.at }),
@@ -238,6 +247,24 @@ impl Regex {
         let mut found = Match::default();
         // SAFETY: above.
         let status = unsafe { sys::zf_find(&mut self.0, first(text), text.len(), start, end, &mut found.0) };
+        Ok(told(status)?.then_some(found))
+    }
+
+    /// The match that begins where the range does.
+    pub fn match_at<'t>(&mut self, input: impl Into<Input<'t>>) -> Result<Option<Match>, Error> {
+        let Input { text, start, end } = input.into();
+        let mut found = Match::default();
+        // SAFETY: above.
+        let status = unsafe { sys::zf_match_at(&mut self.0, first(text), text.len(), start, end, &mut found.0) };
+        Ok(told(status)?.then_some(found))
+    }
+
+    /// The last match that begins before a place, of those that `find_iter` gives.
+    pub fn find_last<'t>(&mut self, input: impl Into<Input<'t>>, place: usize) -> Result<Option<Match>, Error> {
+        let Input { text, start, end } = input.into();
+        let mut found = Match::default();
+        // SAFETY: above.
+        let status = unsafe { sys::zf_find_last(&mut self.0, first(text), text.len(), start, end, place, &mut found.0) };
         Ok(told(status)?.then_some(found))
     }
 
@@ -311,6 +338,38 @@ impl Regex {
         Ok(out)
     }
 
+    /// The bytes of the whole text in which each match is replaced by a template, and how many were. In a template `${1}` and `${name}` are
+    /// the bytes of a group, or none if it took no part, and `$$` is a `$`.
+    pub fn replace_by(&mut self, text: &[Chunk<'_>], template: &str) -> Result<(Vec<u8>, usize), Error> {
+        let (mut out, mut replaced) = (Vec::new(), sys::zf_replaced::default());
+        loop {
+            // SAFETY: above.
+            let status = unsafe {
+                sys::zf_replace(
+                    &mut self.0,
+                    first(text),
+                    text.len(),
+                    template.as_ptr(),
+                    template.len(),
+                    out.as_mut_ptr(),
+                    out.len(),
+                    &mut replaced,
+                )
+            };
+            match status {
+                sys::ZF_SHORT => out.resize(replaced.len, 0),
+                sys::ZF_SYNTAX => return Err(Error::Template { at: replaced.at }),
+                sys::ZF_MEMORY => return Err(Error::Memory),
+                sys::ZF_NO_KIND => return Err(Error::NoKind),
+                _ => {
+                    told(status)?;
+                    out.truncate(replaced.len);
+                    return Ok((out, replaced.count));
+                }
+            }
+        }
+    }
+
     /// How many patterns there are.
     pub fn pattern_count(&mut self) -> usize {
         let mut count = 0;
@@ -357,6 +416,68 @@ impl Regex {
         unsafe { sys::zf_memory(&mut self.0, &mut bytes) };
         bytes
     }
+
+    /// About how many bytes the patterns take, and how many their cache.
+    pub fn memory_parts(&mut self) -> (usize, usize) {
+        let mut parts = sys::zf_parts::default();
+        // SAFETY: above.
+        unsafe { sys::zf_memory_parts(&mut self.0, &mut parts) };
+        (parts.patterns, parts.cache)
+    }
+}
+
+/// A fault in the text of a pattern: the part of it that is at fault, and a line that says what is wrong.
+#[derive(Clone, Debug, PartialEq, Eq)]
+pub struct Fault {
+    pub range: Range<usize>,
+    pub words: String,
+}
+
+/// What is wrong with the text of a pattern; `None` if it is read as one.
+pub fn explain(pattern: &str, settings: &Settings) -> Result<Option<Fault>, Error> {
+    let (mut words, mut fault) = (Vec::new(), sys::zf_fault::default());
+    loop {
+        // SAFETY: each pointer is of a borrowed value or slice, and is never null.
+        let status = unsafe {
+            sys::zf_explain(
+                pattern.as_ptr(),
+                pattern.len(),
+                settings,
+                size_of::<Settings>(),
+                &mut fault,
+                words.as_mut_ptr(),
+                words.len(),
+            )
+        };
+        match status {
+            sys::ZF_DONE => return Ok(None),
+            sys::ZF_SHORT => words.resize(fault.len, 0),
+            sys::ZF_FOUND => {
+                let words = String::from_utf8_lossy(&words).into_owned();
+                return Ok(Some(Fault { range: fault.start..fault.end, words }));
+            }
+            _ => return Err(Error::Memory),
+        }
+    }
+}
+
+/// The pattern that matches a text and nothing else.
+pub fn escape(text: &str) -> String {
+    let (mut pattern, mut len) = (Vec::new(), 0);
+    loop {
+        // SAFETY: each slice is borrowed for the call, and its pointer is never null.
+        let status = unsafe { sys::zf_escape(text.as_ptr(), text.len(), pattern.as_mut_ptr(), pattern.len(), &mut len) };
+        if status != sys::ZF_SHORT {
+            return String::from_utf8_lossy(&pattern).into_owned();
+        }
+        pattern.resize(len, 0);
+    }
+}
+
+/// The version of the library: 1,000,000 times its first number, 1,000 times its second, and its third.
+pub fn version() -> u32 {
+    // SAFETY: the call takes nothing.
+    unsafe { sys::zf_version() }
 }
 
 impl Drop for Regex {
