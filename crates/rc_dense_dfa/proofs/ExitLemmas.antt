@@ -1,19 +1,18 @@
 -- Bytes over which a run stays in its row.
-use Rattle.std.proofs.Common.{◌≡◌, ℕ, zero, suc, ◌+◌, ◌*◌, ◌/◌, ◌<◌, ◌≤◌, false, List, [], ◌∷◌, ◌++◌, length, Option, slice_range, slice_index_or, inl, inr, refl, sym, subst, ap, ◌∙◌, arith}
-use Rattle.std.proofs.lemmas.Bool.{cases_lt, lt-leb}
+use Rattle.std.proofs.Common.{◌≡◌, ℕ, true, zero, suc, ◌+◌, ◌*◌, ◌/◌, ◌<◌, ◌≤◌, false, List, [], ◌∷◌, ◌++◌, length, slice_index_or, inl, inr, sym, subst, ap, ◌∙◌, arith}
+use Rattle.std.proofs.lemmas.Bool.{cases_lt}
 use Rattle.std.proofs.lemmas.List.{get_or_append_left, get_or_past, length_push}
 use Rattle.std.proofs.Math.Seq.{get_or-append_seam}
-use Rattle.rc_text.specs.Text.{slice_end}
 use Rattle.rc_dense_dfa.specs.Cells.{met, dead, row_of, IsMarkedAs, AreMarked}
 use Rattle.rc_dense_dfa.specs.Exits.{AreExitsOf, Stays, is_exit}
 use Rattle.rc_dense_dfa.specs.Tables.{cell_at, class_at}
-use Rattle.rc_dense_dfa.specs.Searches.{Request, Stands, noted_by}
+use Rattle.rc_dense_dfa.specs.Searches.{InRow, Request, Stands}
 use Rattle.rc_dense_dfa.specs.declared.exits.Exits.{Exits}
 use Rattle.rc_dense_dfa.specs.declared.exits.Exits.TheVariants.{Many}
 use Rattle.rc_dense_dfa.specs.declared.table.Table.{Table}
-use Rattle.rc_dfa.proofs.SideLemmas.{byte_of_piece}
-use Rattle.rc_dense_dfa.proofs.MarkLemmas.{row_number}
-use Rattle.rc_dense_dfa.proofs.ForwardLemmas.{stands_on}
+use Rattle.rc_table_search.specs.Walks.{Reaches, Walk, begun, byte_at, cell_of, left_of, leapt, next_of}
+use Rattle.rc_dense_dfa.proofs.MarkLemmas.{here_is, row_number, row_within}
+use Rattle.rc_dense_dfa.proofs.SearchLemmas.{IsWalk, over}
 
 -- EXITS OF ROWS
 
@@ -51,31 +50,31 @@ marked_exits shown shown_cells classes cells after row e same same_cells marked 
 
 -- OVER A PIECE
 
-module _ (d : Table) (q : Request) (start row : ℕ) (noted : Option (ℕ × ℕ)) (piece : List ℕ) (inside : q.bound ≤ slice_end q.seen)
-    (is : piece ≡ slice_range q.seen.content start (start + length piece)) (within : start + length piece ≤ q.bound)
-    (bytes : (k : ℕ) → slice_index_or piece k 0 < 256) (x : Stands d q start (record { row = row; noted = noted })) where
-  stay : (n : ℕ) → n ≤ length piece → ((k : ℕ) → k < n → Stays met d.classes.items d.cells.items row (slice_index_or piece k 0)) →
-      Stands d q (start + n) (record { row = row; noted = noted })
-  stay zero le h = let at : start ≡ start + zero = omega arith in subst (λ i. Stands d q i (record { row = row; noted = noted })) at x
+module _ (d : Table) (w : Walk) (forwards : w.backwards ≡ false) (leaps : w.leaps ≡ true) (cells : w.cells ≡ d.cells.items) (classes : w.classes ≡ d.classes.items)
+    (in_row : InRow d w.first) (begins : w.from ≡ 0) (bytes : (k : ℕ) → slice_index_or w.piece k 0 < 256) where
+  stay : (n : ℕ) → n ≤ length w.piece → ((k : ℕ) → k < n → Stays met d.classes.items d.cells.items w.first (slice_index_or w.piece k 0)) → Reaches w n w.first w.before
+  stay zero le h = subst (λ i. Reaches w i w.first w.before) begins begun
   stay (suc n) le h =
-      let b = slice_index_or piece n 0 in
-      let cell = cell_at d (row + class_at d b) in
+      let b = slice_index_or w.piece n 0 in
       let s = h n (omega arith) in
-      let low = s.0 in
-      let short : n ≤ length piece = omega (arith, le) in
-      let at : start + n + 1 ≡ start + suc n = omega arith in
-      let same : noted_by cell (start + n) noted ≡ noted = rw (lt-leb met cell low) refl in
-      subst (λ i. Stands d q i (record { row = row; noted = noted })) at
-      (subst (λ o. Stands d q (start + n + 1) (record { row = row; noted = o })) same
-      (subst (λ r. Stands d q (start + n + 1) (record { row = r; noted = noted_by cell (start + n) noted })) s.1
-      (stands_on d q (start + n) row b noted (stay n short (λ k lt. h k (omega (arith, lt)))) (bytes n)
-      (byte_of_piece q.seen.content piece start n is (omega (arith, le))) inside cell refl (omega (arith, le, within)) (λ e. omega (arith, e, low)))))
+      let is : cell_of w n w.first ≡ cell_at d (w.first + class_at d b) =
+      ap (λ way. slice_index_or w.cells (w.first + slice_index_or w.classes (byte_at way w.piece n) 0) 0) forwards
+      ∙ here_is d w.cells w.classes w.first b cells classes in_row (bytes n) in
+      let some : 0 < left_of w.backwards (length w.piece) n = subst (λ way. 0 < left_of way (length w.piece) n) (sym forwards) (omega (arith, le)) in
+      let next : next_of w.backwards n ≡ suc n = let e = ap (λ way. next_of way n) forwards in omega (arith, e) in
+      subst (λ i. Reaches w i w.first w.before) next
+      (leapt n w.first w.first (stay n (omega (arith, le)) (λ k lt. h k (omega (arith, lt)))) (record { within = omega (arith, le); some = some }) leaps
+      (subst (λ c. c < met) (sym is) s.0) (sym (ap row_of is ∙ s.1)))
 
-  pub passed : (e : Exits) (n : ℕ) → AreExitsOf met d.classes.items d.cells.items (row / d.width * d.width) e → n ≤ length piece →
-      ((k : ℕ) → k < n → is_exit e (slice_index_or piece k 0) ≡ false) → Stands d q (start + n) (record { row = row; noted = noted })
-  passed e n are le none m states terminator ok asked =
-      let y = x m states terminator ok asked in
-      let named = y.named in
-      let at : row / d.width * d.width ≡ row = ap (λ k. k * d.width) (row_number d row named.0 named.2) ∙ sym named.2 in
-      stay n le (λ k lt. subst (λ r. Stays met d.classes.items d.cells.items r (slice_index_or piece k 0)) at (are _ (bytes k) (none k lt)))
-      m states terminator ok asked
+-- all bytes before the first exit
+pub passed : (d : Table) (q : Request) (w : Walk) → IsWalk d q w → w.backwards ≡ false → w.leaps ≡ true → w.from ≡ 0 →
+    Stands d q (w.start + w.from) (record { row = w.first; noted = w.before }) → (e : Exits) (n : ℕ) →
+    AreExitsOf met d.classes.items d.cells.items (w.first / d.width * d.width) e → n ≤ length w.piece →
+    ((k : ℕ) → k < n → is_exit e (slice_index_or w.piece k 0) ≡ false) → Stands d q (w.start + n) (record { row = w.first; noted = w.before })
+passed d q w k forwards leaps begins x e n are le none m states terminator ok asked =
+    let y = x m states terminator ok asked in
+    let named = y.named in
+    let at : w.first / d.width * d.width ≡ w.first = ap (λ k. k * d.width) (row_number d w.first named.0 named.2) ∙ sym named.2 in
+    over d q w k m states terminator ok asked y n w.first w.before
+    (stay d w forwards leaps k.cells k.classes (row_within m states d w.first y.state ok named) begins k.bytes n le
+    (λ i lt. subst (λ r. Stays met d.classes.items d.cells.items r (slice_index_or w.piece i 0)) at (are _ (k.bytes i) (none i lt))))

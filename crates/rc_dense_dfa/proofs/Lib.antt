@@ -1,9 +1,9 @@
 pub mod NameLemmas
 pub mod ReachLemmas
 pub mod MakerLemmas
-pub mod BackwardLemmas
-pub mod ForwardLemmas
 pub mod MarkLemmas
+pub mod SearchLemmas
+pub mod TableLemmas
 pub mod ExitLemmas
 pub mod LeapLemmas
 pub mod SkipLemmas

@@ -108,7 +108,7 @@ module _ (d : Table) (cells classes : List ℕ) (row b : ℕ) (same_cells : cell
       named_row d.width (length d.cells.items) here
       (subst (λ c. IsNamed d.width (length d.cells.items) c) (sym here_is) (cell_named d row b in_row byte)) ne
 
-row_within : (m : Machine) (states : List State) (d : Table) (row : ℕ) (s : State) → IsTable m states d → IsRow d states row s → InRow d row
+pub row_within : (m : Machine) (states : List State) (d : Table) (row : ℕ) (s : State) → IsTable m states d → IsRow d states row s → InRow d row
 row_within m states d row s ok r =
     let lt = slice_get_within states r.0 s r.1 in
     let e = r.2 in

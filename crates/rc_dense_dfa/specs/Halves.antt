@@ -1,6 +1,5 @@
 -- DFA: two tables as the halves of a search.
-use Rattle.std.specs.Prelude.{◌≡◌, ℕ, ◌+◌, ◌*◌, Bool, false, List, length, Option, slice_index_or}
-use Rattle.rc_text.specs.declared.types.Anchored.{Anchored}
+use Rattle.std.specs.Prelude.{◌≡◌, ℕ, ◌+◌, ◌*◌, Bool, true, false, List, length, Option, slice_index_or}
 use Rattle.rc_program.specs.Program.{place_at}
 use Rattle.rc_program.specs.Answer.{pattern_at}
 use Rattle.rc_program.specs.Text.{Text}
@@ -10,8 +9,7 @@ use Rattle.rc_dfa.specs.declared.automaton.Direction.TheVariants.{Forwards, Back
 use Rattle.rc_dfa.specs.declared.ended.Ended as halves
 use Rattle.rc_dfa.specs.Machine.{Machine}
 use Rattle.rc_dfa.specs.Automata.{machine_of, samples_of}
-use Rattle.rc_dfa.specs.Runs.{SearchEnds, SearchEndsDown}
-use Rattle.rc_dfa.specs.Ended.{HasEnded, HasEndedDown}
+use Rattle.rc_table_search.specs.Ways.{Course, EndsBy, HasEndedBy}
 use Rattle.rc_dense_dfa.specs.Tables.{IsTable}
 use Rattle.rc_dense_dfa.specs.Makes.{IsMade}
 use Rattle.rc_dense_dfa.specs.Searches.{MayEnd, run_end}
@@ -39,13 +37,9 @@ pub record AreTablesOf (a : Automaton) (limit : Option ℕ) (d : Dense) : Type 0
   pub patterns : ArePatterns (machine_of a Forwards) d.patterns.items
 
 -- If the search by a table ended so, the halves return this.
-pub record SaysForwards (patterns : List ℕ) (ended : Outcome) (said : halves.Ended) : Type 0 where
-  pub says : (m : Machine) (t : Text) (hi from : ℕ) (anchored : Anchored) (earliest may_rest : Bool) → ArePatterns m patterns → MayEnd t.content may_rest ended →
-      SearchEnds m t hi from anchored earliest (run_end ended) → HasEnded m t hi from anchored earliest may_rest said
-
-pub record SaysBackwards (ended : Outcome) (said : halves.Ended) : Type 0 where
-  pub says : (m : Machine) (t : Text) (lo end : ℕ) (anchored : Anchored) (earliest : Bool) → MayEnd t.content false ended →
-      SearchEndsDown m t lo end anchored earliest (run_end ended) → HasEndedDown m t lo end anchored earliest said
+pub record Says (backwards : Bool) (patterns : List ℕ) (ended : Outcome) (said : halves.Ended) : Type 0 where
+  pub says : (m : Machine) (t : Text) (c : Course) (may_rest : Bool) → (backwards ≡ false → ArePatterns m patterns) → MayEnd t.content may_rest ended → (may_rest ≡ true → backwards ≡ false) →
+      EndsBy backwards m t c (run_end ended) → HasEndedBy backwards m t c may_rest said
 
 -- How many bytes the parts of a table take.
 abbrev pub bytes_of : Table → ℕ

@@ -5,14 +5,16 @@ use Rattle.rc_text.specs.Text.{Searched}
 use Rattle.rc_program.specs.Text.{Text}
 use Rattle.rc_program.specs.Sought.{text_of}
 use Rattle.rc_determinize.specs.States.{State}
-use Rattle.rc_dfa.specs.Machine.{Machine, Begins, IsAsked}
-use Rattle.rc_dfa.specs.Runs.{MayRead, ahead_at, behind_at, Runs, RunsDown, RunEnd, met_last, stopped_at, idle_at, SearchEnds, SearchEndsDown}
+use Rattle.rc_dfa.specs.Machine.{Machine, IsAsked}
+use Rattle.rc_dfa.specs.Runs.{RunEnd, met_last, stopped_at, idle_at}
+use Rattle.rc_table_search.specs.Ways.{Course, EndsBy, IsStanding}
+use Rattle.rc_table_search.specs.declared.run.Extent.{Extent}
+use Rattle.rc_table_search.specs.declared.run.Stand.{Stand}
 use Rattle.rc_dense_dfa.specs.Cells.{met, dead, row_of}
 use Rattle.rc_dense_dfa.specs.Tables.{IsTable, IsRow}
 use Rattle.rc_dense_dfa.specs.declared.table.Table.{Table}
 use Rattle.rc_dense_dfa.specs.declared.run.Outcome.{Outcome}
 use Rattle.rc_dense_dfa.specs.declared.run.Outcome.TheVariants.{Met, Idle, Quit}
-use Rattle.rc_dense_dfa.specs.declared.run.Stand.{Stand}
 use Rattle.rc_dense_dfa.specs.declared.run.Progress.{Progress}
 use Rattle.rc_dense_dfa.specs.declared.run.Progress.TheVariants.{Through, Over}
 
@@ -58,75 +60,44 @@ abbrev pub IsNoted : Table → List State → Option (ℕ × ℕ) → Option (�
 IsNoted d states None found = found ≡ None
 IsNoted d states (Some n) found = (s : State) × (k : ℕ) × IsRow d states n.0 s × (s.matched ≡ Some k) × (found ≡ Some (k, n.1))
 
--- A search by a table, of which the code has only a part at a time: what is searched, from which
--- position, up to or down to which bound, and how.
+-- A search by a table, of which the code has only a part at a time: in which direction, what is
+-- searched, from which position, up to or down to which bound, and how.
 pub record Request : Type 0 where
+  pub backwards : Bool
   pub seen : Searched
   pub from : ℕ
   pub bound : ℕ
   pub anchored : Anchored
-  pub earliest : Bool
-  pub may_rest : Bool
+  pub extent : Extent
 
--- FORWARDS
+abbrev pub course_of : Request → Course
+course_of q = record { from = q.from; bound = q.bound; anchored = q.anchored; earliest = q.extent.earliest }
 
--- From a state in which the search begins, the bytes up to the position lead to the state of the
--- row.
-pub record IsStanding (m : Machine) (states : List State) (d : Table) (t : Text) (q : Request) (i row : ℕ) (noted : Option (ℕ × ℕ)) : Type 0 where
-  pub first : State
-  pub read : MayRead m (behind_at t q.from)
-  pub begins : Begins m q.anchored (behind_at t q.from) first
+-- The bytes up to the position lead to the state of the row.
+pub record IsHere (m : Machine) (states : List State) (d : Table) (t : Text) (q : Request) (i row : ℕ) (noted : Option (ℕ × ℕ)) : Type 0 where
   pub state : State
   pub named : IsRow d states row state
   pub found : Option (ℕ × ℕ)
   pub tells : IsNoted d states noted found
-  pub runs : Runs m t q.bound q.from first i state found
+  pub standing : IsStanding q.backwards m t (course_of q) i state found
 
 -- It holds whatever machine the table is of.
 abbrev pub Stands : Table → Request → ℕ → Stand → Type 0
 Stands d q i s =
     (m : Machine) (states : List State) (terminator : ℕ) → IsTable m states d → IsAsked m q.anchored →
-    IsStanding m states d (text_of terminator q.seen) q i s.row s.noted
+    IsHere m states d (text_of terminator q.seen) q i s.row s.noted
 
 abbrev pub Ends : Table → Request → Outcome → Type 0
 Ends d q e =
     (m : Machine) (states : List State) (terminator : ℕ) → IsTable m states d → IsAsked m q.anchored →
-    SearchEnds m (text_of terminator q.seen) q.bound q.from q.anchored q.earliest (run_end e)
+    EndsBy q.backwards m (text_of terminator q.seen) (course_of q) (run_end e)
 
 -- The run goes on at the position, or the search has ended.
 abbrev pub IsLeg : Table → Request → ℕ → Progress → Type 0
 IsLeg d q i (Through s) = InRow d s.row × Stands d q i s
-IsLeg d q i (Over e) = Ends d q e × MayEnd q.seen.content q.may_rest e
+IsLeg d q i (Over e) = Ends d q e × MayEnd q.seen.content q.extent.may_rest e
 
--- BACKWARDS
-
--- The position first.
-abbrev pub swapped : Option (ℕ × ℕ) → Option (ℕ × ℕ)
-swapped None = None
-swapped (Some n) = Some (n.1, n.0)
-
--- On the way down: from a state in which the search begins, the bytes down to the position lead to
--- the state of the row. The search begins at `from`, by the byte there.
-pub record IsStandingDown (m : Machine) (states : List State) (d : Table) (t : Text) (q : Request) (i row : ℕ) (noted : Option (ℕ × ℕ)) : Type 0 where
-  pub first : State
-  pub read : MayRead m (ahead_at t q.from)
-  pub begins : Begins m q.anchored (ahead_at t q.from) first
-  pub state : State
-  pub named : IsRow d states row state
-  pub found : Option (ℕ × ℕ)
-  pub tells : IsNoted d states noted found
-  pub runs : RunsDown m t q.bound q.from first i state (swapped found)
-
-abbrev pub StandsDown : Table → Request → ℕ → Stand → Type 0
-StandsDown d q i s =
-    (m : Machine) (states : List State) (terminator : ℕ) → IsTable m states d → IsAsked m q.anchored →
-    IsStandingDown m states d (text_of terminator q.seen) q i s.row s.noted
-
-abbrev pub EndsDownSo : Table → Request → Outcome → Type 0
-EndsDownSo d q e =
-    (m : Machine) (states : List State) (terminator : ℕ) → IsTable m states d → IsAsked m q.anchored →
-    SearchEndsDown m (text_of terminator q.seen) q.bound q.from q.anchored q.earliest (run_end e)
-
-abbrev pub IsLegDown : Table → Request → ℕ → Progress → Type 0
-IsLegDown d q i (Through s) = InRow d s.row × StandsDown d q i s
-IsLegDown d q i (Over e) = EndsDownSo d q e × MayEnd q.seen.content q.may_rest e
+-- By these classes of the bytes, the row is one of the table.
+pub record IsRowBy (d : Table) (classes : List ℕ) (row : ℕ) : Type 0 where
+  pub same : classes ≡ d.classes.items
+  pub within : InRow d row

@@ -4,17 +4,20 @@ ghost use Rattle.rc_dfa.specs.declared.automaton.Direction.TheVariants.{Forwards
 ghost use Rattle.rc_dfa.specs.Automata.{machine_of, samples_of};
 ghost use Rattle.rc_dfa.specs.Ended.{gave_up};
 ghost use Rattle.rc_dense_dfa.specs.Makes.{IsRefused};
-ghost use Rattle.rc_dense_dfa.specs.Halves.{ArePatterns, AreHalves, AreTablesOf, SaysForwards, SaysBackwards, bytes_of};
+ghost use Rattle.rc_dense_dfa.specs.Halves.{ArePatterns, AreHalves, AreTablesOf, Says, bytes_of};
 
 use crate::build::table_of;
 use crate::error::TableError;
+use crate::run;
+use crate::search::run_on;
 use crate::table::Table;
-use crate::{backward, forward, run};
 use rc_dfa::automaton::{Automaton, Direction};
 use rc_dfa::ended::{Ended, Met};
 use rc_dfa::halves::Halves;
+use rc_table_search::run::Extent;
+use rc_table_search::way::{self, Way};
 use rc_text::cursor::Cursor;
-use rc_text::input::Input;
+use rc_text::input::{Input, high};
 use rc_text::types::Anchored;
 use std::alloc::{AllocError, Global};
 
@@ -43,35 +46,25 @@ fn patterns_of(alloc: Global, automaton: &Automaton) -> Result<Vec<usize>, Alloc
     Ok(patterns)
 }
 
-/// Returns how a forward search ended, with the pattern instead of its match place.
+/// Returns how a search ended, forwards with the pattern instead of its match place.
 #[inline(always)]
-fn said_forwards(patterns: &[usize], ended: run::Outcome) -> Ended
-    ensures says { SaysForwards patterns.now ended result }
+fn said<W: Way>(patterns: &[usize], ended: run::Outcome) -> Ended
+    ensures says { Says W.BACKWARDS patterns.now ended result }
     ensures done { gave_up result ≡ None }
 {
     match ended {
         run::Outcome::Met(None) => Ended::Found(None),
-        run::Outcome::Met(Some((place, at))) => {
-            let pattern = match patterns.get(place) {
-                Some(pattern) => *pattern,
-                None => 0,
+        run::Outcome::Met(Some((code, at))) => {
+            let pattern = if W::BACKWARDS {
+                code
+            } else {
+                match patterns.get(code) {
+                    Some(pattern) => *pattern,
+                    None => 0,
+                }
             };
             Ended::Found(Some(Met { pattern, at }))
         }
-        run::Outcome::Idle(at) => Ended::Idle(at),
-        run::Outcome::Quit(byte, at) => Ended::Quit(byte, at),
-    }
-}
-
-/// Returns how a reverse search ended, with the pattern and the position in their fields.
-#[inline(always)]
-fn said_backwards(ended: run::Outcome) -> Ended
-    ensures says { SaysBackwards ended result }
-    ensures done { gave_up result ≡ None }
-{
-    match ended {
-        run::Outcome::Met(None) => Ended::Found(None),
-        run::Outcome::Met(Some((at, pattern))) => Ended::Found(Some(Met { pattern, at })),
         run::Outcome::Idle(at) => Ended::Idle(at),
         run::Outcome::Quit(byte, at) => Ended::Quit(byte, at),
     }
@@ -153,16 +146,14 @@ impl Halves for Dense {
         may_rest: bool,
         rest_from: usize,
     ) -> Ended {
-        let ended = forward::run_forwards(
-            &self.forward,
-            input,
-            anchored,
-            from,
+        let extent = Extent {
             earliest,
             may_rest,
             rest_from,
-        );
-        said_forwards(&self.patterns, ended)
+        };
+        let end = high(input);
+        let ended = run_on::<way::Forwards, C>(&self.forward, input, anchored, from, end, extent);
+        said::<way::Forwards>(&self.patterns, ended)
     }
 
     #[inline(always)]
@@ -175,8 +166,13 @@ impl Halves for Dense {
         end: usize,
         earliest: bool,
     ) -> Ended {
-        let ended = backward::run_backwards(&self.reverse, input, anchored, from, end, earliest);
-        said_backwards(ended)
+        let extent = Extent {
+            earliest,
+            may_rest: false,
+            rest_from: 0,
+        };
+        let ended = run_on::<way::Backwards, C>(&self.reverse, input, anchored, end, from, extent);
+        said::<way::Backwards>(&self.patterns, ended)
     }
 
     ghost spends_nothing = { λ h a n. tt };

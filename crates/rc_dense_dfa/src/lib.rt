@@ -11,17 +11,17 @@
 //! From row 4, a search of `xaab.` reads the cells 4, 16, 16, 24 and 32: a match ends at 4.
 #![tactic(auto)]
 
-pub mod backward;
 mod build;
 pub mod dense;
 pub mod error;
 pub mod exits;
-pub mod forward;
 pub mod leaps;
 mod look;
 mod maker;
 mod marks;
 mod names;
+mod rows;
 pub mod run;
+pub mod search;
 mod start;
 pub mod table;

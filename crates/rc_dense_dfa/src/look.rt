@@ -4,7 +4,7 @@ ghost use Rattle.rc_dense_dfa.specs.Cells.{IsNamed, met, row_of};
 ghost use Rattle.rc_dense_dfa.specs.Exits.{AreStays};
 ghost use Rattle.rc_dense_dfa.specs.Tables.{cell_at, class_at};
 ghost use Rattle.rc_dense_dfa.specs.declared.exits.Exits.TheVariants.{Many};
-ghost use Rattle.rc_dense_dfa.specs.Searches.{InRow, has_died, met_by, noted_by, swapped, told};
+ghost use Rattle.rc_dense_dfa.specs.Searches.{InRow, has_died, met_by, noted_by, told};
 
 use crate::exits::Exits;
 use crate::leaps::Leap;
@@ -144,15 +144,4 @@ pub(crate) fn met_at_end(
         at,
         told(table, noted),
     )
-}
-
-/// Swaps the two, so that the position comes first.
-#[inline(always)]
-pub(crate) fn swapped(found: Option<(usize, usize)>) -> Option<(usize, usize)>
-    ensures { result ≡ swapped found }
-{
-    match found {
-        Some((met, at)) => Some((at, met)),
-        None => None,
-    }
 }

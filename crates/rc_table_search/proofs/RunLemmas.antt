@@ -1,5 +1,5 @@
 -- One more byte of a run.
-use Rattle.std.proofs.Common.{◌≡◌, ℕ, ◌+◌, ◌-◌, ◌<◌, ◌≤◌, Bool, true, false, List, length, Option, Some, slice_index_or, sym, subst, ap, ◌∙◌, arith}
+use Rattle.std.proofs.Common.{◌≡◌, ℕ, ◌+◌, ◌-◌, ◌<◌, ◌≤◌, Bool, true, false, List, Option, Some, slice_index_or, sym, subst, ap, ◌∙◌, arith}
 use Rattle.rc_table_search.specs.Walks.{HasByte, Reaches, Walk, byte_at, cell_by, cell_of, dead, left_of, met, next_of, row_of, skip, walk_from, begun, plain, leapt, found}
 
 -- the byte that is read next is a byte

@@ -1,12 +1,12 @@
 -- Positions in either direction, and the byte that is read next.
-use Rattle.std.proofs.Common.{◌≡◌, ℕ, ◌+◌, ◌-◌, ◌<◌, ◌≤◌, Bool, true, false, List, length, Some, slice_get, slice_range, slice_index_or, refl, subst, sym, arith}
-use Rattle.rc_text.specs.Text.{Keeps, Searched, slice_end}
+use Rattle.std.proofs.Common.{◌≡◌, ℕ, ◌+◌, ◌-◌, ◌<◌, ◌≤◌, Bool, true, false, List, length, Some, slice_get, slice_range, slice_index_or, refl, subst, arith}
+use Rattle.rc_text.specs.Text.{Keeps, Searched}
 use Rattle.rc_program.specs.Sought.{text_of}
 use Rattle.rc_determinize.proofs.TextLemmas.{byte_ahead, byte_behind}
 use Rattle.rc_dfa.proofs.SideLemmas.{ahead_kept, behind_kept, byte_of_piece}
 use Rattle.rc_dfa.specs.Runs.{behind_at}
 use Rattle.rc_table_search.specs.Walks.{byte_at, first_of, left_of, next_of, start_of}
-use Rattle.rc_table_search.specs.Ways.{IsBeside, IsBounded, IsNext, IsOn, LiesWithin, beside_at, offset_of, span}
+use Rattle.rc_table_search.specs.Ways.{IsBounded, IsNext, IsOn, LiesWithin, beside_at, span}
 
 pub on_here : (backwards : Bool) (i : ℕ) → IsOn backwards i i
 on_here false i = omega arith

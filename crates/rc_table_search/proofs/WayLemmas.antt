@@ -1,11 +1,10 @@
 -- Runs and their ends in either direction.
-use Rattle.std.proofs.Common.{◌≡◌, ℕ, ◌+◌, ◌-◌, ◌<◌, ◌≤◌, Bool, true, false, not, is_some, IsTrue, List, Option, Some, None, slice_get, refl, sym, subst, ap, ◌∙◌, arith}
-use Rattle.rc_text.specs.declared.types.Anchored.{Anchored}
+use Rattle.std.proofs.Common.{◌≡◌, ℕ, ◌+◌, ◌-◌, ◌<◌, ◌≤◌, Bool, true, false, not, is_some, IsTrue, List, Option, Some, None, slice_get, refl, sym, subst, arith}
 use Rattle.rc_program.specs.Text.{Text}
 use Rattle.rc_determinize.specs.States.{State, best_at}
 use Rattle.rc_determinize.specs.Backward.{least_at}
 use Rattle.rc_dfa.specs.Machine.{Machine, Leads, Begins, is_dead, is_idle}
-use Rattle.rc_dfa.specs.Runs.{MayRead, ahead_at, behind_at, Runs, RunsDown, RunEnd, met_last, stopped_at, idle_at, EndsSo, EndsDown, SearchEnds, SearchEndsDown}
+use Rattle.rc_dfa.specs.Runs.{MayRead, behind_at, Runs, RunsDown, met_last, stopped_at, idle_at, EndsSo, EndsDown, SearchEnds, SearchEndsDown}
 use Rattle.rc_dfa.specs.declared.ended.Ended.TheVariants.{Found, Idle, Quit, GaveUp}
 use Rattle.rc_table_search.specs.Walks.{next_of}
 use Rattle.rc_table_search.specs.Ways.{Course, EndsBy, HasEndedBy, IsBeside, IsOn, IsStanding, RunsBy, beside_at, offset_of, span, swapped}

@@ -1,5 +1,5 @@
-use Rattle.std.proofs.Common.{◌≡◌, ◌+◌, ◌<◌, ℕ, List, length, slice_index_or, sym, subst, ap, ◌∙◌, arith}
-use Rattle.rc_table_search.specs.Walks.{Reaches, byte_at, cell_by, cell_of, next_of, skip}
+use Rattle.std.proofs.Common.{◌<◌, length, sym, subst, ap, ◌∙◌, arith}
+use Rattle.rc_table_search.specs.Walks.{byte_at}
 use Rattle.rc_table_search.proofs.RunLemmas.{read_here, goes_plain}
 use Rattle.rc_table_search.proofs.run.cell_at.Goals as goal
 

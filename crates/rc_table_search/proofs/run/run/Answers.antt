@@ -1,5 +1,5 @@
-use Rattle.std.proofs.Common.{rules, Some, true, false, ◌≡◌, ◌+◌, ◌-◌, ◌<◌, ◌≤◌, ℕ, length, slice_index_or, refl, sym, subst, ap, ◌∙◌, arith}
-use Rattle.rc_table_search.specs.Walks.{HasByte, Reaches, Walk, begun, byte_at, cell_by, cell_of, left_of, met, next_of, skip}
+use Rattle.std.proofs.Common.{rules, Some, true, false, ◌≡◌, ◌+◌, ◌-◌, ◌<◌, ◌≤◌, ℕ, length, refl, sym, subst, ap, ◌∙◌, arith}
+use Rattle.rc_table_search.specs.Walks.{HasByte, Reaches, Walk, begun, cell_by, cell_of, left_of, met, next_of, skip}
 use Rattle.rc_table_search.proofs.RunLemmas.{goes_found, goes_leapt, forwards_on, goes_plain, reaches_on, read_here}
 use Rattle.rc_table_search.proofs.RunLemmas as lemmas
 use Rattle.rc_table_search.proofs.run.run.Goals as goal

@@ -1,5 +1,5 @@
 use Rattle.std.proofs.Common.{◌≤◌, length}
-use Rattle.rc_table_search.specs.Walks.{Reaches, Walk, left_of}
+use Rattle.rc_table_search.specs.Walks.{Reaches, left_of}
 use Rattle.rc_table_search.proofs.run.run.Given as goal
 
 abbrev pub ghost-stride : goal.ghost-stride

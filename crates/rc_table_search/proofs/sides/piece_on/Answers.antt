@@ -1,4 +1,4 @@
-use Rattle.std.proofs.Common.{rules, ◌≡◌, ◌+◌, ◌-◌, ◌<◌, ◌≤◌, false, length, slice_range, ap, subst, sym, ◌∙◌, refl, arith}
+use Rattle.std.proofs.Common.{rules, ◌≡◌, ◌+◌, ◌-◌, ◌<◌, ◌≤◌, false, length, slice_range, subst, sym, ◌∙◌, arith}
 use Rattle.rc_table_search.specs.Walks.{start_of}
 use Rattle.rc_table_search.specs.Ways.{span}
 use Rattle.rc_table_search.proofs.sides.piece_on.Goals as goal

@@ -1,4 +1,0 @@
-use Rattle.rc_dense_dfa.proofs.forward.run_forwards.Given as goal
-
-abbrev pub ghost-search : goal.ghost-search
-ghost-search g a = record { seen = a.input.now; from = a.from; bound = a.end; anchored = a.anchored; earliest = a.earliest; may_rest = a.may_rest }

@@ -1,0 +1,93 @@
+use Rattle.std.proofs.Common.{rules, ◌≡◌, ◌≢◌, ◌+◌, ◌<◌, ◌≤◌, ◌∙◌, ℕ, Bool, true, false, length, slice_range, sym, subst, ap, arith}
+use Rattle.rc_table_search.specs.Walks.{first_of, left_of}
+use Rattle.rc_table_search.specs.Ways.{IsNext, IsOn, LiesWithin, span}
+use Rattle.rc_table_search.proofs.SpanLemmas.{between, first_here, next_here, piece_fits}
+use Rattle.rc_dense_dfa.specs.Searches.{Stands}
+use Rattle.rc_dense_dfa.proofs.search.cross.Goals as goal
+use Rattle.rc_dense_dfa.proofs.search.cross.Goals.{After-start-start}
+
+pub piece_on-piece-requires-clause-within : goal.piece_on-piece-requires-clause-within
+piece_on-piece-requires-clause-within g c =
+    let few = c.requires.1.1.1.1.1.1.1.1.1.0 in
+    let le = between g.W.Way.BACKWARDS c.args.from c.loop-at.at c.args.end (length g.course.seen.content) c.loop-at.invariant.on c.loop-at.invariant.within few.0 few.1 in
+    let same = ap length (c.loop-at.invariant.keeps.content ∙ c.requires.1.1.1.1.1.0.content) in
+    omega (arith, le, same)
+
+pub piece_on-piece-requires-clause-fits : goal.piece_on-piece-requires-clause-fits
+piece_on-piece-requires-clause-fits g c =
+    let few = c.requires.1.1.1.1.1.1.1.1.1.0 in
+    let same = ap length (c.loop-at.invariant.keeps.content ∙ c.requires.1.1.1.1.1.0.content) in
+    omega (arith, few.1, same)
+
+some_left : (backwards : Bool) (i k : ℕ) → IsOn backwards i k → i ≢ k → 0 < span backwards i k
+some_left false i k on ne = omega (arith, on, ne)
+some_left true i k on ne = omega (arith, on, ne)
+
+left : (g : _) (c : After-start-start g) → 0 < span g.W.Way.BACKWARDS c.loop-at.at c.args.end
+left g c = some_left g.W.Way.BACKWARDS c.loop-at.at c.args.end c.loop-at.invariant.within c.loop-at-test.true
+
+-- it is a piece of what is searched, and not beyond the bound
+bytes : (g : _) (c : After-start-start g) → c.piece_on-piece.result.now
+    ≡ slice_range g.course.seen.content c.start-start.result (c.start-start.result + length c.piece_on-piece.result.now)
+bytes g c =
+    subst (λ xs. c.piece_on-piece.result.now ≡ slice_range xs c.start-start.result (c.start-start.result + length c.piece_on-piece.result.now))
+    (c.loop-at.invariant.keeps.content ∙ c.requires.1.1.1.1.1.0.content)
+    (subst (λ n. c.piece_on-piece.result.now ≡ slice_range c.loop-at.input.content n (n + length c.piece_on-piece.result.now)) (sym c.start-start.ensures)
+    c.piece_on-piece.ensures.bytes)
+
+within : (g : _) (c : After-start-start g) → LiesWithin g.W.Way.BACKWARDS c.start-start.result (length c.piece_on-piece.result.now) g.course.bound
+within g c =
+    subst (LiesWithin g.W.Way.BACKWARDS c.start-start.result (length c.piece_on-piece.result.now)) c.requires.1.1.1.1.1.1.1.0
+    (subst (λ n. LiesWithin g.W.Way.BACKWARDS n (length c.piece_on-piece.result.now) c.args.end) (sym c.start-start.ensures)
+    (first_here g.W.Way.BACKWARDS (length c.piece_on-piece.result.now) c.loop-at.at c.args.end (left g c) c.piece_on-piece.ensures.short).1)
+
+fits : (g : _) (c : After-start-start g) → c.start-start.result + length c.piece_on-piece.result.now ≤ 18446744073709551615
+fits g c =
+    let from : c.args.from ≤ 18446744073709551615 = let k = c.ranges.from.fits in omega (arith, k) in
+    let end : c.args.end ≤ 18446744073709551615 = let k = c.ranges.end.fits in omega (arith, k) in
+    let at = between g.W.Way.BACKWARDS c.args.from c.loop-at.at c.args.end 18446744073709551615 c.loop-at.invariant.on c.loop-at.invariant.within from end in
+    let le = piece_fits g.W.Way.BACKWARDS (length c.piece_on-piece.result.now) c.loop-at.at c.args.end 18446744073709551615 (left g c)
+    c.piece_on-piece.ensures.short at end in
+    omega (arith, le, c.start-start.ensures)
+
+pub read-place-requires : goal.read-place-requires
+read-place-requires g c κs within_κs =
+    let d = (goal.at.read-place-requires g c).After-start-start in
+    let r = c.requires.1.1 in
+    let first = first_here g.W.Way.BACKWARDS (length c.piece_on-piece.result.now) c.loop-at.at c.args.end (left g d) c.piece_on-piece.ensures.short in
+    let from = ap (λ n. n + first_of g.W.Way.BACKWARDS (length c.piece_on-piece.result.now)) c.start-start.ensures ∙ first.0 in
+    let here = subst (λ i. Stands c.args.table.now g.course i c.loop-at.stand) (sym from) c.loop-at.invariant.stands in
+    (search rules, (r.0, (c.loop-at.invariant.row, (here, (r.1.1.1.1.0, (bytes g d, (within g d, fits g d)))))))
+
+pub overflow_add-at : goal.overflow_add-at
+overflow_add-at g c =
+    let le = fits g (goal.at.overflow_add-at g c).After-start-start in
+    omega (arith, le, c.read-place.ensures.read)
+
+pub step-requires : goal.step-requires
+step-requires g c κs within_κs =
+    let d = (goal.at.step-requires g c).After-start-start in
+    let q = g.course in
+    let r = c.requires.1.1 in
+    let given = r.1.1.1.1 in
+    let piece = c.piece_on-piece.result.now in
+    let i = c.start-start.result + c.read-place.result.0 in
+    let some : 0 < left_of g.W.Way.BACKWARDS (length piece) c.read-place.result.0 = omega (arith, c.if-left-gt0.true, c.left.ensures) in
+    let ahead = next_here g.W.Way.BACKWARDS q.seen q.bound c.start-start.result c.read-place.result.0 piece given.0 (bytes g d) (within g d) c.read-place.ensures.read some in
+    let next = subst (IsNext g.W.Way.BACKWARDS q.seen q.bound i) (sym c.byte.ensures) ahead in
+    let end = c.ranges.end.fits in (
+      search rules,
+      (
+        r.0,
+        (
+          c.read-place.ensures.row,
+          (
+            c.read-place.ensures.stands,
+            (
+              next,
+              (given.1.1.1.1.0, (given.1.1.1.1.1, λ forwards. let left = subst (λ b. 0 < span b i q.bound) forwards ahead.left in omega (arith, left, end, given.1.0))),
+            ),
+          ),
+        ),
+      ),
+    )
