@@ -1,7 +1,6 @@
 -- How many bytes settle what a search finds.
-use Rattle.std.proofs.Common.{◌≡◌, ◌≢◌, ◌∙◌, ℕ, ◌+◌, ◌-◌, ◌^◌, ◌<◌, ◌≤◌, ◌⊎◌, Bool, true, false, IsTrue, List, [], ◌∷◌, length, map, max, min, Option, Some, None, IfSome, if◌then◌else◌, ⊎_elim, ap, ap₂, subst, sym, refl, arith, true≢false}
+use Rattle.std.proofs.Common.{◌≡◌, ◌≢◌, ◌∙◌, ℕ, ◌+◌, ◌-◌, ◌^◌, ◌<◌, ◌≤◌, true, IsTrue, List, [], ◌∷◌, map, max, min, Option, Some, None, IfSome, ⊎_elim, ap, ap₂, subst, sym, refl, arith, true≢false}
 use Rattle.std.specs.Prelude.{All}
-use Rattle.std.specs.Option.{option_map}
 use Rattle.std.proofs.Math.Logic.{∥∥₁_elim}
 use denote.Struct.Props.{props}
 use Rattle.std.proofs.lemmas.Bool.{cases_Bool, cases_lt}
@@ -10,7 +9,7 @@ use Rattle.std.proofs.lemmas.List.Elements.{All-weaker}
 use Rattle.rc_text.specs.Bounds.{IsWithinBounds}
 use Rattle.rc_text.specs.Found.{Found}
 use Rattle.rc_text.specs.Plain as plain
-use Rattle.rc_text.specs.Text.{Keeps, Searched, high, low, slice_end}
+use Rattle.rc_text.specs.Text.{Keeps, Searched, low, slice_end}
 use Rattle.rc_text.specs.declared.types.Anchored.{Anchored}
 use Rattle.rc_text.specs.declared.types.Anchored.TheVariants.{No, Yes, Pattern}
 use Rattle.rc_text.specs.declared.types.MatchKind.{MatchKind}
@@ -21,14 +20,13 @@ use Rattle.rc_pattern.specs.declared.hir.Hir.{Hir}
 use Rattle.rc_pattern.specs.Properties.{both, maximum_len}
 use Rattle.rc_pattern.specs.WellFormed.{HasBounds, IsWellFormed}
 use Rattle.rc_captures.specs.declared.captures.Captures.{Captures}
-use Rattle.rc_program.specs.Answer.{Search, Chosen, chosen, found, is_anchored}
-use Rattle.rc_program.specs.Greatest.{greatest}
+use Rattle.rc_program.specs.Answer.{Search, Chosen, chosen, is_anchored}
 use Rattle.rc_program.specs.Kinds.{answer_by}
 use Rattle.rc_program.specs.Longest.{longest_chosen}
 use Rattle.rc_program.specs.Sought.{Sought, anchoring_of, search_for}
 use Rattle.rc_pikevm_search.specs.Tells.{TellsBy, TellsOf, TellsSpan}
 use Rattle.rc_reach.specs.Laws.{greatest_len}
-use Rattle.rc_reach.specs.Settled.{AgreesBelow, IsInside, IsWalkSettled}
+use Rattle.rc_reach.specs.Settled.{IsInside, IsWalkSettled}
 use Rattle.rc_reach.proofs.BoundLemmas.{length_law}
 use Rattle.rc_reach.proofs.SliceLemmas.{slice_law}
 use Rattle.api_meta.specs.Reached.{IsNear, TellsBelow}

@@ -1,4 +1,4 @@
-use Rattle.std.proofs.Common.{◌≡◌, ◌+◌, Some, map, drop}
+use Rattle.std.proofs.Common.{◌≡◌, Some, map, drop}
 use Rattle.rc_pattern.specs.Meaning.{meaning}
 use Rattle.api_meta.specs.Reaching.{longest_after}
 use Rattle.api_meta.proofs.reach.greatest_length.Given as goal

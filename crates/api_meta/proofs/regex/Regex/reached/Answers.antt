@@ -1,9 +1,6 @@
-use Rattle.std.proofs.Common.{◌≡◌, ◌∙◌, IfSome, Some, None, ap, subst, sym}
-use Rattle.rc_program.specs.Kinds.{answer_by}
-use Rattle.rc_program.specs.Sought.{search_for}
-use Rattle.rc_text.specs.Bounds.{IsWithinBounds}
+use Rattle.std.proofs.Common.{◌∙◌, ap, sym}
 use Rattle.api_meta.specs.Reaching.{last_start}
-use Rattle.api_meta.specs.Views.{regex_kind, sought}
+use Rattle.api_meta.specs.Views.{regex_kind}
 use Rattle.api_meta.proofs.Reaching.{by_values, no_start}
 use Rattle.api_meta.proofs.regex.Regex.reached.Goals as goal
 
