@@ -1,8 +1,9 @@
 -- Sets of the patterns that have a match, needle by needle and start by start.
-use Rattle.std.proofs.Common.{◌≡◌, ◌∙◌, ◌↔◌, ◌⊎◌, ℕ, ◌+◌, ◌<◌, ◌≤◌, Bool, true, false, true≢false, List, length, set, Option, Some, None, slice_get, slice_index, option_map, ap, sym, subst, refl, arith, inl, inr, ⊎_elim}
+use Rattle.std.proofs.Common.{◌≡◌, ◌∙◌, ◌↔◌, ◌⊎◌, ℕ, ◌+◌, ◌<◌, ◌≤◌, Bool, true, false, true≢false, IsTrue, List, get_or, length, replicate, set, Option, Some, None, slice_get, slice_index, option_map, ap, sym, subst, refl, arith, inl, inr, ⊎_elim}
 use Rattle.std.specs.Prelude.{is_some}
-use Rattle.std.proofs.lemmas.Bool.{cases_lt}
-use Rattle.std.proofs.lemmas.List.{length-set}
+use Rattle.std.proofs.lemmas.Bool.{cases_eq, cases_lt}
+use Rattle.std.proofs.lemmas.Grind.{get_or-set_at}
+use Rattle.std.proofs.lemmas.List.{get_or-replicate, get_or-set_other, get_or_past, length-replicate, length-set, set_past}
 use Rattle.std.proofs.lemmas.Option.{get_or_from_slice_get, slice_get-get_or, slice_get_within}
 use Rattle.rc_text.specs.Text.{Searched, low, high}
 use Rattle.rc_text.specs.Found.{Found}
@@ -17,7 +18,7 @@ use Rattle.rc_needles.proofs.FindLemmas.{prefix_is}
 use Rattle.rc_needles.proofs.RelationLemmas.{get_some, some_get, none_to, true_within, within_true}
 use Rattle.rc_needles.proofs.StandLemmas.{begins_with, false_if_not, stands_parts}
 use Rattle.rc_literals.specs.Answers.{AddsOwners, Owned, OwnsAt, OwnsBy, literal_answer, literal_answer_by, own_needles}
-use Rattle.rc_literals.specs.Marks.{AddsFrom, IsAt}
+use Rattle.rc_literals.specs.Marks.{AddsFrom, AreMet, HasOwners, IsAt}
 use Rattle.rc_literals.proofs.MemberLemmas.{hit_owned, not_owned}
 
 module _ (o : Owned) (content : List ℕ) (hi : ℕ) where
@@ -135,6 +136,26 @@ module _ (o : Owned) (content : List ℕ) (hi : ℕ) where
           let l = at.there in
           (below.members p).1 (inr (q.0, q.4, omega (arith, l, all), at))
 
+  -- the set has all owners of needles that begin with the byte there
+  pub from_held : (i b : ℕ) (old : List Bool) → AreSome o.needles → slice_get content i ≡ Some b → HasOwners o old b → AddsFrom o content hi i (i + 1) old old
+  from_held i b old some is held = record {
+    capacity = refl;
+    members = λ p. (λ a. inl a, ⊎_elim (λ a. a) (λ q. known p q));
+  }
+    where
+      known : (p : ℕ) → ((p < length old) × (j : ℕ) × (i ≤ j) × (j < i + 1) × (number : ℕ) × IsAt o content hi j p number) → Has old p
+      known p q =
+          let a = q.2 in
+          let b2 = q.3 in
+          let same : q.1 ≡ i = omega (arith, a, b2) in
+          let at : IsAt o content hi i p q.4 = subst (λ j. IsAt o content hi j p q.4) same q.5 in
+          subst (Has old) at.owned
+          (held q.4 at.there (begins_with content hi i b (numbered o.needles q.4) (some q.4 at.there) is at.stands))
+
+  -- what is added leaves the flags right
+  pub met_on : (i : ℕ) (flags old new : List Bool) → AddsFrom o content hi i (i + 1) old new → AreMet o flags old → AreMet o flags new
+  met_on i flags old new adds met b t k l e = (adds.members (slice_index o.owners k)).1 (inl (met b t k l e))
+
   -- Starts, one after another.
 
   pub from_none : (from to : ℕ) (old : List Bool) → ((i : ℕ) → from ≤ i → i < to → needle_at o.needles content hi i ≡ None) → AddsFrom o content hi from to old old
@@ -225,6 +246,28 @@ module _ (o : Owned) (content : List ℕ) (hi : ℕ) where
       ⊎_elim (λ a. a) (λ q. absurd (let l = at_below q.1 p q.4 some q.5 in let m = q.2 in omega (arith, l, m, le))),
     );
   }
+
+-- Flags of bytes.
+
+module _ (o : Owned) (marks : List Bool) where
+  -- none is flagged
+  pub none_met : (n : ℕ) → AreMet o (replicate n false) marks
+  none_met n b t =
+      elim (cases_lt b n) [
+        | inl l ↦ absurd (true≢false (sym t ∙ get_or-replicate n b false false l))
+        | inr l ↦ absurd (true≢false (sym t ∙ get_or_past (replicate n false) b false (omega (arith, l, length-replicate n false))))
+      ]
+
+  -- one more flag tells of its byte
+  pub met_set : (flags : List Bool) (b : ℕ) (flag : Bool) → AreMet o flags marks → (IsTrue flag → HasOwners o marks b) → AreMet o (set flags b flag) marks
+  met_set flags b flag met told c t =
+      elim (cases_lt b (length flags)) [
+        | inl l ↦
+            ⊎_elim (λ same. subst (HasOwners o marks) (sym same) (told (sym (get_or-set_at flags b c flag false same l) ∙ t)))
+            (λ differs. met c (sym (get_or-set_other flags b c flag false differs) ∙ t))
+            (cases_eq c b)
+        | inr l ↦ met c (subst (λ fs. IsTrue (get_or fs c false)) (set_past flags b flag l) t)
+      ]
 
 -- By the anchoring.
 

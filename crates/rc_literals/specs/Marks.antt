@@ -1,9 +1,9 @@
 -- Only proofs use this file.
 -- Overlapping search for exact literals: sets of patterns that have a match.
-use Rattle.std.specs.Prelude.{◌≡◌, ◌↔◌, ◌⊎◌, ◌<◌, ◌≤◌, ℕ, Bool, true, List, length, slice_index}
+use Rattle.std.specs.Prelude.{◌≡◌, ◌↔◌, ◌⊎◌, ◌<◌, ◌≤◌, ℕ, Bool, true, false, IsTrue, List, length, slice_index, slice_index_or}
 use Rattle.rc_pattern_set.specs.Sets.{Has}
 use Rattle.rc_needles.specs.Needles.{stands_within}
-use Rattle.rc_needles.specs.Tables.{numbered}
+use Rattle.rc_needles.specs.Tables.{BeginsWithByte, numbered}
 use Rattle.rc_literals.specs.Answers.{Owned}
 
 -- The needle of this number is one of pattern p, and occurs at i.
@@ -18,3 +18,11 @@ pub record AddsFrom (o : Owned) (content : List ℕ) (hi from to : ℕ) (old new
   pub capacity : length new ≡ length old
   pub members : (p : ℕ) → Has new p ↔ (Has old p ⊎ ((p < length old)
       × (i : ℕ) × (from ≤ i) × (i < to) × (number : ℕ) × IsAt o content hi i p number))
+
+-- The set has the owner of each needle that begins with the byte b.
+abbrev pub HasOwners : Owned → List Bool → ℕ → Type 0
+HasOwners o set b = (k : ℕ) → k < length o.needles → BeginsWithByte (numbered o.needles k) b → Has set (slice_index o.owners k)
+
+-- So it has for each byte that is flagged.
+abbrev pub AreMet : Owned → List Bool → List Bool → Type 0
+AreMet o flags set = (b : ℕ) → IsTrue (slice_index_or flags b false) → HasOwners o set b

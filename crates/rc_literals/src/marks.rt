@@ -1,9 +1,9 @@
 //! Overlapping search for exact literals: which patterns have a match, if they are lists of needles.
-ghost use Rattle.std.specs.Prelude.{◌≡◌, ◌<◌, ◌≤◌, ◌+◌, ◌↔◌, ◌⊎◌, ℕ, length};
+ghost use Rattle.std.specs.Prelude.{◌≡◌, ◌<◌, ◌≤◌, ◌+◌, ◌↔◌, ◌⊎◌, IsTrue, ℕ, length};
 ghost use Rattle.rc_text.specs.Text.{Keeps, high, low};
 ghost use Rattle.rc_pattern_set.specs.Sets.{Has};
 ghost use Rattle.rc_literals.specs.Answers.{AddsOwners, owned_of};
-ghost use Rattle.rc_literals.specs.Marks.{AddsFrom, IsAt};
+ghost use Rattle.rc_literals.specs.Marks.{AddsFrom, AreMet, HasOwners, IsAt};
 
 use crate::owned::OwnedNeedles;
 use crate::search::{occurs, search};
@@ -55,6 +55,7 @@ fn mark_anywhere<C: Cursor>(input: &mut Input<C>, needles: &OwnedNeedles, set: &
     let end = high(input);
     let mut at = low(input);
     let mut missing = 0;
+    let mut met = [false; 256];
     while at < end {
         missing = missing_from(set, missing);
         if missing >= set.capacity() {
@@ -63,7 +64,7 @@ fn mark_anywhere<C: Cursor>(input: &mut Input<C>, needles: &OwnedNeedles, set: &
         let Some(hit) = find_from(input, &needles.prefilter, at, end) else {
             return;
         };
-        mark_at(input, needles, hit.start, end, set);
+        mark_left(input, needles, hit.start, end, &mut met, set);
         at = hit.start + 1;
     }
 }
@@ -83,6 +84,49 @@ fn missing_from(set: &PatternSet, from: usize) -> usize
         number += 1;
     }
     number
+}
+
+/// Whether the set has the owner of each needle that begins with this byte.
+fn has_owners(needles: &OwnedNeedles, byte: u8, set: &PatternSet) -> bool
+    ensures { IsTrue result → HasOwners (owned_of needles.now) set.now byte }
+{
+    let table = &needles.prefilter.searcher.table;
+    let mut number = table.heads[byte as usize];
+    while number < table.needles.len() {
+        if !set.contains(needles.owners[number]) {
+            return false;
+        }
+        number = table.nexts[number];
+    }
+    true
+}
+
+/// Does what `mark_at` does. If a byte is flagged in `met`, the set has the owners of all needles
+/// that begin with it, and none of them is asked for.
+fn mark_left<C: Cursor>(
+    input: &mut Input<C>,
+    needles: &OwnedNeedles,
+    at: usize,
+    end: usize,
+    met: &mut [bool; 256],
+    set: &mut PatternSet,
+)
+    requires low { at < end }
+    requires high { end ≤ length input.old.content }
+    requires met { AreMet (owned_of needles.now) met.old set.old }
+    ensures keeps { Keeps input.old input.new }
+    ensures adds { AddsFrom (owned_of needles.now) input.old.content end at
+        (at + 1) set.old set.new }
+    ensures met { AreMet (owned_of needles.now) met.new set.new }
+{
+    let Some(byte) = byte_at(input, at) else {
+        return;
+    };
+    if met[byte as usize] {
+        return;
+    }
+    mark_at(input, needles, at, end, set);
+    met[byte as usize] = has_owners(needles, byte, set);
 }
 
 /// Inserts each pattern of which a needle occurs at `at` and ends at `end` or earlier.

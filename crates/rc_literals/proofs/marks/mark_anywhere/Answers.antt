@@ -1,4 +1,4 @@
-use Rattle.std.proofs.Common.{arith, ◌≡◌, ◌∙◌, ◌+◌, ◌≤◌, sym, ap₂, subst, Some, None, inl, inr}
+use Rattle.std.proofs.Common.{arith, rules, ◌≡◌, ◌∙◌, ◌+◌, ◌≤◌, sym, ap₂, subst, Some, None, inl, inr}
 use Rattle.std.proofs.lemmas.Bool.{cases_lt}
 use Rattle.rc_text.specs.Text.{low, high}
 use Rattle.rc_needles.specs.Needles.{find_needle}
@@ -7,8 +7,18 @@ use Rattle.rc_needles.proofs.FindLemmas.{keeps_on}
 use Rattle.rc_needles.proofs.StartLemmas.{find_found, find_none}
 use Rattle.rc_literals.specs.Answers.{owned_of}
 use Rattle.rc_literals.specs.Marks.{AddsFrom}
-use Rattle.rc_literals.proofs.MarkLemmas.{from_none, from_on}
+use Rattle.rc_literals.proofs.MarkLemmas.{from_none, from_on, none_met}
 use Rattle.rc_literals.proofs.marks.mark_anywhere.Goals as goal
+
+pub loop-at-init : goal.loop-at-init
+loop-at-init g c = record {
+  keeps = search rules;
+  ends = search rules;
+  begins = search rules;
+  met = none_met (owned_of c.args.needles.now) c.args.set.now 256;
+  missing = search rules;
+  adds = search rules;
+}
 
 pub returns-in_default-clause-adds : goal.returns-in_default-clause-adds
 returns-in_default-clause-adds g c =
@@ -34,10 +44,10 @@ loop-at-preserved g c =
     sym c.in-Some.is ∙ c.find_from.ensures.value
     ∙ ap₂ (λ t h. find_needle (needles_of ns.prefilter) t at h) c.loop-at.invariant.keeps.content c.loop-at.invariant.ends in
     let f = find_found (needles_of ns.prefilter) s.content at (high s) hit (sym found) in
-    let here : AddsFrom (owned_of ns) s.content (high s) hit.start (hit.start + 1) c.loop-at.set c.mark_at.new.set =
-    subst (λ h. AddsFrom (owned_of ns) s.content h hit.start (hit.start + 1) c.loop-at.set c.mark_at.new.set) c.loop-at.invariant.ends
-    (subst (λ t. AddsFrom (owned_of ns) t c.high-end.result hit.start (hit.start + 1) c.loop-at.set c.mark_at.new.set)
-    (c.find_from.ensures.keeps.content ∙ c.loop-at.invariant.keeps.content) c.mark_at.ensures.adds) in
+    let here : AddsFrom (owned_of ns) s.content (high s) hit.start (hit.start + 1) c.loop-at.set c.mark_left.new.set =
+    subst (λ h. AddsFrom (owned_of ns) s.content h hit.start (hit.start + 1) c.loop-at.set c.mark_left.new.set) c.loop-at.invariant.ends
+    (subst (λ t. AddsFrom (owned_of ns) t c.high-end.result hit.start (hit.start + 1) c.loop-at.set c.mark_left.new.set)
+    (c.find_from.ensures.keeps.content ∙ c.loop-at.invariant.keeps.content) c.mark_left.ensures.adds) in
     let begins = c.loop-at.invariant.begins in
     let later : low s ≤ hit.start = omega (arith, begins, f.low) in
     let next : hit.start ≤ hit.start + 1 = omega arith in
@@ -45,13 +55,14 @@ loop-at-preserved g c =
     from_on (owned_of ns) s.content (high s) (low s) at hit.start c.args.set.now c.loop-at.set c.loop-at.set begins f.low c.loop-at.invariant.adds
     (from_none (owned_of ns) s.content (high s) at hit.start c.loop-at.set f.none_before) in
     record {
-      keeps = keeps_on s c.find_from.new.input c.mark_at.new.input
-          (keeps_on s c.loop-at.input c.find_from.new.input c.loop-at.invariant.keeps c.find_from.ensures.keeps) c.mark_at.ensures.keeps;
+      keeps = keeps_on s c.find_from.new.input c.mark_left.new.input
+          (keeps_on s c.loop-at.input c.find_from.new.input c.loop-at.invariant.keeps c.find_from.ensures.keeps) c.mark_left.ensures.keeps;
       ends = c.loop-at.invariant.ends;
       begins = omega (arith, later);
+      met = c.mark_left.ensures.met;
       missing = λ p l. (here.members p).1 (inl (elim (cases_lt p c.loop-at.missing) [
         | inl h ↦ c.loop-at.invariant.missing p h
         | inr h ↦ c.missing_from-missing.ensures p h l
       ]));
-      adds = from_on (owned_of ns) s.content (high s) (low s) hit.start (hit.start + 1) c.args.set.now c.loop-at.set c.mark_at.new.set later next to here;
+      adds = from_on (owned_of ns) s.content (high s) (low s) hit.start (hit.start + 1) c.args.set.now c.loop-at.set c.mark_left.new.set later next to here;
     }
