@@ -3,8 +3,8 @@ use Rattle.std.proofs.Common.{◌≡◌, ◌++◌, ℕ, Bool, true, false, Optio
 use Rattle.std.proofs.lemmas.List.Elements.{All-get_or, All-push}
 use Rattle.std.proofs.lemmas.Option.{get_or_from_slice_get, slice_get_within}
 use Rattle.rc_tokens.specs.Text.{Characters}
-use Rattle.rc_tokens.specs.Marks.{Mark, bar, bounds_of, capturing, change_of, closes, flagging, flags_of, naming, opens, piece_says, repeats, said, setting, stands, unchanged, written}
-use Rattle.rc_tokens.specs.Said.{Bar, Closes, Flagged, Opens, Repeats, Said, Setting, Stands as Has, Start}
+use Rattle.rc_tokens.specs.Marks.{Mark, bar, bounds_of, capturing, closes, flagging, naming, opens, piece_says, repeats, said, setting, stands, written}
+use Rattle.rc_tokens.specs.Said.{Bar, Closes, Opens, Repeats, Said, Setting, Stands as Has, Start}
 use Rattle.rc_tokens.specs.View.{said_of, start_of}
 use Rattle.rc_tokens.specs.declared.tokens.Opening.{Opening}
 use Rattle.rc_tokens.specs.declared.tokens.Token.{Token}

@@ -1,7 +1,7 @@
 -- Members of a list that stand one behind another.
-use Rattle.std.proofs.Common.{◌≡◌, ◌∙◌, ◌+◌, ◌≤◌, ◌⊎◌, ℕ, [], ◌∷◌, ◌++◌, Option, Some, ap, inl, inr, refl, subst, sym}
+use Rattle.std.proofs.Common.{◌≡◌, ◌∙◌, ℕ, [], ◌∷◌, ◌++◌, Some, ap, refl, subst, sym}
 use Rattle.rc_tokens.specs.Text.{Characters}
-use Rattle.rc_tokens.specs.Marks.{member_of, written_atom}
+use Rattle.rc_tokens.specs.Marks.{written_atom}
 use Rattle.rc_tokens.specs.declared.tokens.Member.{Member}
 use Rattle.rc_tokens.specs.declared.tokens.Member.TheVariants as member
 use Rattle.rc_tokens.specs.declared.tokens.Perl.{Perl}

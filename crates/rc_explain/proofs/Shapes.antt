@@ -1,5 +1,5 @@
 -- What stands in a span stands there still where the text has more before it.
-use Rattle.std.proofs.Common.{◌≡◌, ◌∙◌, ◌+◌, ◌<◌, ◌≤◌, ℕ, suc, List, [], ◌∷◌, ◌++◌, Some, ap, arith, drop, get_or, length, length-append, min, max, subst, sym, take, inl, inr}
+use Rattle.std.proofs.Common.{◌≡◌, ◌∙◌, ◌+◌, ◌≤◌, ℕ, suc, [], ◌∷◌, ◌++◌, Some, ap, arith, drop, length, length-append, min, max, subst, sym, take, inl, inr}
 use Rattle.std.proofs.lemmas.List.{get_or-drop, get_or-take, length-drop, length-take}
 use Rattle.std.proofs.lemmas.Option.{get_or_from_slice_get, slice_get-get_or, slice_get_within}
 use Rattle.rc_tokens.specs.Text.{Characters}

@@ -1,18 +1,17 @@
 -- Tokens and members: how they are written, and where.
-use Rattle.std.proofs.Common.{◌≡◌, ◌∙◌, ◌+◌, ◌-◌, ◌<◌, ◌≤◌, ◌==◌, ◌||◌, ◌≢◌, not, ℕ, suc, Bool, true, false, List, [], ◌∷◌, ◌++◌, Option, Some, None, ap, append-nil, arith, encode_utf8_all, get_or, length, length-append, refl, slice_get, subst, sym, take}
+use Rattle.std.proofs.Common.{◌≡◌, ◌∙◌, ◌+◌, ◌-◌, ◌<◌, ◌≤◌, ◌==◌, ◌||◌, ◌≢◌, not, ℕ, suc, Bool, true, false, List, [], ◌∷◌, ◌++◌, Some, ap, append-nil, arith, encode_utf8_all, length, length-append, refl, subst, sym, take}
 use Rattle.std.proofs.lemmas.Bool.{eqb-true, ne_eqb}
 use Rattle.std.proofs.lemmas.Option.{none-some, same_Some, slice_get_within, slice_get-get_or, get_or_from_slice_get}
 use Rattle.std.proofs.lemmas.List.{get_or-take, length-take}
 use Rattle.rc_tokens.specs.Text.{Characters, ◌>>◌}
 use Rattle.rc_tokens.specs.Marks.{Amount, Atom, Escape, Mark, Opening, Operator, Piece, any, some, maybe, exactly, from, between, bar, brackets, capturing, caret, change_of, character, closes, dollar, dot, escape, escape_says, escaped, escaped_member, flagging, is_name, member_of, naming, opens, opening_says, piece_says, plain, plain_member, repeats, said, sense, setting, stands, unchanged, written, written_amount, written_atom, written_escape, written_if, written_piece, flags_of, bounds_of}
 use Rattle.rc_tokens.specs.Lexer.{lex}
-use Rattle.rc_tokens.specs.Said.{Said, Sense, Start, Stands as Has, Character, Byte, Dot, PerlClass, Asserts, Members, Bar, Setting, Opens, Closes, Repeats, Named, Flagged}
+use Rattle.rc_tokens.specs.Said.{Said, Sense, Stands as Has, Character, Byte, Dot, PerlClass, Asserts, Members, Setting, Opens, Repeats, Named, Flagged}
 use Rattle.rc_tokens.specs.declared.tokens.Assertion.{Assertion}
 use Rattle.rc_tokens.specs.declared.tokens.Escape as escapes
 use Rattle.rc_tokens.specs.declared.tokens.Escape.TheVariants as says
 use Rattle.rc_tokens.specs.declared.tokens.Member.{Member}
 use Rattle.rc_tokens.specs.declared.tokens.Member.TheVariants as member
-use Rattle.rc_tokens.specs.declared.tokens.Perl.{Perl}
 use Rattle.rc_tokens.proofs.SoundLemmas.{lex_sound}
 use Rattle.rc_tokens.proofs.StepLemmas.{guard_parts, some_parts}
 use Rattle.rc_explain.specs.Reading.{IsMember, IsToken}

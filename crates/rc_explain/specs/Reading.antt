@@ -1,6 +1,6 @@
 -- Only proofs use this file.
 -- What the tokens of a text tell of it.
-use Rattle.std.specs.Prelude.{◌≡◌, ◌-◌, ◌^◌, ◌≤◌, All, IfSome, List, Option, Some, ℕ, max, length, min, true}
+use Rattle.std.specs.Prelude.{◌≡◌, ◌-◌, ◌^◌, All, IfSome, List, Option, Some, ℕ, min, true}
 use Rattle.rc_tokens.specs.Marks.{Atom, Mark, member_of, said, written, written_atom}
 use Rattle.rc_tokens.specs.Said.{Said}
 use Rattle.rc_tokens.specs.Text.{Characters, each, is_digit_of, value_from}

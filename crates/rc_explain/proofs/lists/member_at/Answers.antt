@@ -1,4 +1,4 @@
-use Rattle.std.proofs.Common.{◌≡◌, arith, drop, min, refl, rules, subst}
+use Rattle.std.proofs.Common.{arith, drop, refl, rules, subst}
 use Rattle.rc_tokens.specs.Marks.{written_atom}
 use Rattle.rc_explain.specs.Reading.{IsMember}
 use Rattle.rc_explain.proofs.Shapes.{is_shifted}

@@ -1,4 +1,4 @@
-use Rattle.std.proofs.Common.{◌≡◌, ◌+◌, ◌≤◌, IfOk, ap, arith, drop, length, rules, subst, sym, take}
+use Rattle.std.proofs.Common.{◌≡◌, ◌+◌, ◌≤◌, IfOk, arith, drop, length, rules, subst, sym, take}
 use Rattle.rc_tokens.specs.View.{said_of}
 use Rattle.rc_explain.specs.Reading.{IsToken}
 use Rattle.rc_explain.specs.Shown.{HasShape, Shows, Stands, shape_of}
