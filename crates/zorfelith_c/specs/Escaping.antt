@@ -1,5 +1,5 @@
 -- Texts as patterns.
-use Rattle.std.specs.Prelude.{◌≡◌, ℕ, zero, suc, ◌<◌, ◌≤◌, Bool, ◌||◌, ◌==◌, List, [], ◌∷◌, IsUtf8, length, take, if◌then◌else◌}
+use Rattle.std.specs.Prelude.{◌≡◌, ℕ, ◌<◌, ◌≤◌, Bool, ◌||◌, ◌==◌, List, [], ◌∷◌, IsUtf8, length, take, if◌then◌else◌}
 use Rattle.std.specs.List.{flat_map}
 use Rattle.zorfelith_c.specs.Names.{TellsAs}
 

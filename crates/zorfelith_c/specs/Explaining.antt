@@ -1,6 +1,6 @@
 -- What is wrong with the text of a pattern, as a status tells it: 0, nothing; 1, there is a fault; 6, the words for it are longer than their
 -- place; 7, the text isn't UTF-8; 10, memory was refused; 12, the settings aren't known. Each of 0, 1, 6 and 7 comes only where that is so.
-use Rattle.std.specs.Prelude.{◌≡◌, ℕ, zero, suc, ◌<◌, ◌≤◌, List, IsUtf8, chars, length, take}
+use Rattle.std.specs.Prelude.{ℕ, zero, suc, ◌<◌, ◌≤◌, List, IsUtf8, chars, length, take}
 use Rattle.rc_parser.specs.Settings.{Settings as Syntax}
 use Rattle.rc_explain.specs.Explained.{IsRead, IsUnread, IsWithin}
 use Rattle.rc_explain.specs.Shown.{IsShown}

@@ -1,4 +1,4 @@
-use Rattle.std.proofs.Common.{◌+◌, ◌≤◌, ◌++◌, ◌∙◌, ap, arith, get_or, length, length-append, sym, take}
+use Rattle.std.proofs.Common.{◌+◌, ◌++◌, ◌∙◌, ap, arith, get_or, length, length-append, sym, take}
 use Rattle.zorfelith_c.specs.Escaping.{escaped, escaped_byte}
 use Rattle.zorfelith_c.proofs.Escapes.{escaped_more, escaped_within}
 use Rattle.zorfelith_c.proofs.escape.write_escaped.Goals as goal
