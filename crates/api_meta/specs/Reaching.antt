@@ -1,4 +1,3 @@
--- Only proofs use this file.
 -- Reaching: how many bytes settle a match, as far as the lengths of the patterns say.
 use Rattle.std.specs.Prelude.{ℕ, ◌+◌, ◌-◌, ◌^◌, ◌≤◌, List, [], ◌∷◌, max, min, Option, Some, None, IfSome, if◌then◌else◌}
 use Rattle.rc_text.specs.Found.{Found}
