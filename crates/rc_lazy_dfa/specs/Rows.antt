@@ -1,3 +1,4 @@
+-- Only proofs use this file.
 -- Rows of a cache, as runs read them.
 use Rattle.std.specs.Prelude.{◌≡◌, ℕ, List}
 use Rattle.rc_determinize.specs.States.{State}

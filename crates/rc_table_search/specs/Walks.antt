@@ -1,3 +1,4 @@
+-- Only proofs use this file.
 -- Runs over a piece of a text, by the cells of a table.
 use Rattle.std.specs.Prelude.{◌≡◌, ℕ, ◌+◌, ◌-◌, ◌%◌, ◌<◌, ◌≤◌, Bool, true, false, List, length, Option, Some, slice_index_or}
 
