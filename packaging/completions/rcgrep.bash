@@ -1,12 +1,9 @@
 # Completions of rcgrep for bash.
 _rcgrep() {
-  local word=${COMP_WORDS[COMP_CWORD]} before=${COMP_WORDS[COMP_CWORD - 1]}
+  local word=${COMP_WORDS[COMP_CWORD]}
   COMPREPLY=()
-  if [[ $before == -*e && $before != --* ]]; then
-    return
-  fi
   if [[ $word == -* ]]; then
-    mapfile -t COMPREPLY < <(compgen -W '-e -n -c -o -i -v -l --color --help -V --version --' -- "$word")
+    mapfile -t COMPREPLY < <(compgen -W '-e --regexp -f --file -F --fixed-strings -i --ignore-case -S --smart-case -w --word-regexp -x --line-regexp -v --invert-match -c --count -l --files-with-matches -L --files-without-match -q --quiet -s --no-messages -o --only-matching -n --line-number -h --no-filename -H --with-filename -m --max-count --color --line-buffered -A --after-context -B --before-context -C --context -r --recursive --include --exclude --hidden -a --text -I --no-binary --help -V --version --generate --' -- "$word")
     return
   fi
   mapfile -t COMPREPLY < <(compgen -f -- "$word")

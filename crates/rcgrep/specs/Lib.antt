@@ -2,3 +2,4 @@ pub mod Picked
 pub mod Selecting
 pub mod Local
 pub mod Unread
+pub mod Fitted

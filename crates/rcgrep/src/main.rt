@@ -9,40 +9,22 @@ mod options;
 mod output;
 mod patterns;
 mod search;
+mod texts;
 
 use crate::faults::{FAULT, report, report_refusal, report_unread};
-use crate::options::{Options, WordsError, nearest, read_words};
-use crate::patterns::{MAX_PATTERNS, Patterns, Unread, build, read_patterns};
+use crate::options::{Fit, Options, Refusal, When};
+use crate::patterns::{MAX_PATTERNS, Patterns, Unread, all_fitted, build, read_patterns};
 use crate::search::search_all;
+use crate::texts::{all_escaped, all_texts, has_newline, have_capital, read_files};
+use grep_options::{
+    Given, OPTIONS, RCGREP, WordsError, nearest, put_completions, put_help, put_manual, read_words,
+};
 use regex_cursor::hir::Hir;
 use regex_cursor::syntax::Config;
 use std::alloc::{AllocError, Global};
 use std::io;
-use std::io::Write;
+use std::io::{ErrorKind, IsTerminal, Write};
 use std::process::ExitCode;
-
-const USAGE: &str =
-    "usage: rcgrep [-n] [-c] [-o] [-i] [-v] [-l] [--color] [-e PATTERN].. PATTERN [FILE]..";
-
-const HELP: &str = "\
-Prints the lines of files, or of the standard input, in which a pattern matches.
-  -e PATTERN  a pattern; a line is printed where one of them matches
-  -n          the number of each line stands before it
-  -c          the number of lines alone
-  -o          each match alone, and no empty one
-  -i          letters match in either case
-  -v          the lines in which no pattern matches
-  -l          the names of the files with such a line alone
-  --color     matches are marked
-  --help      this text
-  -V          the version; so does --version
-  --          no word after it is an option
-Letters may stand together, as in -ne PATTERN. A line needn't be UTF-8, and loses no match then:
-of the line `price`, the byte A3, ` 100`, -o '\\w*' prints `price` and `100`.
-The status is 0 where a line was printed or counted, 1 where none was, and 2 at a fault.";
-
-/// The version of the repository.
-const VERSION: &str = "0.1.0";
 
 /// The arguments of the program. An error means out of memory, or an argument that isn't text.
 fn words_of(rt: &HostRuntime) -> io::Result<Vec<String>> {
@@ -66,34 +48,86 @@ fn build_or_report(rt: &HostRuntime, hirs: &[Hir]) -> Result<Patterns, u8> {
     }
 }
 
-/// Parses and builds the patterns, or reports why they can't be built.
-fn patterns_of(rt: &HostRuntime, options: &Options<'_>) -> Result<Patterns, u8> {
-    let texts = options.patterns.as_slice();
-    let config = Config::new().case_insensitive(options.ignore_case);
-    let hirs = match read_patterns(rt.alloc(), texts, &config) {
+/// Parses and builds these texts as patterns, or reports why they can't be built.
+fn build_texts(
+    rt: &HostRuntime,
+    texts: &[&str],
+    config: &Config,
+    fit: Fit,
+) -> Result<Patterns, u8> {
+    let hirs = match read_patterns(rt.alloc(), texts, config) {
         Ok(hirs) => hirs,
-        Err(Unread::Text(number)) => return Err(report_unread(rt, texts, number, &config)),
+        Err(Unread::Text(number)) => return Err(report_unread(rt, texts, number, config)),
         Err(Unread::Memory) => return Err(report(rt, "out of memory")),
+    };
+    let Ok(hirs) = all_fitted(rt.alloc(), hirs, fit) else {
+        return Err(report(rt, "out of memory"));
     };
     let built = build_or_report(rt, &hirs);
     drop(hirs);
     built
 }
 
+/// Parses and builds the patterns, or reports why they can't be built.
+fn patterns_of(rt: &HostRuntime, options: &Options<'_>, files: &[String]) -> Result<Patterns, u8> {
+    let Ok(texts) = all_texts(rt.alloc(), &options.patterns, files) else {
+        return Err(report(rt, "out of memory"));
+    };
+    if has_newline(&texts) {
+        return Err(report(rt, "a pattern has a newline, and no line has one"));
+    }
+    let folds_case = options.ignore_case || (options.smart_case && !have_capital(&texts));
+    let config = Config::new().case_insensitive(folds_case);
+    if !options.is_fixed {
+        return build_texts(rt, &texts, &config, options.fit);
+    }
+    let Ok(patterns) = all_escaped(rt.alloc(), &texts) else {
+        return Err(report(rt, "out of memory"));
+    };
+    match lent(rt.alloc(), &patterns) {
+        Ok(texts) => build_texts(rt, &texts, &config, options.fit),
+        Err(_) => Err(report(rt, "out of memory")),
+    }
+}
+
+/// Whether matches are marked.
+fn is_colored(rt: &HostRuntime, options: &Options<'_>) -> bool {
+    match options.color {
+        When::Always => true,
+        When::Never => false,
+        When::Auto => rt.stdout().is_terminal(),
+    }
+}
+
+/// Reports that the output failed. That its reader is gone is no fault.
+fn report_output(rt: &HostRuntime, fault: &io::Error) -> u8 {
+    if fault.kind() == ErrorKind::BrokenPipe {
+        return 0;
+    }
+    let _ = writeln!(rt.stderr(), "rcgrep: write error: {fault}");
+    FAULT
+}
+
 /// Builds the patterns, and searches.
 fn run(rt: &HostRuntime, options: &Options<'_>) -> u8 {
-    let patterns = match patterns_of(rt, options) {
+    let files = match read_files(rt, &options.pattern_files) {
+        Ok(files) => files,
+        Err(refused) => {
+            let name = refused.name;
+            let fault = &refused.fault;
+            let _ = writeln!(rt.stderr(), "rcgrep: {name}: {fault}");
+            return FAULT;
+        }
+    };
+    let patterns = match patterns_of(rt, options, &files) {
         Ok(patterns) => patterns,
         Err(status) => return status,
     };
-    let searched = search_all(rt, &patterns, options);
+    let searched = search_all(rt, &patterns, options, is_colored(rt, options));
     drop(patterns);
     match searched {
         Ok(status) => status,
-        Err(fault) => {
-            let _ = writeln!(rt.stderr(), "rcgrep: {fault}");
-            FAULT
-        }
+        Err(fault) => report_output(rt, &fault),
     }
 }
 
@@ -101,36 +135,61 @@ fn run(rt: &HostRuntime, options: &Options<'_>) -> u8 {
 fn status_of(rt: &HostRuntime, written: io::Result<()>) -> u8 {
     match written {
         Ok(()) => 0,
-        Err(fault) => {
-            let _ = writeln!(rt.stderr(), "rcgrep: {fault}");
-            FAULT
-        }
+        Err(fault) => report_output(rt, &fault),
     }
 }
 
-/// Reports an argument that isn't an option, and the option that is nearest to it.
-fn report_unknown(rt: &HostRuntime, word: &str) -> u8 {
-    let _ = match nearest(word) {
-        Some(option) => writeln!(
-            rt.stderr(),
-            "rcgrep: no option {word}, the nearest is {option}\n{USAGE}"
-        ),
-        None => writeln!(rt.stderr(), "rcgrep: no option {word}\n{USAGE}"),
-    };
+/// Reports a fault of the command line, and the usage.
+fn report_usage(rt: &HostRuntime, fault: &str, word: &str) -> u8 {
+    let usage = RCGREP.usage;
+    let _ = writeln!(rt.stderr(), "rcgrep: {fault} {word}\nUsage: {usage}");
     FAULT
+}
+
+/// Reports a word that isn't an option, and the option that is nearest to it.
+fn report_unknown(rt: &HostRuntime, word: &str) -> u8 {
+    if let Ok(Some(name)) = nearest(rt.alloc(), &OPTIONS, word) {
+        let _ = writeln!(rt.stderr(), "rcgrep: the nearest option is --{name}");
+    }
+    report_usage(rt, "no option", word)
+}
+
+/// Writes a text that is made of the options: the man page's, or completions.
+fn generate(rt: &HostRuntime, kind: &str) -> u8 {
+    let mut out = rt.stdout();
+    if kind == "man" {
+        return status_of(rt, put_manual(&mut out, &OPTIONS));
+    }
+    match put_completions(&mut out, &RCGREP, &OPTIONS, kind) {
+        Ok(true) => 0,
+        Ok(false) => report_usage(rt, "no such text:", kind),
+        Err(fault) => report_output(rt, &fault),
+    }
+}
+
+/// Runs the program with these options, or writes what is asked for in its place.
+fn run_given(rt: &HostRuntime, given: &Given<'_>) -> u8 {
+    match Options::of(rt.alloc(), given) {
+        Ok(options) => run(rt, &options),
+        Err(Refusal::Help) => status_of(rt, put_help(&mut rt.stdout(), &RCGREP, &OPTIONS)),
+        Err(Refusal::Version) => {
+            let version = RCGREP.version;
+            status_of(rt, writeln!(rt.stdout(), "rcgrep {version}"))
+        }
+        Err(Refusal::Generate(kind)) => generate(rt, kind),
+        Err(Refusal::BadValue(value)) => report_usage(rt, "no option takes", value),
+        Err(Refusal::NoPattern) => report_usage(rt, "no pattern", ""),
+        Err(Refusal::Memory) => report(rt, "out of memory"),
+    }
 }
 
 /// Runs the program with these arguments.
 fn run_with(rt: &HostRuntime, words: &[&str]) -> u8 {
-    match read_words(rt.alloc(), words) {
-        Ok(options) => run(rt, &options),
-        Err(WordsError::Help) => status_of(rt, writeln!(rt.stdout(), "{USAGE}\n{HELP}")),
-        Err(WordsError::Version) => status_of(rt, writeln!(rt.stdout(), "rcgrep {VERSION}")),
+    match read_words(rt.alloc(), &OPTIONS, words) {
+        Ok(given) => run_given(rt, &given),
         Err(WordsError::Unknown(word)) => report_unknown(rt, word),
-        Err(WordsError::Usage) => {
-            let _ = writeln!(rt.stderr(), "{USAGE}");
-            FAULT
-        }
+        Err(WordsError::NoValue(word)) => report_usage(rt, "a value is missing behind", word),
+        Err(WordsError::Unneeded(word)) => report_usage(rt, "no value belongs to", word),
         Err(WordsError::Memory) => report(rt, "out of memory"),
     }
 }

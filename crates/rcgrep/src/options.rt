@@ -1,161 +1,301 @@
-//! Command-line options.
+//! Options: what is searched, and how it is printed.
 
+use grep_options::{Given, Id};
 use std::alloc::{AllocFailed, Global};
+
+/// What is printed of a file.
+#[derive(Clone, Copy, PartialEq, Eq)]
+pub enum Report {
+    /// The selected lines.
+    Lines,
+    /// Their number.
+    Count,
+    /// The name, if a line is selected.
+    NameIfAny,
+    /// The name, if no line is.
+    NameIfNone,
+    /// A message that a line is selected: the file is binary.
+    Binary,
+    /// Nothing.
+    Nothing,
+}
+
+/// When matches are marked.
+#[derive(Clone, Copy, PartialEq, Eq)]
+pub enum When {
+    Always,
+    Never,
+    /// If the output is a terminal.
+    Auto,
+}
+
+/// Which part of a line a match has to be.
+#[derive(Clone, Copy, PartialEq, Eq)]
+pub enum Fit {
+    Any,
+    Words,
+    Line,
+}
 
 /// What is searched, and how it is printed.
 #[derive(Drop)]
 pub struct Options<'w> {
-    /// `-n`: print the number of each line before it.
-    pub numbers: bool,
-    /// `-c`: print only the number of lines.
-    pub count: bool,
-    /// `-o`: print only the matches.
-    pub only_matching: bool,
-    /// `-i`: letters match in either case.
-    pub ignore_case: bool,
-    /// `-v`: select the lines in which no pattern matches.
-    pub invert: bool,
-    /// `-l`: print only the names of files.
-    pub names_only: bool,
-    /// `--color`: highlight matches.
-    pub color: bool,
     pub patterns: Vec<&'w str>,
+    /// The files whose lines are patterns.
+    pub pattern_files: Vec<&'w str>,
+    pub is_fixed: bool,
+    pub ignore_case: bool,
+    pub smart_case: bool,
+    pub fit: Fit,
+    pub invert: bool,
+    pub counts: bool,
+    pub quiet: bool,
+    /// Whether only the names of files are printed, and of which.
+    pub lists: Option<Report>,
+    pub no_messages: bool,
+    pub only_matching: bool,
+    pub numbers: bool,
+    /// Whether names of files are printed, if that is said.
+    pub names: Option<bool>,
+    /// The greatest number of selected lines of a file.
+    pub most: u64,
+    pub color: When,
+    pub line_buffered: bool,
+    pub before: Option<u64>,
+    pub after: Option<u64>,
+    pub around: Option<u64>,
+    pub recursive: bool,
+    pub include: Vec<&'w str>,
+    pub exclude: Vec<&'w str>,
+    pub hidden: bool,
+    pub text: bool,
+    pub no_binary: bool,
     /// The names of files; `-` is the standard input. There is at least one.
     pub files: Vec<&'w str>,
 }
 
 /// Why nothing is searched.
 #[derive(Clone, Copy)]
-pub enum WordsError<'w> {
+pub enum Refusal<'w> {
     /// The help is asked for.
     Help,
     /// The version is asked for.
     Version,
-    /// This argument isn't an option.
-    Unknown(&'w str),
+    /// A text that is made of the options is asked for.
+    Generate(&'w str),
+    /// This value of an option isn't one of those that it takes.
+    BadValue(&'w str),
     /// A pattern is missing.
-    Usage,
+    NoPattern,
     /// Out of memory.
     Memory,
 }
 
-impl<'w, T: Drop> From<AllocFailed<T>> for WordsError<'w> {
-    fn from(_: AllocFailed<T>) -> WordsError<'w> {
-        WordsError::Memory
+impl<'w, T: Drop> From<AllocFailed<T>> for Refusal<'w> {
+    fn from(_: AllocFailed<T>) -> Refusal<'w> {
+        Refusal::Memory
+    }
+}
+
+/// The number that a value says. One that is too large is the greatest.
+fn number(value: &str) -> Result<u64, Refusal<'_>> {
+    if value.is_empty() || !value.bytes().all(|byte| byte.is_ascii_digit()) {
+        return Err(Refusal::BadValue(value));
+    }
+    Ok(value.parse::<u64>().unwrap_or(u64::MAX))
+}
+
+/// When matches are marked, by a value.
+fn marking_of(value: Option<&str>) -> Result<When, Refusal<'_>> {
+    let Some(value) = value else {
+        return Ok(When::Auto);
+    };
+    match value {
+        "always" => Ok(When::Always),
+        "never" => Ok(When::Never),
+        "auto" => Ok(When::Auto),
+        _ => Err(Refusal::BadValue(value)),
     }
 }
 
 impl<'w> Options<'w> {
     fn new(alloc: Global) -> Options<'w> {
         Options {
-            numbers: false,
-            count: false,
-            only_matching: false,
-            ignore_case: false,
-            invert: false,
-            names_only: false,
-            color: false,
             patterns: Vec::new(alloc),
+            pattern_files: Vec::new(alloc),
+            is_fixed: false,
+            ignore_case: false,
+            smart_case: false,
+            fit: Fit::Any,
+            invert: false,
+            counts: false,
+            quiet: false,
+            lists: None,
+            no_messages: false,
+            only_matching: false,
+            numbers: false,
+            names: None,
+            most: u64::MAX,
+            color: When::Never,
+            line_buffered: false,
+            before: None,
+            after: None,
+            around: None,
+            recursive: false,
+            include: Vec::new(alloc),
+            exclude: Vec::new(alloc),
+            hidden: false,
+            text: false,
+            no_binary: false,
             files: Vec::new(alloc),
         }
     }
 
-    /// Sets the option of a letter. Returns whether there is one.
-    fn set(&mut self, letter: u8) -> bool {
-        match letter {
-            b'n' => self.numbers = true,
-            b'c' => self.count = true,
-            b'o' => self.only_matching = true,
-            b'i' => self.ignore_case = true,
-            b'v' => self.invert = true,
-            b'l' => self.names_only = true,
+    /// Sets an option about patterns that takes no value. Returns whether it is one.
+    fn set_pattern_option(&mut self, id: Id) -> bool {
+        match id {
+            Id::FixedStrings => self.is_fixed = true,
+            Id::IgnoreCase => self.ignore_case = true,
+            Id::SmartCase => self.smart_case = true,
+            Id::WordRegexp => {
+                if self.fit == Fit::Any {
+                    self.fit = Fit::Words;
+                }
+            }
+            Id::LineRegexp => self.fit = Fit::Line,
+            Id::InvertMatch => self.invert = true,
             _ => return false,
         }
         true
     }
 
-    /// Takes the pattern behind an `e`. Returns whether the next argument is that pattern.
-    fn take_pattern(&mut self, pattern: &'w str) -> Result<bool, WordsError<'w>> {
-        if pattern.is_empty() {
-            return Ok(true);
+    /// Sets an option about output that takes no value. Returns whether it is one.
+    fn set_output_option(&mut self, id: Id) -> bool {
+        match id {
+            Id::Count => self.counts = true,
+            Id::FilesWithMatches => self.lists = Some(Report::NameIfAny),
+            Id::FilesWithoutMatch => self.lists = Some(Report::NameIfNone),
+            Id::Quiet => self.quiet = true,
+            Id::NoMessages => self.no_messages = true,
+            Id::OnlyMatching => self.only_matching = true,
+            Id::LineNumber => self.numbers = true,
+            Id::NoFilename => self.names = Some(false),
+            Id::WithFilename => self.names = Some(true),
+            Id::LineBuffered => self.line_buffered = true,
+            _ => return false,
         }
-        self.patterns.push(pattern)?;
-        Ok(false)
+        true
     }
 
-    /// Takes an argument that begins with `-`. Of letters, what follows an `e` is a pattern. Returns
-    /// whether the next argument is a pattern.
-    fn take(&mut self, word: &'w str) -> Result<bool, WordsError<'w>> {
-        match word {
-            "--help" => return Err(WordsError::Help),
-            "--version" | "-V" => return Err(WordsError::Version),
-            "--color" => {
-                self.color = true;
-                return Ok(false);
+    /// Sets an option about files that takes no value. Returns whether it is one.
+    fn set_file_option(&mut self, id: Id) -> bool {
+        match id {
+            Id::Recursive => self.recursive = true,
+            Id::Hidden => self.hidden = true,
+            Id::Text => self.text = true,
+            Id::NoBinary => self.no_binary = true,
+            _ => return false,
+        }
+        true
+    }
+
+    /// Sets an option that takes a value.
+    fn set_value(&mut self, id: Id, value: &'w str) -> Result<(), Refusal<'w>> {
+        match id {
+            Id::Regexp => self.patterns.push(value)?,
+            Id::File => self.pattern_files.push(value)?,
+            Id::MaxCount => self.most = number(value)?,
+            Id::AfterContext => self.after = Some(number(value)?),
+            Id::BeforeContext => self.before = Some(number(value)?),
+            Id::Context => self.around = Some(number(value)?),
+            Id::Include => self.include.push(value)?,
+            Id::Exclude => self.exclude.push(value)?,
+            Id::Generate => return Err(Refusal::Generate(value)),
+            _ => {}
+        }
+        Ok(())
+    }
+
+    /// Sets an option.
+    fn set(&mut self, id: Id, value: Option<&'w str>) -> Result<(), Refusal<'w>> {
+        match id {
+            Id::Help => return Err(Refusal::Help),
+            Id::Version => return Err(Refusal::Version),
+            Id::Color => {
+                self.color = marking_of(value)?;
+                return Ok(());
             }
             _ => {}
         }
-        let (letters, pattern) = match word.split_once('e') {
-            Some((letters, pattern)) => (letters, Some(pattern)),
-            None => (word, None),
-        };
-        for letter in letters.bytes().skip(1) {
-            if !self.set(letter) {
-                return Err(WordsError::Unknown(word));
+        if self.set_pattern_option(id) || self.set_output_option(id) || self.set_file_option(id) {
+            return Ok(());
+        }
+        match value {
+            Some(value) => self.set_value(id, value),
+            None => Ok(()),
+        }
+    }
+
+    /// Takes the words that are no options: the first is the pattern, unless an option gives one; the
+    /// others are files.
+    fn take_operands(&mut self, operands: &[&'w str]) -> Result<(), Refusal<'w>> {
+        let has_pattern = !self.patterns.is_empty() || !self.pattern_files.is_empty();
+        let mut is_pattern_next = !has_pattern;
+        for word in operands {
+            let word: &'w str = *word;
+            if is_pattern_next {
+                self.patterns.push(word)?;
+                is_pattern_next = false;
+            } else {
+                self.files.push(word)?;
             }
         }
-        match pattern {
-            Some(pattern) => self.take_pattern(pattern),
-            None => Ok(false),
-        }
-    }
-}
-
-/// The option that begins as this argument does, if there is one.
-pub fn nearest(word: &str) -> Option<&'static str> {
-    if word.starts_with("--c") {
-        return Some("--color");
-    }
-    if word.starts_with("--h") {
-        return Some("--help");
-    }
-    if word.starts_with("--v") {
-        return Some("--version");
-    }
-    None
-}
-
-/// The options that the arguments give. The first argument that is no option is the pattern, unless
-/// `-e` gives one; the others are files.
-pub fn read_words<'w>(alloc: Global, words: &[&'w str]) -> Result<Options<'w>, WordsError<'w>> {
-    let mut options = Options::new(alloc);
-    let mut is_pattern_next = false;
-    let mut are_options_over = false;
-    for word in words {
-        let word: &'w str = *word;
         if is_pattern_next {
-            options.patterns.push(word)?;
-            is_pattern_next = false;
-        } else if are_options_over || word == "-" || !word.starts_with('-') {
-            options.files.push(word)?;
-        } else if word == "--" {
-            are_options_over = true;
+            return Err(Refusal::NoPattern);
+        }
+        if self.files.is_empty() {
+            self.files.push(if self.recursive { "." } else { "-" })?;
+        }
+        Ok(())
+    }
+
+    /// The options that a command line gives. Of options that exclude one another the last counts.
+    pub fn of(alloc: Global, given: &Given<'w>) -> Result<Options<'w>, Refusal<'w>> {
+        let mut options = Options::new(alloc);
+        for option in &given.options {
+            let (id, value): (Id, Option<&'w str>) = *option;
+            options.set(id, value)?;
+        }
+        options.take_operands(&given.operands)?;
+        Ok(options)
+    }
+
+    /// What is printed of a file.
+    pub fn report(&self) -> Report {
+        if self.quiet {
+            return Report::Nothing;
+        }
+        if let Some(list) = self.lists {
+            return list;
+        }
+        if self.counts {
+            Report::Count
         } else {
-            is_pattern_next = options.take(word)?;
+            Report::Lines
         }
     }
-    if is_pattern_next {
-        return Err(WordsError::Usage);
+
+    /// Whether the name of the file stands before what is printed of it.
+    pub fn shows_names(&self) -> bool {
+        self.names.unwrap_or(self.files.len() > 1 || self.recursive)
     }
-    if options.patterns.is_empty() {
-        if options.files.is_empty() {
-            return Err(WordsError::Usage);
+
+    /// How many lines are printed before a selected line, and how many behind it, if that is said.
+    pub fn context(&self) -> Option<(u64, u64)> {
+        if self.before.is_none() && self.after.is_none() && self.around.is_none() {
+            return None;
         }
-        let pattern = options.files.remove(0);
-        options.patterns.push(pattern)?;
+        let around = self.around.unwrap_or(0);
+        Some((self.before.unwrap_or(around), self.after.unwrap_or(around)))
     }
-    if options.files.is_empty() {
-        options.files.push("-")?;
-    }
-    Ok(options)
 }

@@ -7,15 +7,17 @@ ghost use Rattle.rc_settings.specs.Settings.{nfa_size_limit_of};
 ghost use Rattle.rc_build.specs.Refusals.{IsBuildable, IsRefusal};
 ghost use Rattle.rc_build.specs.TextRefusals.{AllRead, texts_of};
 ghost use Rattle.api_meta.specs.Views.{regex_patterns, regex_settings};
+ghost use Rattle.rcgrep.specs.Fitted.{fitted_of};
 ghost use Rattle.rcgrep.specs.Local.{HasLineLooks, IsLocalPattern, IsLocalRegex};
 ghost use Rattle.rcgrep.specs.Picked.{line_settings};
 ghost use Rattle.rcgrep.specs.Unread.{IsUnread};
 
+use crate::options::Fit;
 use rc_pattern::check::properties_of;
 use regex_cursor::engines::meta::{BuildError, Regex};
 use regex_cursor::hir::{Hir, Look};
 use regex_cursor::syntax::{Config, Error, parse};
-use std::alloc::{AllocFailed, Global};
+use std::alloc::{AllocError, AllocFailed, Global};
 
 /// The greatest number of patterns.
 pub const MAX_PATTERNS: usize = 2_147_483_647;
@@ -56,6 +58,35 @@ pub fn read_patterns(alloc: Global, texts: &[&str], config: &Config) -> Result<V
         }
     }
     Ok(hirs)
+}
+
+/// The pattern whose matches are those of this one that are a part of a line of this kind: whole
+/// words, or the whole line.
+fn fitted(alloc: Global, hir: Hir, fit: Fit) -> Result<Hir, AllocError>
+    ensures { IfOk result (λ h. meaning h ≡ fitted_of fit (meaning hir)) }
+{
+    let (before, behind) = match fit {
+        Fit::Any => return Ok(hir),
+        Fit::Words => (Look::WordStartHalfUnicode, Look::WordEndHalfUnicode),
+        Fit::Line => (Look::StartLF, Look::EndLF),
+    };
+    let mut members = Vec::new(alloc);
+    members.push(Hir::look(before))?;
+    members.push(hir)?;
+    members.push(Hir::look(behind))?;
+    Hir::concat(alloc, members)
+}
+
+/// The patterns, each fitted.
+pub fn all_fitted(alloc: Global, hirs: Vec<Hir>, fit: Fit) -> Result<Vec<Hir>, AllocError>
+    ensures { IfOk result (λ v. map meaning v.items
+        ≡ map (fitted_of fit) (map meaning hirs.items)) }
+{
+    let mut all = Vec::new(alloc);
+    for hir in hirs {
+        all.push(fitted(alloc, hir, fit)?)?;
+    }
+    Ok(all)
 }
 
 /// Patterns, built.

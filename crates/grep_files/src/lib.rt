@@ -1,0 +1,8 @@
+//! Files of a line filter: those that a command line names, and those in folders.
+#![tactic(auto)]
+
+mod glob;
+mod walk;
+
+pub use glob::fits;
+pub use walk::{Choice, FoundFile, Walk, WalkError};

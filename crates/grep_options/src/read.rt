@@ -1,0 +1,183 @@
+//! Command lines: the options and operands that the words give.
+
+use crate::table::{Entry, Id, Takes};
+use std::alloc::{AllocError, AllocFailed, Global};
+use strsim::levenshtein;
+
+/// The greatest number of changed letters between a word and the option that is meant.
+const GREATEST_DISTANCE: usize = 3;
+
+/// What a command line gives.
+#[derive(Drop)]
+pub struct Given<'w> {
+    /// The options, in their order, each with its value if it has one.
+    pub options: Vec<(Id, Option<&'w str>)>,
+    /// The words that are no options, in their order.
+    pub operands: Vec<&'w str>,
+}
+
+/// Why the words give nothing.
+#[derive(Clone, Copy)]
+pub enum WordsError<'w> {
+    /// The word is no option, or a letter of it is none.
+    Unknown(&'w str),
+    /// The option in this word takes a value, and there is none.
+    NoValue(&'w str),
+    /// The option in this word takes no value.
+    Unneeded(&'w str),
+    /// Out of memory.
+    Memory,
+}
+
+impl<'w, T: Drop> From<AllocFailed<T>> for WordsError<'w> {
+    fn from(_: AllocFailed<T>) -> WordsError<'w> {
+        WordsError::Memory
+    }
+}
+
+/// An option whose value is the next word.
+#[derive(Clone, Copy)]
+struct Awaiting<'w> {
+    id: Id,
+    word: &'w str,
+}
+
+/// The option with a letter.
+fn by_letter(table: &[Entry], letter: char) -> Option<Entry> {
+    for entry in table {
+        if entry.letter == Some(letter) {
+            return Some(*entry);
+        }
+    }
+    None
+}
+
+/// The option with a long name.
+fn by_name(table: &[Entry], name: &str) -> Option<Entry> {
+    for entry in table {
+        if entry.name == name {
+            return Some(*entry);
+        }
+    }
+    None
+}
+
+impl<'w> Given<'w> {
+    fn new(alloc: Global) -> Given<'w> {
+        Given {
+            options: Vec::new(alloc),
+            operands: Vec::new(alloc),
+        }
+    }
+
+    /// Takes a word that begins with `--`. Returns the option if its value is the next word.
+    fn take_long(
+        &mut self,
+        table: &[Entry],
+        word: &'w str,
+        text: &'w str,
+    ) -> Result<Option<Awaiting<'w>>, WordsError<'w>> {
+        let (name, value) = match text.split_once('=') {
+            Some((name, value)) => (name, Some(value)),
+            None => (text, None),
+        };
+        let Some(entry) = by_name(table, name) else {
+            return Err(WordsError::Unknown(word));
+        };
+        match (entry.takes, value) {
+            (Takes::Nothing, Some(_)) => return Err(WordsError::Unneeded(word)),
+            (Takes::Value(_), None) => return Ok(Some(Awaiting { id: entry.id, word })),
+            _ => {}
+        }
+        self.options.push((entry.id, value))?;
+        Ok(None)
+    }
+
+    /// Takes letters, of which the last one may have a value behind it. Returns the option if its
+    /// value is the next word.
+    fn take_letters(
+        &mut self,
+        table: &[Entry],
+        word: &'w str,
+        text: &'w str,
+    ) -> Result<Option<Awaiting<'w>>, WordsError<'w>> {
+        let mut letters = text.chars();
+        for _ in 0..text.len() {
+            let Some(letter) = letters.next() else {
+                break;
+            };
+            let Some(entry) = by_letter(table, letter) else {
+                return Err(WordsError::Unknown(word));
+            };
+            if let Takes::Value(_) = entry.takes {
+                let rest = letters.as_str();
+                if rest.is_empty() {
+                    return Ok(Some(Awaiting { id: entry.id, word }));
+                }
+                self.options.push((entry.id, Some(rest)))?;
+                return Ok(None);
+            }
+            self.options.push((entry.id, None))?;
+        }
+        Ok(None)
+    }
+}
+
+/// The options and operands that the words give. Letters may stand together, as in `-ne PATTERN`
+/// and `-A3`. The value of a long option stands behind `=`, or is the next word. No word behind `--`
+/// is an option, and `-` is none.
+pub fn read_words<'w>(
+    alloc: Global,
+    table: &[Entry],
+    words: &[&'w str],
+) -> Result<Given<'w>, WordsError<'w>> {
+    let mut given = Given::new(alloc);
+    let mut awaiting: Option<Awaiting<'w>> = None;
+    let mut are_options_over = false;
+    for word in words {
+        let word: &'w str = *word;
+        if let Some(option) = awaiting {
+            given.options.push((option.id, Some(word)))?;
+            awaiting = None;
+        } else if are_options_over || word == "-" {
+            given.operands.push(word)?;
+        } else if word == "--" {
+            are_options_over = true;
+        } else if let Some(text) = word.strip_prefix("--") {
+            awaiting = given.take_long(table, word, text)?;
+        } else if let Some(text) = word.strip_prefix('-') {
+            awaiting = given.take_letters(table, word, text)?;
+        } else {
+            given.operands.push(word)?;
+        }
+    }
+    match awaiting {
+        Some(option) => Err(WordsError::NoValue(option.word)),
+        None => Ok(given),
+    }
+}
+
+/// The long name that is nearest to a word that is no option, if one is near.
+pub fn nearest(
+    alloc: Global,
+    table: &[Entry],
+    word: &str,
+) -> Result<Option<&'static str>, AllocError> {
+    let Some(text) = word.strip_prefix("--") else {
+        return Ok(None);
+    };
+    let name = match text.split_once('=') {
+        Some((name, _)) => name,
+        None => text,
+    };
+    let mut best: Option<&'static str> = None;
+    let mut least = GREATEST_DISTANCE;
+    for entry in table {
+        let distance = levenshtein(alloc, name, entry.name)?;
+        if distance < least {
+            least = distance;
+            best = Some(entry.name);
+        }
+    }
+    Ok(best)
+}

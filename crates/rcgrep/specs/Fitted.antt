@@ -1,0 +1,13 @@
+-- The part of a line that a match has to be.
+use Rattle.std.specs.Prelude.{List, [], ◌∷◌}
+use Rattle.rc_pattern.specs.Re.{Re, look}
+use Rattle.rc_pattern.specs.Meaning.{concat_of}
+use Rattle.rc_pattern.specs.declared.hir.Look.TheVariants.{EndLF, StartLF, WordEndHalfUnicode, WordStartHalfUnicode}
+use Rattle.rcgrep.specs.declared.options.Fit.{Fit}
+use Rattle.rcgrep.specs.declared.options.Fit.TheVariants.{Any, Line, Words}
+
+-- the pattern, where no character of a word stands beside its match, or between the ends of the line
+abbrev pub fitted_of : Fit → Re → Re
+fitted_of Any h = h
+fitted_of Words h = concat_of (look WordStartHalfUnicode ∷ h ∷ look WordEndHalfUnicode ∷ [])
+fitted_of Line h = concat_of (look StartLF ∷ h ∷ look EndLF ∷ [])

@@ -1,0 +1,111 @@
+//! Pattern texts: those of the command line, and the lines of files.
+
+use std::alloc::{AllocError, Global};
+use std::{fs, io};
+
+/// A file of patterns that can't be read.
+#[derive(Drop)]
+pub struct TextFault<'w> {
+    pub name: &'w str,
+    pub fault: io::Error,
+}
+
+/// Reads the files of patterns; `-` is the standard input.
+pub fn read_files<'w>(rt: &HostRuntime, names: &[&'w str]) -> Result<Vec<String>, TextFault<'w>> {
+    let mut texts = Vec::new(rt.alloc());
+    for name in names {
+        let name: &'w str = *name;
+        let read = if name == "-" {
+            io::read_to_string(rt.alloc(), rt.stdin())
+        } else {
+            fs::read_to_string(rt, name)
+        };
+        let text = match read {
+            Ok(text) => text,
+            Err(fault) => return Err(TextFault { name, fault }),
+        };
+        if let Err(fault) = texts.push(text) {
+            drop(fault);
+            let fault = io::Error::from(io::ErrorKind::OutOfMemory);
+            return Err(TextFault { name, fault });
+        }
+    }
+    Ok(texts)
+}
+
+/// The texts of the command line, and then the lines of the files.
+pub fn all_texts<'t, 'w: 't>(
+    alloc: Global,
+    given: &[&'w str],
+    files: &'t [String],
+) -> Result<Vec<&'t str>, AllocError> {
+    let mut texts: Vec<&'t str> = Vec::new(alloc);
+    for text in given {
+        let text: &'w str = *text;
+        texts.push(text)?;
+    }
+    for file in files {
+        let text = file.as_str();
+        if text.is_empty() {
+            continue;
+        }
+        for line in text.strip_suffix('\n').unwrap_or(text).split('\n') {
+            texts.push(line)?;
+        }
+    }
+    Ok(texts)
+}
+
+/// Whether a byte has a meaning of its own in a pattern.
+fn is_special(letter: char) -> bool {
+    matches!(
+        letter,
+        '\\' | '.' | '+' | '*' | '?' | '(' | ')' | '|' | '[' | ']' | '{' | '}' | '^' | '$'
+    )
+}
+
+/// A pattern that matches this text alone.
+fn escaped(alloc: Global, text: &str) -> Result<String, AllocError> {
+    let mut pattern = String::new(alloc);
+    for letter in text.chars() {
+        if is_special(letter) {
+            pattern.push('\\')?;
+        }
+        pattern.push(letter)?;
+    }
+    Ok(pattern)
+}
+
+/// Patterns that match these texts alone.
+pub fn all_escaped(alloc: Global, texts: &[&str]) -> Result<Vec<String>, AllocError> {
+    let mut patterns = Vec::new(alloc);
+    for text in texts {
+        patterns.push(escaped(alloc, text)?)?;
+    }
+    Ok(patterns)
+}
+
+/// Whether a pattern has a capital letter. A letter behind a backslash is none.
+fn has_capital(text: &str) -> bool {
+    let mut is_escaped = false;
+    for byte in text.bytes() {
+        if is_escaped {
+            is_escaped = false;
+        } else if byte == b'\\' {
+            is_escaped = true;
+        } else if byte.is_ascii_uppercase() {
+            return true;
+        }
+    }
+    false
+}
+
+/// Whether one of the patterns has a capital letter.
+pub fn have_capital(texts: &[&str]) -> bool {
+    texts.iter().any(|text| has_capital(text))
+}
+
+/// Whether one of the patterns has a newline.
+pub fn has_newline(texts: &[&str]) -> bool {
+    texts.iter().any(|text| text.contains('\n'))
+}
