@@ -106,7 +106,7 @@ pub static OPTIONS: [Entry; 32] = [
         letter: Some('s'),
         name: "no-messages",
         takes: Takes::Nothing,
-        help: "Print no message about a file that isn't readable.",
+        help: "Print no message about a file that is missing or unreadable.",
     },
     Entry {
         id: Id::OnlyMatching,
