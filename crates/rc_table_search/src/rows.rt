@@ -20,7 +20,8 @@ pub trait Rows {
 
     /// Leaps over bytes of a piece from the place `from` on, where a run forwards came to the row
     /// by a cell with `SKIP`. Returns the place to which it leapt, and the row there. Returns None
-    /// if that cell needs a look. From the position `looks` on, the search may rest.
+    /// if that cell needs a look, as each does if runs don't leap over this table. From the position
+    /// `looks` on, the search may rest.
     fn leap(
         &self,
         classes: &[u8],
@@ -30,7 +31,6 @@ pub trait Rows {
         row: usize,
         looks: usize,
     ) -> Option<(usize, usize)>
-        requires leaps { LEAPS ≡ true }
         requires row { IsRow self.now classes.now row }
         requires fits { start + length piece.now ≤ usize.MAX }
         requires from { from ≤ length piece.now }
