@@ -102,7 +102,8 @@ class Layouts(unittest.TestCase):
     def test_functions_have_the_listed_number_of_arguments(self):
         listed = (pathlib.Path(__file__).resolve().parents[2] / "include/zorfelith.abi").read_text()
         for name, arguments in re.findall(r"^function \w+ (zf_\w+)\((.*)\)$", listed, re.M):
-            self.assertEqual((name, len(getattr(zorfelith._zf, name).argtypes)), (name, arguments.count(",") + 1))
+            count = arguments.count(",") + 1 if arguments not in ("", "void") else 0
+            self.assertEqual((name, len(getattr(zorfelith._zf, name).argtypes)), (name, count))
 
 
 class Replacing(unittest.TestCase):
@@ -159,7 +160,7 @@ class Patterns(unittest.TestCase):
         self.assertIsNone(zorfelith.compile(zorfelith.escape("a.c")).search(b"abc"))
 
     def test_limits(self):
-        rules = [rf"word{number}\s+\w+" for number in range(200)]
+        rules = [rf"word{number}\s+\w+" for number in range(500)]
         with self.assertRaises(zorfelith.Error) as raised:
             zorfelith.compile(rules)
         self.assertEqual(raised.exception.status, 9)
