@@ -1,24 +1,26 @@
 -- Sets of the patterns that have a match, needle by needle and start by start.
-use Rattle.std.proofs.Common.{◌≡◌, ◌∙◌, ◌↔◌, ◌⊎◌, ℕ, ◌+◌, ◌<◌, ◌≤◌, Bool, true, false, true≢false, IsTrue, List, get_or, length, replicate, set, Option, Some, None, slice_get, slice_index, option_map, ap, sym, subst, refl, arith, inl, inr, ⊎_elim}
+use Rattle.std.proofs.Common.{◌≡◌, ◌∙◌, ◌↔◌, ◌⊎◌, ℕ, ◌+◌, ◌<◌, ◌≤◌, Bool, true, false, true≢false, List, get_or, length, min, replicate, set, take, Option, Some, None, slice_get, slice_index, option_map, ap, sym, subst, refl, arith, inl, inr, ⊎_elim}
 use Rattle.std.specs.Prelude.{is_some}
 use Rattle.std.proofs.lemmas.Bool.{cases_eq, cases_lt}
 use Rattle.std.proofs.lemmas.Grind.{get_or-set_at}
-use Rattle.std.proofs.lemmas.List.{get_or-replicate, get_or-set_other, get_or_past, length-replicate, length-set, set_past}
+use Rattle.std.proofs.lemmas.List.{ext_get_or, get_or-replicate, get_or-set_other, get_or-take, length-replicate, length-set, length-take}
 use Rattle.std.proofs.lemmas.Option.{get_or_from_slice_get, slice_get-get_or, slice_get_within}
 use Rattle.rc_text.specs.Text.{Searched, low, high}
+use Rattle.rc_text.proofs.Ranges.{slice_get-slice_range}
 use Rattle.rc_text.specs.Found.{Found}
 use Rattle.rc_text.specs.declared.types.Anchored.{Anchored}
 use Rattle.rc_text.specs.declared.types.Anchored.TheVariants.{No, Yes, Pattern}
 use Rattle.rc_pattern_set.specs.Sets.{Has}
 use Rattle.rc_pattern_set.proofs.SetLemmas.{has_set, set_has, set_keeps}
 use Rattle.rc_needles.specs.declared.hit.Hit.{Hit}
-use Rattle.rc_needles.specs.Needles.{stands_within, needle_at, prefix_needle}
-use Rattle.rc_needles.specs.Tables.{AreSome, IsNextWith, numbered}
+use Rattle.rc_needles.specs.Needles.{find_needle, stands_within, needle_at, prefix_needle}
+use Rattle.rc_needles.specs.Tables.{AreSome, BeginsWithByte, IsNextWith, numbered}
 use Rattle.rc_needles.proofs.FindLemmas.{prefix_is}
-use Rattle.rc_needles.proofs.RelationLemmas.{get_some, some_get, none_to, true_within, within_true}
+use Rattle.rc_needles.proofs.RelationLemmas.{first_to, get_some, some_get, none_to, true_within, within_true}
 use Rattle.rc_needles.proofs.StandLemmas.{begins_with, false_if_not, stands_parts}
+use Rattle.rc_needles.proofs.StartLemmas.{find_found}
 use Rattle.rc_literals.specs.Answers.{AddsOwners, Owned, OwnsAt, OwnsBy, literal_answer, literal_answer_by, own_needles}
-use Rattle.rc_literals.specs.Marks.{AddsFrom, AreMet, HasOwners, IsAt}
+use Rattle.rc_literals.specs.Marks.{AddsFrom, AreDone, AreRelated, HasRelated, IsAt}
 use Rattle.rc_literals.proofs.MemberLemmas.{hit_owned, not_owned}
 
 module _ (o : Owned) (content : List ℕ) (hi : ℕ) where
@@ -136,9 +138,18 @@ module _ (o : Owned) (content : List ℕ) (hi : ℕ) where
           let l = at.there in
           (below.members p).1 (inr (q.0, q.4, omega (arith, l, all), at))
 
-  -- the set has all owners of needles that begin with the byte there
-  pub from_held : (i b : ℕ) (old : List Bool) → AreSome o.needles → slice_get content i ≡ Some b → HasOwners o old b → AddsFrom o content hi i (i + 1) old old
-  from_held i b old some is held = record {
+  -- needles that occur at the same start are related
+  together : (i : ℕ) (xs ys : List ℕ) → stands_within content hi i xs ≡ true → stands_within content hi i ys ≡ true → AreRelated xs ys
+  together i xs ys a b k l m = sym (byte xs a l) ∙ byte ys b m
+    where
+      byte : (zs : List ℕ) → stands_within content hi i zs ≡ true → k < length zs → slice_get content (i + k) ≡ slice_get zs k
+      byte zs stands below =
+          sym (slice_get-slice_range content i (i + length zs) k (omega (arith, below))) ∙ ap (λ v. slice_get v k) (stands_parts content hi i zs stands).1
+
+  -- the set has the owners of all needles that are related to one that occurs there
+  pub from_related : (i n : ℕ) (old : List Bool) → stands_within content hi i (numbered o.needles n) ≡ true → HasRelated o old n →
+      AddsFrom o content hi i (i + 1) old old
+  from_related i n old stands held = record {
     capacity = refl;
     members = λ p. (λ a. inl a, ⊎_elim (λ a. a) (λ q. known p q));
   }
@@ -146,15 +157,15 @@ module _ (o : Owned) (content : List ℕ) (hi : ℕ) where
       known : (p : ℕ) → ((p < length old) × (j : ℕ) × (i ≤ j) × (j < i + 1) × (number : ℕ) × IsAt o content hi j p number) → Has old p
       known p q =
           let a = q.2 in
-          let b2 = q.3 in
-          let same : q.1 ≡ i = omega (arith, a, b2) in
+          let b = q.3 in
+          let same : q.1 ≡ i = omega (arith, a, b) in
           let at : IsAt o content hi i p q.4 = subst (λ j. IsAt o content hi j p q.4) same q.5 in
-          subst (Has old) at.owned
-          (held q.4 at.there (begins_with content hi i b (numbered o.needles q.4) (some q.4 at.there) is at.stands))
+          subst (Has old) at.owned (held q.4 at.there (together i (numbered o.needles n) (numbered o.needles q.4) stands at.stands))
 
-  -- what is added leaves the flags right
-  pub met_on : (i : ℕ) (flags old new : List Bool) → AddsFrom o content hi i (i + 1) old new → AreMet o flags old → AreMet o flags new
-  met_on i flags old new adds met b t k l e = (adds.members (slice_index o.owners k)).1 (inl (met b t k l e))
+  -- what is added leaves the notes right
+  pub done_on : (i : ℕ) (notes : List ℕ) (old new : List Bool) → AddsFrom o content hi i (i + 1) old new → AreDone o notes old → AreDone o notes new
+  done_on i notes old new adds done slot l below k there related =
+      (adds.members (slice_index o.owners k)).1 (inl (done slot l below k there related))
 
   -- Starts, one after another.
 
@@ -247,27 +258,58 @@ module _ (o : Owned) (content : List ℕ) (hi : ℕ) where
     );
   }
 
--- Flags of bytes.
+-- Notes of needles.
 
 module _ (o : Owned) (marks : List Bool) where
-  -- none is flagged
-  pub none_met : (n : ℕ) → AreMet o (replicate n false) marks
-  none_met n b t =
-      elim (cases_lt b n) [
-        | inl l ↦ absurd (true≢false (sym t ∙ get_or-replicate n b false false l))
-        | inr l ↦ absurd (true≢false (sym t ∙ get_or_past (replicate n false) b false (omega (arith, l, length-replicate n false))))
-      ]
+  -- none is noted
+  pub none_done : (n most : ℕ) → length o.needles ≤ most → AreDone o (replicate n most) marks
+  none_done n most le slot l below =
+      let e : slice_index (replicate n most) slot ≡ most = get_or-replicate n slot most 0 (omega (arith, l, length-replicate n most)) in
+      absurd (omega (arith, below, e, le))
 
-  -- one more flag tells of its byte
-  pub met_set : (flags : List Bool) (b : ℕ) (flag : Bool) → AreMet o flags marks → (IsTrue flag → HasOwners o marks b) → AreMet o (set flags b flag) marks
-  met_set flags b flag met told c t =
-      elim (cases_lt b (length flags)) [
-        | inl l ↦
-            ⊎_elim (λ same. subst (HasOwners o marks) (sym same) (told (sym (get_or-set_at flags b c flag false same l) ∙ t)))
-            (λ differs. met c (sym (get_or-set_other flags b c flag false differs) ∙ t))
-            (cases_eq c b)
-        | inr l ↦ met c (subst (λ fs. IsTrue (get_or fs c false)) (set_past flags b flag l) t)
-      ]
+  -- one more is noted
+  pub done_set : (notes : List ℕ) (slot n : ℕ) → AreDone o notes marks → HasRelated o marks n → AreDone o (set notes slot n) marks
+  done_set notes slot n done held at l =
+      ⊎_elim
+      (λ same. let e = get_or-set_at notes slot at n 0 same (omega (arith, same, l, length-set notes slot n)) in
+      λ _. subst (HasRelated o marks) (sym e) held)
+      (λ differs. let e = get_or-set_other notes slot at n 0 differs in
+      λ below. subst (HasRelated o marks) (sym e) (done at (omega (arith, l, length-set notes slot n)) (omega (arith, below, e))))
+      (cases_eq at slot)
+
+-- The needle that was found occurs there.
+pub hit_stands : (needles : List (List ℕ)) (content : List ℕ) (lo hi : ℕ) (h : Hit) → find_needle needles content lo hi ≡ Some h →
+    (h.number < length needles) × (stands_within content hi h.start (numbered needles h.number) ≡ true)
+hit_stands needles content lo hi h e =
+    let f = find_found needles content lo hi h e in
+    let first = first_to needles content hi h.start h f.here in
+    let is = get_some needles h.number first.needle first.is in
+    (is.0, subst (λ w. stands_within content hi h.start w ≡ true) (sym is.1) (within_true content first.needle hi h.start first.stands))
+
+-- What is related has the same front.
+pub related_front : (xs ys : List ℕ) → AreRelated xs ys → take (min (length xs) (length ys)) xs ≡ take (min (length xs) (length ys)) ys
+related_front xs ys related = ext_get_or 0 (take n xs) (take n ys) (length-take n xs ∙ omega arith ∙ sym (length-take n ys)) same
+  where
+    n : ℕ
+    n = min (length xs) (length ys)
+
+    same : (i : ℕ) → i < length (take n xs) → get_or (take n xs) i 0 ≡ get_or (take n ys) i 0
+    same i l =
+        let e = length-take n xs in
+        let left : i < length xs = omega (arith, l, e) in
+        let right : i < length ys = omega (arith, l, e) in
+        let within : i < n = omega (arith, l, e) in
+        get_or-take n xs i 0 within
+        ∙ get_or_from_slice_get xs i (get_or ys i 0) 0 (related i left right ∙ slice_get-get_or ys i 0 right)
+        ∙ sym (get_or-take n ys i 0 within)
+
+-- The first byte, as it is read.
+pub first_read : (xs needle : List ℕ) (b : ℕ) → xs ≡ needle → 0 < length xs → b ≡ get_or xs 0 0 → BeginsWithByte needle b
+first_read xs needle b is some e = ap (λ w. slice_get w 0) (sym is) ∙ slice_get-get_or xs 0 0 some ∙ ap (λ x. Some x) (sym e)
+
+-- A needle that is related to one begins with the same byte.
+pub related_first : (xs ys : List ℕ) (b : ℕ) → AreRelated xs ys → slice_get xs 0 ≡ Some b → 0 < length ys → BeginsWithByte ys b
+related_first xs ys b related e some = sym (related 0 (slice_get_within xs 0 b e) some) ∙ e
 
 -- By the anchoring.
 

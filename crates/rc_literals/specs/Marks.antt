@@ -1,9 +1,9 @@
 -- Only proofs use this file.
 -- Overlapping search for exact literals: sets of patterns that have a match.
-use Rattle.std.specs.Prelude.{◌≡◌, ◌↔◌, ◌⊎◌, ◌<◌, ◌≤◌, ℕ, Bool, true, false, IsTrue, List, length, slice_index, slice_index_or}
+use Rattle.std.specs.Prelude.{◌≡◌, ◌↔◌, ◌⊎◌, ◌<◌, ◌≤◌, ℕ, Bool, true, List, length, slice_get, slice_index}
 use Rattle.rc_pattern_set.specs.Sets.{Has}
 use Rattle.rc_needles.specs.Needles.{stands_within}
-use Rattle.rc_needles.specs.Tables.{BeginsWithByte, numbered}
+use Rattle.rc_needles.specs.Tables.{numbered}
 use Rattle.rc_literals.specs.Answers.{Owned}
 
 -- The needle of this number is one of pattern p, and occurs at i.
@@ -19,10 +19,16 @@ pub record AddsFrom (o : Owned) (content : List ℕ) (hi from to : ℕ) (old new
   pub members : (p : ℕ) → Has new p ↔ (Has old p ⊎ ((p < length old)
       × (i : ℕ) × (from ≤ i) × (i < to) × (number : ℕ) × IsAt o content hi i p number))
 
--- The set has the owner of each needle that begins with the byte b.
-abbrev pub HasOwners : Owned → List Bool → ℕ → Type 0
-HasOwners o set b = (k : ℕ) → k < length o.needles → BeginsWithByte (numbered o.needles k) b → Has set (slice_index o.owners k)
+-- One of them begins with the other: as far as both go, they have the same bytes.
+abbrev pub AreRelated : List ℕ → List ℕ → Type 0
+AreRelated xs ys = (k : ℕ) → k < length xs → k < length ys → slice_get xs k ≡ slice_get ys k
 
--- So it has for each byte that is flagged.
-abbrev pub AreMet : Owned → List Bool → List Bool → Type 0
-AreMet o flags set = (b : ℕ) → IsTrue (slice_index_or flags b false) → HasOwners o set b
+-- The set has the owner of each needle that is related to that of number n.
+abbrev pub HasRelated : Owned → List Bool → ℕ → Type 0
+HasRelated o set n = (k : ℕ) → k < length o.needles → AreRelated (numbered o.needles n) (numbered o.needles k) →
+    Has set (slice_index o.owners k)
+
+-- So it has for each needle whose number is noted.
+abbrev pub AreDone : Owned → List ℕ → List Bool → Type 0
+AreDone o notes set = (slot : ℕ) → slot < length notes → slice_index notes slot < length o.needles →
+    HasRelated o set (slice_index notes slot)

@@ -1,17 +1,23 @@
 //! Overlapping search for exact literals: which patterns have a match, if they are lists of needles.
-ghost use Rattle.std.specs.Prelude.{◌≡◌, ◌<◌, ◌≤◌, ◌+◌, ◌↔◌, ◌⊎◌, IsTrue, ℕ, length};
+ghost use Rattle.std.specs.Prelude.{◌≡◌, ◌<◌, ◌≤◌, ◌+◌, ◌↔◌, ◌⊎◌, IsTrue, true, ℕ, length};
 ghost use Rattle.rc_text.specs.Text.{Keeps, high, low};
 ghost use Rattle.rc_pattern_set.specs.Sets.{Has};
+ghost use Rattle.rc_needles.specs.Needles.{stands_within};
+ghost use Rattle.rc_needles.specs.Tables.{numbered};
 ghost use Rattle.rc_literals.specs.Answers.{AddsOwners, owned_of};
-ghost use Rattle.rc_literals.specs.Marks.{AddsFrom, AreMet, HasOwners, IsAt};
+ghost use Rattle.rc_literals.specs.Marks.{AddsFrom, AreDone, AreRelated, HasRelated, IsAt};
 
 use crate::owned::OwnedNeedles;
 use crate::search::{occurs, search};
+use rc_needles::hit::Hit;
 use rc_needles::literal::find_from;
 use rc_pattern_set::sets::PatternSet;
 use rc_text::cursor::Cursor;
 use rc_text::input::{Input, byte_at, high, low};
 use rc_text::types::{Anchored, PatternID};
+
+/// How many needles are noted as done, each in the slot of its number.
+const SLOTS: usize = 1024;
 
 /// Inserts each pattern of which a needle occurs within the bounds, as far as the set can hold it.
 /// The set keeps what it has. If only one pattern is searched for, no other is inserted.
@@ -55,7 +61,7 @@ fn mark_anywhere<C: Cursor>(input: &mut Input<C>, needles: &OwnedNeedles, set: &
     let end = high(input);
     let mut at = low(input);
     let mut missing = 0;
-    let mut met = [false; 256];
+    let mut done = [usize::MAX; SLOTS];
     while at < end {
         missing = missing_from(set, missing);
         if missing >= set.capacity() {
@@ -64,7 +70,7 @@ fn mark_anywhere<C: Cursor>(input: &mut Input<C>, needles: &OwnedNeedles, set: &
         let Some(hit) = find_from(input, &needles.prefilter, at, end) else {
             return;
         };
-        mark_left(input, needles, hit.start, end, &mut met, set);
+        mark_hit(input, needles, hit, end, &mut done, set);
         at = hit.start + 1;
     }
 }
@@ -86,47 +92,64 @@ fn missing_from(set: &PatternSet, from: usize) -> usize
     number
 }
 
-/// Whether the set has the owner of each needle that begins with this byte.
-fn has_owners(needles: &OwnedNeedles, byte: u8, set: &PatternSet) -> bool
-    ensures { IsTrue result → HasOwners (owned_of needles.now) set.now byte }
+/// Whether one of the two begins with the other.
+fn are_related(left: &[u8], right: &[u8]) -> bool
+    ensures { AreRelated left.now right.now → IsTrue result }
+{
+    let common = left.len().min(right.len());
+    &left[..common] == &right[..common]
+}
+
+/// Whether the set has the owner of each needle that may occur where the one with this number does.
+fn has_related(needles: &OwnedNeedles, number: usize, set: &PatternSet) -> bool
+    requires number { number < length (owned_of needles.now).needles }
+    ensures { IsTrue result → HasRelated (owned_of needles.now) set.now number }
 {
     let table = &needles.prefilter.searcher.table;
-    let mut number = table.heads[byte as usize];
-    while number < table.needles.len() {
-        if !set.contains(needles.owners[number]) {
+    let needle = table.needles[number].as_slice();
+    let Some(first) = needle.get(0) else {
+        return false;
+    };
+    let mut other = table.heads[*first as usize];
+    while other < table.needles.len() {
+        let is_missing = !set.contains(needles.owners[other]);
+        if is_missing && are_related(needle, table.needles[other].as_slice()) {
             return false;
         }
-        number = table.nexts[number];
+        other = table.nexts[other];
     }
     true
 }
 
-/// Does what `mark_at` does. If a byte is flagged in `met`, the set has the owners of all needles
-/// that begin with it, and none of them is asked for.
-fn mark_left<C: Cursor>(
+/// Inserts each pattern of which a needle occurs where the hit begins, and ends at `end` or earlier.
+/// If the hit's needle is done, the set has them, and nothing is compared.
+fn mark_hit<C: Cursor>(
     input: &mut Input<C>,
     needles: &OwnedNeedles,
-    at: usize,
+    hit: Hit,
     end: usize,
-    met: &mut [bool; 256],
+    done: &mut [usize; SLOTS],
     set: &mut PatternSet,
 )
-    requires low { at < end }
+    requires number { hit.number < length (owned_of needles.now).needles }
+    requires here { stands_within input.old.content end hit.start
+        (numbered (owned_of needles.now).needles hit.number) ≡ true }
+    requires low { hit.start < end }
     requires high { end ≤ length input.old.content }
-    requires met { AreMet (owned_of needles.now) met.old set.old }
+    requires done { AreDone (owned_of needles.now) done.old set.old }
     ensures keeps { Keeps input.old input.new }
-    ensures adds { AddsFrom (owned_of needles.now) input.old.content end at
-        (at + 1) set.old set.new }
-    ensures met { AreMet (owned_of needles.now) met.new set.new }
+    ensures adds { AddsFrom (owned_of needles.now) input.old.content end hit.start
+        (hit.start + 1) set.old set.new }
+    ensures done { AreDone (owned_of needles.now) done.new set.new }
 {
-    let Some(byte) = byte_at(input, at) else {
-        return;
-    };
-    if met[byte as usize] {
+    let slot = hit.number % SLOTS;
+    if done[slot] == hit.number {
         return;
     }
-    mark_at(input, needles, at, end, set);
-    met[byte as usize] = has_owners(needles, byte, set);
+    mark_at(input, needles, hit.start, end, set);
+    if has_related(needles, hit.number, set) {
+        done[slot] = hit.number;
+    }
 }
 
 /// Inserts each pattern of which a needle occurs at `at` and ends at `end` or earlier.
