@@ -43,6 +43,10 @@ pub enum Fault {
     Dfa(Part),
     Hybrid(Part),
     SmallHybrid(Part),
+    /// How many bytes settle what a regex finds.
+    Reach,
+    ReachUnfiltered,
+    ReachByTables,
     Find,
     /// What `find` finds over a cursor that isn't lent.
     FindByValue,

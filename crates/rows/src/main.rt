@@ -10,6 +10,7 @@ mod faults;
 mod inputs;
 mod judge;
 mod parses;
+mod reach;
 mod row;
 mod searches;
 mod settings;

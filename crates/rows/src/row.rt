@@ -64,6 +64,8 @@ pub struct Row<'a> {
     pub spans: Vec<Option<Pair>>,
     /// Where searches by tables may quit.
     pub quits: Quits,
+    /// The least and the greatest number of bytes that may settle the first match.
+    pub reach: Option<Pair>,
     /// The text, as it stands.
     escaped: &'a str,
     /// How many bytes stand before the text, each `a` where its offset has an even number of binary ones, else `b`.
@@ -99,6 +101,7 @@ impl<'a> Row<'a> {
             number: None,
             spans: Vec::new(alloc),
             quits: Quits::Nowhere,
+            reach: None,
             escaped: "",
             parities: 0,
         }
@@ -123,6 +126,7 @@ impl<'a> Row<'a> {
             "slice" => self.slice = range(value, verdict),
             "span" => self.span = range(value, verdict),
             "anchored" => self.anchored = anchoring(value, verdict),
+            "reach" => self.reach = pair(value, verdict),
             "quit" => self.quits = quitting(value, verdict),
             "first" => self.wants(Want::First, value, verdict),
             "all" => self.wants(Want::All, value, verdict),

@@ -6,6 +6,7 @@ use crate::calls::{Call, List, Spans, put_groups_of, spans_by, told_by};
 use crate::engines::Engines;
 use crate::faults::{Fault, Part};
 use crate::inputs::{Request, end_at, input, pair_of, start_at};
+use crate::reach::reaches;
 use crate::row::{Pair, Quits, Row, Want};
 use crate::slots::{Asker, Question, answer_of, found};
 use crate::tables::{Kind, Seek, Tables};
@@ -39,6 +40,7 @@ pub fn first<C: Cursor + Copy + Drop>(
     };
     let is_wanted = is_wanted(row, &wanted.found);
     asker.verdict.expect(is_wanted, Fault::InACache);
+    reaches(asker, engines, row, wanted.found, cursor);
     by_calls(asker, engines, &wanted, cursor);
     early(asker, &engines.regex, row, cursor);
     early(asker, &engines.unfiltered, row, cursor);
