@@ -15,13 +15,13 @@ use Rattle.rc_program.specs.Columns.{column_at}
 use Rattle.rc_program.specs.Program.{Place, choice, slot, place_at, ways_out, pair_at, is_match_place}
 use Rattle.rc_program.specs.Text.{holds, ahead}
 use Rattle.rc_program.specs.Answer.{only}
-use Rattle.rc_pikevm.specs.Sights.{Sight, ends, next_of, HasNoWalkFrom}
+use Rattle.rc_pikevm.specs.Sights.{Sight, ends, ends_to, next_of, next_to, HasNoWalkFrom}
 use Rattle.rc_pikevm.specs.Moves.{IsMove}
 use Rattle.rc_pikevm.specs.Threads.{Thread, ThreadList, thread_of}
 use Rattle.rc_pikevm.specs.Entrances.{IsOnWay}
 use Rattle.rc_pikevm.proofs.EntranceLemmas.{choice_on, stops_shut, carries_on}
 use Rattle.rc_pikevm.specs.Trace.{Trace, note, note_at, trace, done, sets_out}
-use Rattle.rc_pikevm.specs.Passing.{IsMoveInside, pending, pairs, Carries, waiting_starts, AllIn, AllFrom, count_from, Pending, best_of, IsCounted, IsLined, IsPassing}
+use Rattle.rc_pikevm.specs.Passing.{IsMoveInside, pending, pairs, Carries, CarriesTo, waiting_starts, AllIn, AllFrom, count_from, Pending, best_of, IsCounted, IsLined, IsPassing}
 use Rattle.rc_pikevm.specs.Near.{seen_from, size}
 use Rattle.rc_text.specs.Text.{Searched}
 use Rattle.rc_program.specs.Places.{place_of}
@@ -105,7 +105,7 @@ module _ (s : Sight) (at : ℕ) where
       ⊎_elim (λ e. subst (λ z. IsDead s passed (z, at)) e d)
       (λ r.
       let b : ℕ = r.0 in
-      ⊎_elim (λ e. dead_forks passed p a b (forks_by p a b e) d (r.2 passed)) (λ e. dead_forks passed p b a (forks_by p b a e) (r.2 passed) d) r.1) way
+      ⊎_elim (λ e. dead_forks passed p a b (forks_by p a b e) d (r.2 None tt passed)) (λ e. dead_forks passed p b a (forks_by p b a e) (r.2 None tt passed) d) r.1) way
     where
       forks_by : (p a b : ℕ) → place_at s.places p ≡ choice (a ∷ b ∷ []) → IsMove s (p, at) (Fork a b)
       forks_by p a b is = (
@@ -134,7 +134,7 @@ module _ (s : Sight) (at : ℕ) where
   leads_only : (p a : ℕ) → ¬ Ends (p, at) → ((h : Trace) → note s.places h (p, at) ≡ h) → IsOnlyWay (next_of s) Ends (p, at) (a, at) →
       ((e : ℕ) → IsOnlyWay (next_of s) (EndsThere Ends e) (p, at) (a, at)) → LeadsTo s at p a
   leads_only p a on silent only there = record {
-    carries = λ h rest below best o x. carries_by s at rest [] best o p a h below (λ i. i) on only (silent h) x;
+    carries = λ h rest below best o x. carries_by None s at rest [] best o p a h below (λ i. i) on only (silent h) x;
     races = λ h all below best found sought x. raced_goes s all at [] [] best found p a h below (λ i. i) (silent h) on there sought x;
   }
 
@@ -164,7 +164,7 @@ module _ (s : Sight) (at : ℕ) where
 
   pub leads_on : (p a : ℕ) → IsOnWay s at p a → LeadsTo s at p a
   leads_on p a way = record {
-    carries = λ h rest below best o x. carries_on s at rest [] best o p a h below (λ i. i) way x;
+    carries = λ h rest below best o x. carries_on s at None tt rest [] best o p a h below (λ i. i) way x;
     races = λ h all below best found sought x. raced_on s all at [] [] best found p a h below (λ i. i) way sought x;
   }
 
@@ -176,15 +176,17 @@ module _ (s : Sight) (at : ℕ) where
 
   module _ (width last : ℕ) (best o : Option Trace) where
     -- a start from which no walk leads on is left out
-    pub quiet_start : (is_open : Bool) (rest : List Thread) (items : List ℕ) → (is_open ≡ true → at ≤ last → IsDead s (pairs at items) (0, at)) →
-        Carries s at rest items (waiting_starts is_open width (at + 1) last) best o → Carries s at rest items (waiting_starts is_open width at last) best o
-    quiet_start false rest items dead x = x
-    quiet_start true rest items dead x =
+    pub quiet_start : (limit : Option ℕ) (is_open : Bool) (rest : List Thread) (items : List ℕ) →
+        (is_open ≡ true → at ≤ last → HasNoWalk (next_to limit s) (λ n. IsTrue (ends_to limit s n)) (pairs at items) ((0, at) ∷ [])) →
+        CarriesTo limit s at rest items (waiting_starts is_open width (at + 1) last) best o →
+        CarriesTo limit s at rest items (waiting_starts is_open width at last) best o
+    quiet_start limit false rest items dead x = x
+    quiet_start limit true rest items dead x =
         ⊎_elim
-        (λ past. subst (λ ts. Carries s at rest items ts best o)
+        (λ past. subst (λ ts. CarriesTo limit s at rest items ts best o)
         (waiting_over true width (at + 1) last (omega (arith, past)) ∙ sym (waiting_over true width at last past)) x)
-        (λ le. subst (λ ts. Carries s at rest items ts best o) (sym (waiting_next true width at last refl le))
-        (of_rest (next_of s) Ends Trace (note s.places) (λ q y. passes (sets_out width at) (dead refl le) y) x))
+        (λ le. subst (λ ts. CarriesTo limit s at rest items ts best o) (sym (waiting_next true width at last refl le))
+        (of_rest (next_to limit s) (λ n. IsTrue (ends_to limit s n)) Trace (note s.places) (λ q y. passes (sets_out width at) (dead refl le) y) x))
         (cases_lt last at)
 
     -- A lone thread reads a byte, and no walk leads on from the start there but over the place where it reads.
@@ -197,10 +199,10 @@ module _ (s : Sight) (at : ℕ) where
         let later = waiting_starts is_open width (at + 1) last in
         let here = waiting_starts is_open width at last in
         leads.carries (trace start slots) [] here best o
-        (plain_on s at [] [] best o q start slots (λ i. i) ((m, at + 1) ∷ []) here move.0 move.1
-        (waited s at [] (q ∷ []) best o t here (omega arith)
-        (quiet_start is_open (t ∷ []) (q ∷ []) dead
-        (turned s at (t ∷ []) (q ∷ []) best o later (waiting_past is_open width at last) x))))
+        (plain_on None s at [] [] best o tt q start slots (λ i. i) ((m, at + 1) ∷ []) here move.0 move.1
+        (waited None s at [] (q ∷ []) best o t here (omega arith)
+        (quiet_start None is_open (t ∷ []) (q ∷ []) dead
+        (turned None s at (t ∷ []) (q ∷ []) best o later (waiting_past is_open width at last) x))))
 
 -- the place behind a slot is one of the program
 pub slot_inside : (places : List Place) (p k q : ℕ) → IsClosed places → p < length places → place_at places p ≡ slot k q → q < length places
@@ -325,10 +327,10 @@ module _ (s : Sight) (n hi width last at insertions : ℕ) (curr : ThreadList) (
       subst (λ ts. Pending s width last at ts best found o) (sym e.only)
       (subst (λ y. Carries s at [] [] ((trace e.thread.start e.thread.slots, (e.thread.place, y)) ∷ here) (best_of best found) o) (sym e.here)
       (e.leads.carries (trace e.thread.start e.thread.slots) [] here (best_of best found) o
-      (matched s at [] [] (best_of best found) o e.place pattern e.thread.start e.thread.slots [] here (λ i. i) e.move.0 e.move.1
+      (matched None s at [] [] (best_of best found) o tt e.place pattern e.thread.start e.thread.slots [] here (λ i. i) e.move.0 e.move.1
       (subst (λ (u : Thread). Carries s at [] [] [] (Some (done pattern u.start at u.slots)) o) is
       (subst (λ l. Carries s at [] [] [] (Some (done pattern t.start at l)) o) (sym same)
-      (turned s at [] [] (Some (done pattern t.start at slots)) o [] tt
+      (turned None s at [] [] (Some (done pattern t.start at slots)) o [] tt
       (subst (λ ts. Pending s width last (at + 1) ts (Some (record { pattern = pattern; start = t.start; end = at })) slots o) none x)))))))
     where
       one_is : (u t : Thread) (ts : List Thread) → ts ≡ t ∷ [] → ts ≡ u ∷ [] → t ≡ u
@@ -347,9 +349,9 @@ module _ (s : Sight) (n hi width last at insertions : ℕ) (curr : ThreadList) (
       (subst (λ ts. Carries s at [] [] ts None o) (sym (waiting_next true width at last refl low))
       (carries_root s root stands h at later None o within
       (reads.leads.carries h [] later None o
-      (plain_on s at [] [] None o q at (replicate width None) (λ i. i) ((m, at + 1) ∷ []) later reads.move.0 reads.move.1
-      (waited s at [] (q ∷ []) None o t later (omega arith)
-      (turned s at (t ∷ []) (q ∷ []) None o later (waiting_past true width at last)
+      (plain_on None s at [] [] None o tt q at (replicate width None) (λ i. i) ((m, at + 1) ∷ []) later reads.move.0 reads.move.1
+      (waited None s at [] (q ∷ []) None o t later (omega arith)
+      (turned None s at (t ∷ []) (q ∷ []) None o later (waiting_past true width at last)
       (subst (λ l. Pending s width last (at + 1) (record { place = m; at = at + 1; start = at; slots = l } ∷ []) None found o) empty
       (subst (λ ts. Pending s width last (at + 1) ts None found o) is x))))))))
 

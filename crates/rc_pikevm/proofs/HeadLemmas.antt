@@ -1,46 +1,102 @@
 -- Places from which the byte that stands next lets no walk go on.
-use Rattle.std.proofs.Common.{◌≡◌, ℕ, ◌+◌, ◌-◌, ◌<◌, ◌≤◌, ◌⊎◌, List, [], ◌∷◌, zero, suc, length, take, refl, sym, ap, ◌∙◌, inl, inr, ⊎_elim, arith, Bool, true, false, true≢false, IsTrue, subst, ◌≢◌, Some, slice_get, slice_index, slice_index_or, slice_range, length-take}
+use Rattle.std.proofs.Common.{◌≡◌, ℕ, ◌+◌, ◌-◌, ◌<◌, ◌≤◌, ◌⊎◌, List, [], ◌∷◌, zero, suc, length, take, map, refl, sym, ap, ◌∙◌, inl, inr, ⊎_elim, arith, Bool, true, false, true≢false, IsTrue, Option, None, ◌||◌, if◌then◌else◌, nat_le, subst, ◌≢◌, Some, slice_get, slice_index, slice_index_or, slice_range, length-take}
 use Rattle.std.specs.List.{Contains}
 use Rattle.std.proofs.Math.Logic.{∥∥₁_elim}
+use Rattle.std.proofs.lemmas.Bool.{cases_Bool, leb-false}
 use Rattle.std.proofs.lemmas.Bool.Decides.{nat_tests}
+use Rattle.std.proofs.lemmas.List.Elements.{Contains-append_right}
+use Rattle.std.proofs.lemmas.Option.{none-some, same_Some}
 use Rattle.rc_text.specs.Text.{Searched, high}
 use Rattle.rc_text.proofs.Ranges.{get_or-slice_range, length-slice_range}
-use Rattle.rc_walks.specs.Walks.{Pair}
-use Rattle.rc_program.specs.Text.{ahead}
-use Rattle.rc_program.specs.Program.{Place, byte, place_at, in_ranges}
-use Rattle.rc_program.specs.Answer.{only, pattern_at}
+use Rattle.rc_walks.specs.Walks.{Pair, IsIn, IsWalk, stops, goes}
+use Rattle.rc_program.specs.Text.{ahead, holds}
+use Rattle.rc_program.specs.Program.{Place, choice, byte, branch, scalar, guard, slot, accept, stays, reads, place_at, in_ranges, over_scalar, ways_out, pair_at}
+use Rattle.rc_program.specs.Answer.{only}
+use Rattle.rc_pattern.specs.declared.hir.Look.{Look}
 use Rattle.rc_program.specs.Heads.{silent, Reaches, here, on, may_take, MayGoOn, TellsHeads}
 use Rattle.rc_program.proofs.AnswerLemmas.{match_place_is}
-use Rattle.rc_program.proofs.HeadsLemmas.{heads_law}
-use Rattle.rc_pikevm.specs.Sights.{Sight, ends}
+use Rattle.rc_program.proofs.HeadsLemmas.{IsReached, Taken, further, scalar_of_one}
+use Rattle.rc_pikevm.specs.Sights.{Sight, IsUpTo, ends, ends_to, next_to}
 use Rattle.rc_pikevm.specs.Moves.{IsSetting, seen_by}
 use Rattle.rc_pikevm.specs.Near.{IsHere, seen_from}
 use Rattle.rc_pikevm.specs.Windows.{IsWindow, IsBegun, IsAround}
 use Rattle.rc_pikevm.specs.Alone.{IsDead}
+use Rattle.rc_pikevm.specs.Entrances.{IsShut}
 use Rattle.rc_pikevm.specs.declared.spot.Course.{Course}
 use Rattle.rc_pikevm.specs.declared.spot.Spot.{Spot}
 use Rattle.rc_pikevm.specs.declared.window.Window.{Window}
 use Rattle.rc_pikevm.proofs.NearLemmas.{is_near}
+use Rattle.rc_pikevm.proofs.SightLemmas.{ends_at, way_to}
 
 first_take : (n : ℕ) (xs : List ℕ) → 0 < n → 0 < length xs → slice_get (take n xs) 0 ≡ Some (slice_index xs 0)
 first_take zero xs some more = absurd (omega (arith, some))
 first_take (suc n) [] some more = absurd (omega (arith, more))
 first_take (suc n) (x ∷ xs) some more = refl
 
+-- a place that doesn't take the byte ahead has no way out but those that read nothing
+choice_stays : (at : ℕ) (ns : List ℕ) (m : Pair) → IsIn m (map (pair_at at) (map stays ns)) → (k : ℕ) × Contains ns k × (m ≡ (k, at))
+choice_stays at [] m i = absurd i
+choice_stays at (n ∷ ns) m i =
+    ⊎_elim (λ e. (n, (0, omega arith, refl), sym e))
+    (λ j. let r = choice_stays at ns m j in (r.0, Contains-append_right (n ∷ []) ns r.0 r.1, r.2)) i
+
+not_both : (a b : Bool) → (a || b) ≡ false → (a ≡ false) × (b ≡ false)
+not_both true b e = absurd (true≢false e)
+not_both false b e = (refl, e)
+
+all_stay : (test : Look → Bool) (b : ℕ) (bs : List ℕ) (at : ℕ) (q : Place) (m : Pair) → may_take q b ≡ false →
+    IsIn m (map (pair_at at) (ways_out test (b ∷ bs) q)) → (k : ℕ) × Contains (silent q) k × (m ≡ (k, at))
+all_stay test b bs at (choice ns) m e i = choice_stays at ns m i
+all_stay test b bs at (byte rs n) m e i = absurd (subst (λ c. IsIn m (map (pair_at at) (if c then reads 1 n ∷ [] else []))) e i)
+all_stay test b bs at (branch ts) m e i = absurd (true≢false e)
+all_stay test b bs at (scalar rs n) m e i =
+    let both = not_both (nat_le 128 b) (in_ranges rs b) e in
+    absurd (subst (λ c. IsIn m (map (pair_at at) (if c then reads 1 n ∷ [] else []))) both.1
+    (subst (λ (o : Option (ℕ × ℕ)). IsIn m (map (pair_at at) (over_scalar rs n o))) (scalar_of_one b bs (leb-false 128 b both.0)) i))
+all_stay test b bs at (guard l n) m e i =
+    ⊎_elim (λ t. (n, (0, omega arith, refl), ⊎_elim (λ x. sym x) (λ never. absurd never) (subst (λ c. IsIn m (map (pair_at at) (if c then stays n ∷ [] else []))) t i)))
+    (λ f. absurd (subst (λ c. IsIn m (map (pair_at at) (if c then stays n ∷ [] else []))) f i)) (cases_Bool (test l))
+all_stay test b bs at (slot k n) m e i = (n, (0, omega arith, refl), ⊎_elim (λ x. sym x) (λ never. absurd never) i)
+all_stay test b bs at (accept p) m e i = absurd (true≢false e)
+
+module _ (limit : Option ℕ) (s : Sight) (p at b : ℕ) (bs : List ℕ) (le : IsUpTo at limit) (is : ahead s.text s.hi at ≡ b ∷ bs) where
+  -- a walk by places reached from p comes to one that takes the byte ahead, before it can come past the position
+  walk_takes : {passed from w : List Pair} → IsWalk (next_to limit s) (λ n. IsTrue (ends_to limit s n)) passed from w →
+      ((n : Pair) → IsIn n from → IsReached s.places p at n) → Taken s.places p b
+  walk_takes (stops n h fresh end) reached =
+      let r = reached n h in
+      let ends_here : IsTrue (ends s (r.0, at)) =
+      sym (ends_at limit s (r.0, at) le) ∙ subst (λ (k : Pair). IsTrue (ends_to limit s k)) r.2 end in
+      (r.0, r.1, ap (λ q. may_take q b) (match_place_is (only s.anchoring) (place_at s.places r.0) ends_here))
+  walk_takes (goes n h fresh rest) reached =
+      let r = reached n h in
+      ⊎_elim (λ taken. (r.0, r.1, taken)) (λ stay. walk_takes rest (λ m i. onward_reached r.0 r.1 n r.2 stay m i)) (cases_Bool (may_take (place_at s.places r.0) b))
+    where
+      onward_reached : (q : ℕ) → Reaches s.places p q → (n : Pair) → n ≡ (q, at) → may_take (place_at s.places q) b ≡ false →
+          (m : Pair) → IsIn m (next_to limit s n) → IsReached s.places p at m
+      onward_reached q r n same stay m i =
+          let j = subst (λ (xs : List ℕ). IsIn m (map (pair_at at) (ways_out (λ l. holds s.text l at) xs (place_at s.places q)))) is
+          (way_to limit s (q, at) m (subst (λ (k : Pair). IsIn m (next_to limit s k)) same i)) in
+          let k = all_stay (λ l. holds s.text l at) b bs at (place_at s.places q) m stay j in
+          (k.0, further s.places k.0 r k.1, k.2)
+
 -- no walk leads on over a byte over which none may go on from the place
-pub byte_dead : (s : Sight) (p at b : ℕ) → slice_get (ahead s.text s.hi at) 0 ≡ Some b → ¬ MayGoOn s.places p b → (passed : List Pair) →
-    IsDead s passed (p, at)
-byte_dead s p at b stands none passed =
-    heads_law s.places s.text s.hi p at b (ends s) passed
-    (λ n e. (pattern_at (place_at s.places n.0), match_place_is (only s.anchoring) (place_at s.places n.0) e)) stands none
+pub byte_shut : (s : Sight) (p at b : ℕ) → slice_get (ahead s.text s.hi at) 0 ≡ Some b → ¬ MayGoOn s.places p b → IsShut s (p, at)
+byte_shut s p at b stands none limit le passed v walk =
+    let f = first_of (ahead s.text s.hi at) b stands in
+    none ∣ walk_takes limit s p at b f.0 le f.1 walk (λ n i. ⊎_elim (λ e. (p, here, sym e)) (λ never. absurd never) i) ∣₁
+  where
+    first_of : (xs : List ℕ) (b : ℕ) → slice_get xs 0 ≡ Some b → (bs : List ℕ) × (xs ≡ b ∷ bs)
+    first_of [] b e = absurd (none-some b e)
+    first_of (x ∷ xs) b e = (xs, ap (λ y. y ∷ xs) (same_Some x b e))
 
 -- the same of the byte that a spot shows
-pub shown_dead : (spot : Spot) (text : Searched) (p : ℕ) → IsHere spot text → spot.at < spot.course.hi → 0 < length spot.after.now →
-    ¬ MayGoOn (seen_from spot text).places p (slice_index spot.after.now 0) → (passed : List Pair) → IsDead (seen_from spot text) passed (p, spot.at)
-shown_dead spot text p is_here below some none passed =
-    byte_dead (seen_from spot text) p spot.at (slice_index spot.after.now 0)
+pub shown_shut : (spot : Spot) (text : Searched) (p : ℕ) → IsHere spot text → spot.at < spot.course.hi → 0 < length spot.after.now →
+    ¬ MayGoOn (seen_from spot text).places p (slice_index spot.after.now 0) → IsShut (seen_from spot text) (p, spot.at)
+shown_shut spot text p is_here below some none =
+    byte_shut (seen_from spot text) p spot.at (slice_index spot.after.now 0)
     (sym is_here.near.next ∙ ap (λ hi. slice_get (take (hi - spot.at) spot.after.now) 0) (sym is_here.setting.bound)
-    ∙ first_take (spot.course.hi - spot.at) spot.after.now (omega (arith, below)) some) none passed
+    ∙ first_take (spot.course.hi - spot.at) spot.after.now (omega (arith, below)) some) none
 
 module _ (course : Course) (text : Searched) (w : Window) (at end : ℕ) (setting : IsSetting course text) (window : IsWindow text w)
     (begun : IsBegun text at w) (around : (y : ℕ) → y ≤ end → IsAround text y w) (within : end ≤ course.hi) where
@@ -78,12 +134,12 @@ module _ (course : Course) (text : Searched) (w : Window) (at end : ℕ) (settin
       ¬ MayGoOn (seen_by course text).places p (slice_index (slice_range w.bytes (at - w.start) (end - w.start)) k) → (passed : List Pair) →
       IsDead (seen_by course text) passed (p, at + k)
   barred_dead p k below none passed =
-      byte_dead (seen_by course text) p (at + k) (slice_index (slice_range w.bytes (at - w.start) (end - w.start)) k) (window_byte k below) none passed
+      byte_shut (seen_by course text) p (at + k) (slice_index (slice_range w.bytes (at - w.start) (end - w.start)) k) (window_byte k below) none None tt passed
 
 -- none may go on over a byte of which the flag isn't set
 pub unset_bars : (places : List Place) (p b : ℕ) (flags : List Bool) → TellsHeads places p flags → b < 256 → slice_index_or flags b false ≡ false →
     ¬ MayGoOn places p b
-unset_bars places p b flags tells small unset goes = true≢false (sym ((tells.exact b small).1 goes) ∙ unset)
+unset_bars places p b flags tells small unset may = true≢false (sym ((tells.exact b small).1 may) ∙ unset)
 
 -- nothing else is reached from a place without ways that read nothing
 stays_there : (places : List Place) {p q : ℕ} → silent (place_at places p) ≡ [] → Reaches places p q → q ≡ p
@@ -95,8 +151,8 @@ only_byte x b e = grind (arith, nat_tests)
 
 -- none may go on over another byte from a place of one byte
 pub other_bars : (places : List Place) (p x n b : ℕ) → place_at places p ≡ byte ((x, x) ∷ []) n → b ≢ x → ¬ MayGoOn places p b
-other_bars places p x n b is other goes =
-    ∥∥₁_elim goes (λ u v. absurd u)
+other_bars places p x n b is other may =
+    ∥∥₁_elim may (λ u v. absurd u)
     (λ w.
     let e = stays_there places (ap silent is) w.1 in
     other (only_byte x b (subst (λ q. IsTrue (may_take q b)) is (subst (λ q. IsTrue (may_take (place_at places q) b)) e w.2))))

@@ -6,10 +6,11 @@ use Rattle.rc_text.specs.Found.{Found}
 use Rattle.rc_walks.specs.Walks.{Pair, IsWalk, stops, goes, HasNoWalk}
 use Rattle.rc_walks.specs.Threads.{IsFirstOf, passes, Pends}
 use Rattle.rc_walks.proofs.ThreadLemmas.{AllAlike, dead_alike, keeps_off, of_alike, of_rest}
-use Rattle.rc_pikevm.specs.Sights.{Sight, ends, next_of}
+use Rattle.rc_pikevm.specs.Sights.{Sight, IsUpTo, ends, ends_to, next_of, next_to}
 use Rattle.rc_pikevm.specs.Alone.{IsDead}
 use Rattle.rc_pikevm.specs.Entered.{Goes}
-use Rattle.rc_pikevm.specs.Passing.{Carries, pending, pairs, waits, resting_of, frames_of, slots_after}
+use Rattle.rc_pikevm.specs.Entrances.{IsShut}
+use Rattle.rc_pikevm.specs.Passing.{CarriesTo, pending, pairs, waits, resting_of, frames_of, slots_after}
 use Rattle.rc_pikevm.specs.Races.{EndsThere, Each, AreWithin, IsRacing, upto}
 use Rattle.rc_pikevm.specs.Sparse.{Has}
 use Rattle.rc_pikevm.specs.Spread.{Runner, SomeSpells, Offers, IsTop, Seeks, BeginFrom, running, runners_of, span_of}
@@ -42,27 +43,28 @@ ends_there (stops n h fresh end) = stops n h fresh end.0
 ends_there (goes n h fresh rest) = goes n h fresh (ends_there rest)
 
 module _ (s : Sight) (at : ℕ) (rest : List Thread) (items : List ℕ) where
-  -- what a thread gives that goes on by the move
-  left_out : (best o : Option Trace) (p : ℕ) (h : Trace) (ts : List (Trace × Pair)) → ((passed : List Pair) → IsDead s passed (p, at)) →
-      Carries s at rest (items ++ p ∷ []) ts best o → Carries s at rest items ((h, (p, at)) ∷ ts) best o
-  left_out best o p h ts dead x =
-      let none = dead (pairs at items) in
-      of_rest (next_of s) (λ n. IsTrue (ends s n)) Trace (note s.places)
-      (λ q y. passes (h, (p, at)) none (without (next_of s) (λ n. IsTrue (ends s n)) Trace (note s.places) (p, at) (pairs at items) ts q none y))
-      (subst (λ v. Pends (next_of s) (λ n. IsTrue (ends s n)) Trace (note s.places) (map pending rest) v ts best o) (pairs_push at p items) x)
+  module _ (limit : Option ℕ) (le : IsUpTo at limit) (best o : Option Trace) (p : ℕ) where
+    -- what a thread gives that goes on by the move
+    left_out : (h : Trace) (ts : List (Trace × Pair)) → IsShut s (p, at) →
+        CarriesTo limit s at rest (items ++ p ∷ []) ts best o → CarriesTo limit s at rest items ((h, (p, at)) ∷ ts) best o
+    left_out h ts dead x =
+        let none = dead limit le (pairs at items) in
+        of_rest (next_to limit s) (λ n. IsTrue (ends_to limit s n)) Trace (note s.places)
+        (λ q y. passes (h, (p, at)) none (without (next_to limit s) (λ n. IsTrue (ends_to limit s n)) Trace (note s.places) (p, at) (pairs at items) ts q none y))
+        (subst (λ v. Pends (next_to limit s) (λ n. IsTrue (ends_to limit s n)) Trace (note s.places) (map pending rest) v ts best o) (pairs_push at p items) x)
 
-  pub gone_on : (best o : Option Trace) (p start : ℕ) (slots : List (Option ℕ)) → ¬ Has items p → (move : Move) (frames : List Frame)
-      (below : List (Trace × Pair)) → Goes s (p, at) move → ((q : ℕ) → move ≢ Matches q) →
-      Carries s at (rest ++ resting_of start slots move) (items ++ p ∷ [])
-      (waits start at (frames_of slots move ++ frames) (slots_after at slots move) ++ below) best o →
-      Carries s at rest items ((trace start slots, (p, at)) ∷ (waits start at frames slots ++ below)) best o
-  gone_on best o p start slots fresh move frames below g other x =
-      ⊎_elim (λ m. moved s at rest items best o p start slots fresh move frames below m other x)
-      (λ d. left_out best o p (trace start slots) (waits start at frames slots ++ below) d.1
-      (subst (λ r. Carries s at r (items ++ p ∷ []) (waits start at frames slots ++ below) best o) (append-nil rest)
-      (subst (λ v. Carries s at (rest ++ resting_of start slots v) (items ++ p ∷ [])
-      (waits start at (frames_of slots v ++ frames) (slots_after at slots v) ++ below) best o) d.0 x)))
-      g
+    pub gone_on : (start : ℕ) (slots : List (Option ℕ)) → ¬ Has items p → (move : Move) (frames : List Frame)
+        (below : List (Trace × Pair)) → Goes s (p, at) move → ((q : ℕ) → move ≢ Matches q) →
+        CarriesTo limit s at (rest ++ resting_of start slots move) (items ++ p ∷ [])
+        (waits start at (frames_of slots move ++ frames) (slots_after at slots move) ++ below) best o →
+        CarriesTo limit s at rest items ((trace start slots, (p, at)) ∷ (waits start at frames slots ++ below)) best o
+    gone_on start slots fresh move frames below g other x =
+        ⊎_elim (λ m. moved limit s at rest items best o le p start slots fresh move frames below m other x)
+        (λ d. left_out (trace start slots) (waits start at frames slots ++ below) d.1
+        (subst (λ r. CarriesTo limit s at r (items ++ p ∷ []) (waits start at frames slots ++ below) best o) (append-nil rest)
+        (subst (λ v. CarriesTo limit s at (rest ++ resting_of start slots v) (items ++ p ∷ [])
+        (waits start at (frames_of slots v ++ frames) (slots_after at slots v) ++ below) best o) d.0 x)))
+        g
 
   -- the same of runners
   spells_on : (n : Pair) (v : List Pair) → IsDead s v n → (ts : List Runner) (m : Found) → SomeSpells s v ts m → SomeSpells s (n ∷ v) ts m
@@ -87,12 +89,12 @@ module _ (s : Sight) (at : ℕ) (rest : List Thread) (items : List ℕ) where
         (λ x. (m, inr (inr x), no_greater_self m)) b) h;
   }
 
-  left_seeks : (best : Option Ending) (o : Option Found) (p start : ℕ) (ts : List Runner) → ((passed : List Pair) → IsDead s passed (p, at)) →
+  left_seeks : (best : Option Ending) (o : Option Found) (p start : ℕ) (ts : List Runner) → IsShut s (p, at) →
       Seeks s at rest (items ++ p ∷ []) ts best o → Seeks s at rest items ((start, (p, at)) ∷ ts) best o
   left_seeks best o p start ts dead x =
       top_back (Offers s at rest items ((start, (p, at)) ∷ ts) best)
       (λ m. SomeSpells s [] (map running rest) m ⊎ (SomeSpells s ((p, at) ∷ pairs at items) ts m ⊎ (option_map span_of best ≡ Some m))) o
-      (left_narrow (SomeSpells s [] (map running rest)) (λ m. option_map span_of best ≡ Some m) start (p, at) (pairs at items) ts (dead (pairs at items)))
+      (left_narrow (SomeSpells s [] (map running rest)) (λ m. option_map span_of best ≡ Some m) start (p, at) (pairs at items) ts (dead None tt (pairs at items)))
       (subst (λ v. IsTop (λ m. SomeSpells s [] (map running rest) m ⊎ (SomeSpells s v ts m ⊎ (option_map span_of best ≡ Some m))) o)
       (pairs_push at p items) x)
 

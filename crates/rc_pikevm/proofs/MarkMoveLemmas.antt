@@ -149,7 +149,7 @@ gone_on s p at marks rest items q start fresh move frames below g other =
     (subst (λ r. Owed s at rest items ((q, at) ∷ ts) marks p ↔ Owed s at r (items ++ q ∷ []) ts marks p) (sym (append-nil rest))
     (subst (λ v. Owed s at rest items ((q, at) ∷ ts) marks p
     ↔ (SomeLeads s [] (map going rest) p ⊎ (SomeLeads s v ts p ⊎ IsMember marks p))) (sym (pairs_push at q items))
-    (middle (leads_without s p (q, at) (pairs at items) ts (d.1 (pairs at items)))))))
+    (middle (leads_without s p (q, at) (pairs at items) ts (d.1 None tt (pairs at items)))))))
     g
 
 module _ (s : Sight) (p at : ℕ) (marks : List Bool) (rest : List Thread) (items : List ℕ) (ts : List Pair) where
@@ -165,7 +165,7 @@ module _ (s : Sight) (p at : ℕ) (marks : List Bool) (rest : List Thread) (item
       avoided = (q, at) ∷ pairs at items
 
       none : LeadsToPattern s avoided (b, at) p → ⊥
-      none h = shut avoided h.walk h.is_walk
+      none h = shut None tt avoided h.walk h.is_walk
 
       one_way : IsIn (a, at) (next_of s (q, at))
       one_way =
@@ -213,7 +213,7 @@ module _ (s : Sight) (p at : ℕ) (marks : List Bool) (rest : List Thread) (item
       known l =
           ⊎_elim
           (λ m. subst (IsMember marks) (sym (own s.text s.hi at p (ends s) (pairs at items) l.walk l.is_walk l.pattern)) m)
-          (λ shut. absurd (shut (pairs at items) l.walk l.is_walk)) idle
+          (λ shut. absurd (shut None tt (pairs at items) l.walk l.is_walk)) idle
 
 module _ (s : Sight) (at q start : ℕ) (g0 g : Growth) (below : List Pair) (marks : List Bool) (p : ℕ) where
   abbrev Before : Type 0

@@ -1,9 +1,10 @@
 -- What is noted along a walk: where it began, the last visit of a slot of each column, and its end.
-use Rattle.std.proofs.Common.{◌≡◌, ℕ, ◌<◌, List, [], ◌∷◌, length, ⊎_elim, sym, subst, ap, ◌∙◌, refl, arith, true≢false, Option, Some, None, nat_eq, slice_set, slice_index_or, if◌then◌else◌, get_or-set_same, get_or-set_other, length-set, eqb-true, eq-eqb, replicate}
+use Rattle.std.proofs.Common.{◌≡◌, ℕ, ◌<◌, List, [], ◌∷◌, length, ◌⊎◌, inl, inr, ⊎_elim, sym, subst, ap, ◌∙◌, refl, arith, true≢false, Option, Some, None, nat_eq, slice_set, slice_index_or, if◌then◌else◌, get_or-set_same, get_or-set_other, length-set, eqb-true, eq-eqb, replicate}
 use Rattle.std.proofs.lemmas.Bool.{cases_Bool}
+use Rattle.std.proofs.lemmas.Option.{none-some, same_Some}
 use Rattle.std.proofs.lemmas.List.{length-replicate, get_or-replicate}
 use Rattle.std.specs.Option.{option_or}
-use Rattle.rc_walks.specs.Walks.{Pair, IsWalk, stops, goes}
+use Rattle.rc_walks.specs.Walks.{Pair, IsIn, IsWalk, stops, goes}
 use Rattle.rc_walks.specs.Threads.{noted}
 use Rattle.rc_program.specs.Program.{Place, choice, byte, branch, scalar, guard, slot, accept, place_at}
 use Rattle.rc_program.specs.Answer.{last_of, pattern_at}
@@ -91,3 +92,34 @@ module _ (places : List Place) where
   noted_end ways Ends match h (goes {w = w} n here fresh rest) =
       noted_end ways Ends match (note places h n) rest
       ∙ ap (λ (e : Pair). Some (pattern_at (place_at places e.0), e.1)) (sym (last_of_more ways Ends n rest))
+
+  -- a place is a match place, or nothing is noted of an end there
+  ended_or_kept : (c : ℕ) (q : Place) (h : Trace) (i : ℕ) → (q ≡ accept (pattern_at q)) ⊎ ((note_at c q h i).ended ≡ h.ended)
+  ended_or_kept c (choice ns) h i = inr refl
+  ended_or_kept c (byte rs n) h i = inr refl
+  ended_or_kept c (branch ts) h i = inr refl
+  ended_or_kept c (scalar rs n) h i = inr refl
+  ended_or_kept c (guard l n) h i = inr refl
+  ended_or_kept c (slot k n) h i = inr refl
+  ended_or_kept c (accept p) h i = inl refl
+
+  -- a trace that tells an end tells where its walk ends, wherever walks may end
+  pub noted_last : (ways : Pair → List Pair) (Ends : Pair → Type 0) →
+      ((n m : Pair) → place_at places n.0 ≡ accept (pattern_at (place_at places n.0)) → ¬ IsIn m (ways n)) →
+      (h : Trace) (p e : ℕ) → h.ended ≡ None → {passed from w : List Pair} → IsWalk ways Ends passed from w →
+      (noted (note places) h w).ended ≡ Some (p, e) → (last_of w).1 ≡ e
+  noted_last ways Ends stop h p e none (stops n here fresh end) told =
+      let c : ℕ = column_at places n.0 in
+      let q : Place = place_at places n.0 in
+      ⊎_elim (λ is. ap (λ (z : ℕ × ℕ). z.1) (same_Some (pattern_at q, n.1) (p, e) (sym (ended_at c q h n.1 is) ∙ told)))
+      (λ kept. absurd (none-some (p, e) (sym none ∙ sym kept ∙ told))) (ended_or_kept c q h n.1)
+  noted_last ways Ends stop h p e none (goes {w = w} n here fresh rest) told =
+      let c : ℕ = column_at places n.0 in
+      let q : Place = place_at places n.0 in
+      ⊎_elim (λ is. absurd (let k = sets_out_by rest in stop n k.0 is k.1))
+      (λ kept. ap (λ (z : Pair). z.1) (last_of_more ways Ends n rest)
+      ∙ noted_last ways Ends stop (note places h n) p e (kept ∙ none) rest told) (ended_or_kept c q h n.1)
+    where
+      sets_out_by : {passed from w : List Pair} → IsWalk ways Ends passed from w → (k : Pair) × IsIn k from
+      sets_out_by (stops k here fresh end) = (k, here)
+      sets_out_by (goes k here fresh rest) = (k, here)

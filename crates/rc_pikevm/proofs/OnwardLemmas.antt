@@ -8,12 +8,12 @@ use Rattle.rc_walks.proofs.StackLemmas.{dead_if_passed, dead_if_tried}
 use Rattle.rc_walks.proofs.ThreadLemmas.{Alike, first_alike, fewer_passed, from_within, of_one, of_rest}
 use Rattle.rc_walks.proofs.TryLemmas.{first_way}
 use Rattle.rc_program.proofs.WayLemmas.{same_pair}
-use Rattle.rc_pikevm.specs.Sights.{Sight, ends, next_of}
+use Rattle.rc_pikevm.specs.Sights.{Sight, ends_to, next_to}
 use Rattle.rc_pikevm.specs.Sparse.{Has}
 use Rattle.rc_pikevm.specs.Threads.{Thread}
 use Rattle.rc_pikevm.specs.Trace.{Trace, note}
-use Rattle.rc_pikevm.specs.Passing.{pairs, Carries}
-use Rattle.rc_pikevm.proofs.SightLemmas.{last_pair}
+use Rattle.rc_pikevm.specs.Passing.{pairs, CarriesTo}
+use Rattle.rc_pikevm.proofs.SightLemmas.{last_to}
 use Rattle.rc_pikevm.proofs.EnteredLemmas.{pairs_has}
 
 -- Of the ways out of n, that to a alone leads on.
@@ -85,10 +85,10 @@ module _ (ways : Pair → List Pair) (Ends : Pair → Type 0) (n a : Pair) where
           (same_pair a n)
 
 -- what a thread gives at the only way on, it gives at the place
-pub carries_by : (s : Sight) (at : ℕ) (rest : List Thread) (items : List ℕ) (best o : Option Trace) (p a : ℕ) (h : Trace) (ts : List (Trace × Pair)) →
-    ¬ Has items p → ¬ IsTrue (ends s (p, at)) → IsOnlyWay (next_of s) (λ n. IsTrue (ends s n)) (p, at) (a, at) → note s.places h (p, at) ≡ h →
-    Carries s at rest items ((h, (a, at)) ∷ ts) best o → Carries s at rest items ((h, (p, at)) ∷ ts) best o
-carries_by s at rest items best o p a h ts fresh on only silent x =
-    of_rest (next_of s) (λ n. IsTrue (ends s n)) Trace (note s.places)
-    (λ q y. first_on (next_of s) (λ n. IsTrue (ends s n)) (p, at) (a, at) on only Trace (note s.places) (last_pair s) h (pairs at items) ts q
+pub carries_by : (limit : Option ℕ) (s : Sight) (at : ℕ) (rest : List Thread) (items : List ℕ) (best o : Option Trace) (p a : ℕ) (h : Trace) (ts : List (Trace × Pair)) →
+    ¬ Has items p → ¬ IsTrue (ends_to limit s (p, at)) → IsOnlyWay (next_to limit s) (λ n. IsTrue (ends_to limit s n)) (p, at) (a, at) → note s.places h (p, at) ≡ h →
+    CarriesTo limit s at rest items ((h, (a, at)) ∷ ts) best o → CarriesTo limit s at rest items ((h, (p, at)) ∷ ts) best o
+carries_by limit s at rest items best o p a h ts fresh on only silent x =
+    of_rest (next_to limit s) (λ n. IsTrue (ends_to limit s n)) Trace (note s.places)
+    (λ q y. first_on (next_to limit s) (λ n. IsTrue (ends_to limit s n)) (p, at) (a, at) on only Trace (note s.places) (last_to limit s) h (pairs at items) ts q
     (λ i. fresh (pairs_has at p items i)) silent y) x

@@ -2,12 +2,12 @@
 use Rattle.std.proofs.Common.{◌≡◌, ℕ, suc, ◌+◌, ◌-◌, ◌*◌, ◌^◌, ◌<◌, ◌≤◌, ◌⊎◌, List, [], ◌∷◌, ◌++◌, length, map, min, ⊎_elim, sym, subst, ap, refl, arith, Bool, true, false, true≢false, IsTrue, Option, Some, None, is_none}
 use Rattle.std.proofs.Math.Nat.{mul-le-mul_left, mul-le-mul_right}
 use Rattle.rc_walks.specs.Threads.{IsFirstOf, over}
-use Rattle.rc_pikevm.specs.Sights.{Sight, next_of, HasNoWalkFrom}
+use Rattle.rc_pikevm.specs.Sights.{Sight, next_of, next_to, HasNoWalkFrom}
 use Rattle.rc_pikevm.specs.Threads.{Thread, ThreadList}
 use Rattle.rc_pikevm.specs.Trace.{Trace, note, starts}
-use Rattle.rc_pikevm.specs.Passing.{pending, Carries, AllIn, IsLined, IsPassing, IsCounted, waiting_starts, Pending, GivesTrace, best_of}
+use Rattle.rc_pikevm.specs.Passing.{pending, Carries, CarriesTo, AllIn, IsLined, IsPassing, IsCounted, waiting_starts, Pending, PendingTo, GivesTrace, GivesTraceTo, best_of}
 use Rattle.rc_pikevm.specs.declared.pass.Ending.{Ending}
-use Rattle.rc_pikevm.proofs.MoveLemmas.{Ends}
+use Rattle.rc_pikevm.proofs.MoveLemmas.{Ends, EndsTo}
 use Rattle.rc_pikevm.proofs.StartLemmas.{starts_give, waiting_over, starts_skipped}
 
 pub none_in : (n lo hi : ℕ) (ts : List Thread) → AllIn n lo hi ts → hi < lo → ts ≡ []
@@ -37,15 +37,21 @@ abbrev pub GoesOn : Sight → ℕ → Bool → ℕ → ℕ → Type 0
 GoesOn s hi idle at x = (at ≤ x) × (x ≤ hi) × ((x ≡ at) ⊎ (IsTrue idle × ((y : ℕ) → at ≤ y → y < x → HasNoWalkFrom s y)))
 
 module _ (s : Sight) (n hi width from last : ℕ) where
-  all_starts : (o : Option Trace) → Carries s from [] [] (starts width from (last + 1 - from)) None o →
-      IsFirstOf (next_of s) (Ends s) Trace (note s.places) [] (λ q. q ≡ None) (starts width from (last + 1 - from)) o
-  all_starts o (over x) = x
+  -- all starts give what the pass is to give
+  pub begins_to : (limit : Option ℕ) (curr : List Thread) (found : List (Option ℕ)) → curr ≡ [] → from ≤ last → (o : Option Trace) →
+      PendingTo limit s width last from curr None found o → GivesTraceTo limit s width from last o
+  begins_to limit curr found no_items low o x =
+      starts_give limit s width from from (last + 1 - from) last o (omega arith) (omega arith) (λ y l h. absurd (none_before from y l h))
+      (all_starts o (subst (λ ts. CarriesTo limit s from [] [] (map pending ts ++ waiting_starts true width from last) None o) no_items x))
+    where
+      all_starts : (o : Option Trace) → CarriesTo limit s from [] [] (starts width from (last + 1 - from)) None o →
+          IsFirstOf (next_to limit s) (EndsTo limit s) Trace (note s.places) [] (λ q. q ≡ None) (starts width from (last + 1 - from)) o
+      all_starts o (over x) = x
 
   pub passing_begins : (curr : ThreadList) (found : List (Option ℕ)) → curr.items ≡ [] → curr.width ≡ width → curr.room ≡ 4 * n →
       from ≤ last → last ≤ hi → IsPassing s n hi width from last from 0 curr None found
   passing_begins curr found no_items wide room low high = record {
-    carries = λ o x. starts_give s width from from (last + 1 - from) last o (omega arith) (omega arith) (λ y l h. absurd (none_before from y l h))
-        (all_starts o (subst (λ ts. Carries s from [] [] (map pending ts ++ waiting_starts true width from last) None o) no_items x));
+    carries = λ o x. begins_to None curr.items found no_items low o x;
     lined = record {
       inside = rw no_items tt;
       width_is = wide;
@@ -77,14 +83,19 @@ module _ (s : Sight) (n hi width from last : ℕ) where
   }
 
   -- nothing is left to go on
-  pub passing_done : (at insertions : ℕ) (curr : ThreadList) (best : Option Ending) (found : List (Option ℕ)) →
+  pub done_to : (limit : Option ℕ) (at : ℕ) (curr : List Thread) (best : Option Ending) (found : List (Option ℕ)) →
+      ((o : Option Trace) → PendingTo limit s width last at curr best found o → GivesTraceTo limit s width from last o) →
+      length curr ≡ 0 → waiting_starts (is_none best) width at last ≡ [] → GivesTraceTo limit s width from last (best_of best found)
+  done_to limit at curr best found carries none no_starts =
+      carries (best_of best found)
+      (subst (λ ts. CarriesTo limit s at [] [] (map pending ts ++ waiting_starts (is_none best) width at last) (best_of best found) (best_of best found))
+      (sym (no_threads curr none))
+      (subst (λ ws. CarriesTo limit s at [] [] ws (best_of best found) (best_of best found)) (sym no_starts) (over (over refl))))
+
+  passing_done : (at insertions : ℕ) (curr : ThreadList) (best : Option Ending) (found : List (Option ℕ)) →
       IsPassing s n hi width from last at insertions curr best found → length curr.items ≡ 0 → waiting_starts (is_none best) width at last ≡ [] →
       GivesTrace s width from last (best_of best found)
-  passing_done at insertions curr best found p none no_starts =
-      p.carries (best_of best found)
-      (subst (λ ts. Carries s at [] [] (map pending ts ++ waiting_starts (is_none best) width at last) (best_of best found) (best_of best found))
-      (sym (no_threads curr.items none))
-      (subst (λ ws. Carries s at [] [] ws (best_of best found) (best_of best found)) (sym no_starts) (over (over refl))))
+  passing_done at insertions curr best found p none no_starts = done_to None at curr.items best found p.carries none no_starts
 
   -- no thread is left, and no start
   pub passing_stops : (at insertions : ℕ) (curr : ThreadList) (best : Option Ending) (found : List (Option ℕ)) →

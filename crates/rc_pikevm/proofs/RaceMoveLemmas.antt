@@ -15,7 +15,6 @@ use Rattle.rc_pikevm.specs.Threads.{Thread}
 use Rattle.rc_pikevm.specs.Trace.{Trace, note, note_at, trace, done}
 use Rattle.rc_pikevm.specs.Moves.{IsMove, IsPlain}
 use Rattle.rc_pikevm.specs.Entered.{Goes, IsSkipped, IsEntered, IsVisited}
-use Rattle.rc_pikevm.specs.Alone.{IsDead}
 use Rattle.rc_pikevm.specs.Passing.{pending, pairs, waits, resting_of, frames_of, slots_after}
 use Rattle.rc_pikevm.specs.Races.{IsRacing, EndedBefore, upto, began, leading, kept, Races, IsSought, IsCutOff, EndedBy, IsRecorded, EndsThere}
 use Rattle.rc_pikevm.specs.declared.moves.Move.{Move}
@@ -26,7 +25,7 @@ use Rattle.rc_pikevm.specs.declared.pass.Ending.{Ending}
 use Rattle.rc_pikevm.proofs.SightLemmas.{last_pair}
 use Rattle.rc_pikevm.proofs.MoveLemmas.{Ends, onward, slot_on, waits_saved}
 use Rattle.rc_pikevm.proofs.EnteredLemmas.{has_pairs, pairs_has, pairs_push}
-use Rattle.rc_pikevm.specs.Entrances.{IsOnWay, IsWayIn, stays_in, goes_in}
+use Rattle.rc_pikevm.specs.Entrances.{IsOnWay, IsShut, IsWayIn, stays_in, goes_in}
 use Rattle.rc_pikevm.proofs.EntranceLemmas.{no_end, forks, only_other}
 use Rattle.rc_pikevm.proofs.NotedLemmas.{start_kept}
 use Rattle.rc_pikevm.proofs.VisitLemmas.{same_threads, quiet, entered_end, end_there}
@@ -94,7 +93,7 @@ module _ (s : Sight) (all : List (Trace × Pair)) (at : ℕ) where
         (race_way_in (next_of s) (Ends s) Trace (note s.places) began (note_keeps s.places) same_pair (last_pair s) (onward s) all at (map pending rest) (pairs at items) (leading best found)
         h (p, at) (a, at) (kept best ts)
         (λ i. fresh (pairs_has at p items i)) (ap (λ z. note_at (column_at s.places p) z h at) c.1)
-        (λ e. only_other s at (EndsThere (Ends s) e) p a b q.1 (none_to (next_of s) (Ends s) ((p, at) ∷ []) ((b, at) ∷ []) e (q.2 ((p, at) ∷ []))))
+        (λ e. only_other s at None tt (EndsThere (Ends s) e) p a b q.1 (none_to (next_of s) (Ends s) ((p, at) ∷ []) ((b, at) ∷ []) e (q.2 None tt ((p, at) ∷ []))))
         (no_end s at p c.0 c.1)
         (subst (λ ts. Race (map pending rest) (pairs at items) ts (leading best found)) (kept_in best (h, (p, at)) ts sought) x))) way
 
@@ -195,12 +194,12 @@ module _ (s : Sight) (all : List (Trace × Pair)) (at : ℕ) where
 
 -- the place is entered, and no move is made
 raced_leaves : (s : Sight) (all : List (Trace × Pair)) (at : ℕ) (rest : List Thread) (items : List ℕ) (best : Option Ending) (found : List (Option ℕ))
-    (p : ℕ) (h : Trace) (ts : List (Trace × Pair)) → ((passed : List Pair) → IsDead s passed (p, at)) → IsSought best (began h) →
+    (p : ℕ) (h : Trace) (ts : List (Trace × Pair)) → IsShut s (p, at) → IsSought best (began h) →
     Races s all at rest items ((h, (p, at)) ∷ ts) best found → Races s all at rest (items ++ p ∷ []) ts best found
 raced_leaves s all at rest items best found p h ts dead sought x =
     subst (λ v. Race s all at (map pending rest) v (kept best ts) (leading best found)) (sym (pairs_push at p items))
     (race_leaves (next_of s) (Ends s) Trace (note s.places) began all at (map pending rest) (pairs at items) (leading best found)
-    (h, (p, at)) (kept best ts) (omega arith) (dead (pairs at items))
+    (h, (p, at)) (kept best ts) (omega arith) (dead None tt (pairs at items))
     (subst (λ ts. Race s all at (map pending rest) (pairs at items) ts (leading best found)) (kept_in best (h, (p, at)) ts sought) x))
 
 -- the place is entered, and the move is made

@@ -1,5 +1,5 @@
 -- What a thread gives that enters at a place which stands for place 0.
-use Rattle.std.proofs.Common.{◌≡◌, ◌∙◌, ℕ, ◌<◌, ◌≤◌, List, [], ◌∷◌, ◌++◌, MatchOption, Option, Some, None, IsTrue, ⊎_elim, sym, subst, ap, refl}
+use Rattle.std.proofs.Common.{◌≡◌, ◌∙◌, ℕ, ◌<◌, ◌≤◌, ◌⊎◌, List, [], ◌∷◌, ◌++◌, MatchOption, Option, Some, None, IsTrue, ⊎_elim, sym, subst, ap, refl}
 use Rattle.std.proofs.Math.Logic.{∥∥₁_elim}
 use Rattle.std.specs.Bool.{⊤}
 use Rattle.std.specs.List.{AllByRecursion}
@@ -17,7 +17,7 @@ use Rattle.rc_program.specs.Laws.{IsChoice}
 use Rattle.rc_pikevm.specs.Sights.{Sight, sight_of, ends, next_of, IsFirstFrom}
 use Rattle.rc_pikevm.specs.Trace.{Trace, note, note_at}
 use Rattle.rc_pikevm.specs.Threads.{Thread}
-use Rattle.rc_pikevm.specs.Passing.{AllFrom, Carries}
+use Rattle.rc_pikevm.specs.Passing.{AllFrom, Carries, CarriesTo}
 use Rattle.rc_pikevm.specs.Roots.{StandsFor, StandsIn}
 use Rattle.rc_pikevm.proofs.EarlyLemmas.{tried, tried_finds}
 use Rattle.rc_text.specs.Text.{Searched, Keeps}
@@ -80,6 +80,16 @@ module _ (s : Sight) (root : ℕ) (stands : StandsFor s root) where
   pub carries_root : (h : Trace) (x : ℕ) (ts : List (Trace × Pair)) (best o : Option Trace) → x ≤ s.hi →
       Carries s x [] [] ((h, (root, x)) ∷ ts) best o → Carries s x [] [] ((h, (0, x)) ∷ ts) best o
   carries_root h x ts best o within c = over (given (λ q. q ≡ best) h x ts o within (of_none (next_of s) Ends Trace (note s.places) c))
+
+-- so it does up to a limit, if it enters at place 0 itself
+pub carries_root_to : (limit : Option ℕ) (s : Sight) (root : ℕ) → StandsFor s root → (limit ≡ None) ⊎ (root ≡ 0) →
+    (h : Trace) (x : ℕ) (ts : List (Trace × Pair)) (best o : Option Trace) → x ≤ s.hi →
+    CarriesTo limit s x [] [] ((h, (root, x)) ∷ ts) best o → CarriesTo limit s x [] [] ((h, (0, x)) ∷ ts) best o
+carries_root_to limit s root stands free h x ts best o within c =
+    ⊎_elim
+    (λ e. subst (λ l. CarriesTo l s x [] [] ((h, (0, x)) ∷ ts) best o) (sym e)
+    (carries_root s root stands h x ts best o within (subst (λ l. CarriesTo l s x [] [] ((h, (root, x)) ∷ ts) best o) e c)))
+    (λ e. subst (λ r. CarriesTo limit s x [] [] ((h, (r, x)) ∷ ts) best o) e c) free
 
 -- what a thread gives that sets out alone, whatever threads went before it
 pub ended_alone : (o : Option (ℕ × ℕ)) (n at : ℕ) (ts : List Thread) → MatchOption o ⊤ (λ r. (0 < n) × ((x : ℕ) → x ≤ at → x ≤ r.1)) →

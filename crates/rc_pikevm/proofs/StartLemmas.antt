@@ -3,10 +3,10 @@ use Rattle.std.proofs.Common.{◌≡◌, ℕ, zero, suc, ◌+◌, ◌-◌, ◌<�
 use Rattle.std.proofs.lemmas.Bool.{cases_lt}
 use Rattle.rc_walks.specs.Threads.{IsFirstOf, AllPast, passes}
 use Rattle.rc_walks.proofs.ThreadLemmas.{of_none, of_one}
-use Rattle.rc_pikevm.specs.Sights.{Sight, next_of, HasNoWalkFrom}
+use Rattle.rc_pikevm.specs.Sights.{Sight, next_of, next_to, HasNoWalkFrom, HasNoWalkTo}
 use Rattle.rc_pikevm.specs.Trace.{Trace, note, starts, sets_out}
-use Rattle.rc_pikevm.specs.Passing.{waiting_starts, GivesTrace}
-use Rattle.rc_pikevm.proofs.MoveLemmas.{Ends}
+use Rattle.rc_pikevm.specs.Passing.{waiting_starts, GivesTraceTo}
+use Rattle.rc_pikevm.proofs.MoveLemmas.{Ends, EndsTo}
 
 -- the next start is first among those that wait
 pub waiting_next : (is_open : Bool) (width at last : ℕ) → is_open ≡ true → at ≤ last →
@@ -28,19 +28,19 @@ pub waiting_past : (is_open : Bool) (width at last : ℕ) → AllPast at (waitin
 waiting_past true width at last = starts_past width at (at + 1) (last + 1 - (at + 1)) (omega arith)
 waiting_past false width at last = tt
 
-module _ (s : Sight) (width from : ℕ) where
+module _ (limit : Option ℕ) (s : Sight) (width from : ℕ) where
   -- of all starts the least that has a walk decides
-  pub starts_give : (x count last : ℕ) (o : Option Trace) → from ≤ x → last + 1 ≡ x + count → ((y : ℕ) → from ≤ y → y < x → HasNoWalkFrom s y) →
-      IsFirstOf (next_of s) (Ends s) Trace (note s.places) [] (λ q. q ≡ None) (starts width x count) o → GivesTrace s width from last o
+  pub starts_give : (x count last : ℕ) (o : Option Trace) → from ≤ x → last + 1 ≡ x + count → ((y : ℕ) → from ≤ y → y < x → HasNoWalkTo limit s y) →
+      IsFirstOf (next_to limit s) (EndsTo limit s) Trace (note s.places) [] (λ q. q ≡ None) (starts width x count) o → GivesTraceTo limit s width from last o
   starts_give x zero last o low sum none p =
-      inl (of_none (next_of s) (Ends s) Trace (note s.places) p, λ y l h. none y l (omega arith))
+      inl (of_none (next_to limit s) (EndsTo limit s) Trace (note s.places) p, λ y l h. none y l (omega arith))
   starts_give x (suc count) last o low sum none p =
       ⊎_elim
       (λ f. inr (x, f.0, low, omega arith, f.1, none, f.2))
       (λ f. starts_give (x + 1) count last o (omega arith) (omega arith)
       (λ y l h. ⊎_elim (λ b. none y l b)
-      (λ ge. let e : x ≡ y = omega arith in subst (λ z. HasNoWalkFrom s z) e f.0) (cases_lt y x)) f.1)
-      (of_one (next_of s) (Ends s) Trace (note s.places) p)
+      (λ ge. let e : x ≡ y = omega arith in subst (λ z. HasNoWalkTo limit s z) e f.0) (cases_lt y x)) f.1)
+      (of_one (next_to limit s) (EndsTo limit s) Trace (note s.places) p)
 
 module _ (s : Sight) (width last : ℕ) (best : Option Trace) where
   -- starts without a walk decide nothing

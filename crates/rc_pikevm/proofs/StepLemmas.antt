@@ -4,11 +4,11 @@ use Rattle.std.proofs.lemmas.Bool.{le-leb}
 use Rattle.std.proofs.lemmas.List.{length_push}
 use Rattle.std.proofs.lemmas.Option.{none-some}
 use Rattle.rc_walks.specs.Walks.{Pair}
-use Rattle.rc_pikevm.specs.Sights.{Sight}
+use Rattle.rc_pikevm.specs.Sights.{Sight, IsUpTo}
 use Rattle.rc_pikevm.specs.Sparse.{Members}
 use Rattle.rc_pikevm.specs.Threads.{Thread, ThreadList}
 use Rattle.rc_pikevm.specs.Trace.{Trace, trace, done}
-use Rattle.rc_pikevm.specs.Passing.{pending, Carries, AllIn, AllFrom, count_from, IsGrown, IsStepping}
+use Rattle.rc_pikevm.specs.Passing.{pending, CarriesTo, AllIn, AllFrom, count_from, IsGrown, IsStepping}
 use Rattle.rc_pikevm.proofs.MoveLemmas.{waited}
 use Rattle.rc_pikevm.proofs.GrownLemmas.{count_push, count_all, in_push, from_push}
 
@@ -31,9 +31,9 @@ module _ (s : Sight) (n hi at : ℕ) (all : List Thread) (threads0 : ThreadList)
   pub stepping_begins : (entered : Members) → threads0.items ≡ [] → entered.items ≡ [] → entered.capacity ≡ n → n ≤ threads0.room →
       IsStepping s n hi at all all threads0 threads0 entered
   stepping_begins entered no_threads no_places capacity room = record {
-    carries = λ below best o x.
-        subst (λ v. Carries s at [] v (map pending all ++ below) best o) no_places
-        (subst (λ r. Carries s at r entered.items (map pending all ++ below) best o) no_threads x);
+    carries = λ limit le below best o x.
+        subst (λ v. CarriesTo limit s at [] v (map pending all ++ below) best o) no_places
+        (subst (λ r. CarriesTo limit s at r entered.items (map pending all ++ below) best o) no_threads x);
     sound = record {
       capacity = capacity;
       few = rw no_places (omega arith);
@@ -68,10 +68,10 @@ module _ (s : Sight) (n hi at : ℕ) (all : List Thread) (threads0 : ThreadList)
         count_from (at + 1) all + n ≤ threads0.room →
         threads2 ≡ record threads { items = threads.items ++ t ∷ [] } → IsStepping s n hi at all (drop (index + 1) all) threads0 threads2 entered
     stepping_waits threads2 later fits room e = rw e (record {
-      carries = λ below best o x.
-          stepping.carries below best o
-          (subst (λ ts. Carries s at threads.items entered.items (map pending ts ++ below) best o) (sym here)
-          (waited s at threads.items entered.items best o t (map pending (drop (index + 1) all) ++ below) later x));
+      carries = λ limit le below best o x.
+          stepping.carries limit le below best o
+          (subst (λ ts. CarriesTo limit s at threads.items entered.items (map pending ts ++ below) best o) (sym here)
+          (waited limit s at threads.items entered.items best o t (map pending (drop (index + 1) all) ++ below) later x));
       sound = record {
         capacity = stepping.sound.capacity;
         few = stepping.sound.few;
@@ -92,15 +92,15 @@ module _ (s : Sight) (n hi at : ℕ) (all : List Thread) (threads0 : ThreadList)
 
     -- a thread goes on here
     pub stepping_closes : (threads2 : ThreadList) (entered2 : Members) (slots : List (Option ℕ)) → t.at ≤ at → t.slots ≡ slots →
-        ((below : List (Trace × Pair)) (best o : Option Trace) → Carries s at threads2.items entered2.items below best o →
-        Carries s at threads.items entered.items ((trace t.start slots, (t.place, at)) ∷ below) best o) →
+        ((limit : Option ℕ) → IsUpTo at limit → (below : List (Trace × Pair)) (best o : Option Trace) → CarriesTo limit s at threads2.items entered2.items below best o →
+        CarriesTo limit s at threads.items entered.items ((trace t.start slots, (t.place, at)) ∷ below) best o) →
         IsGrown n hi t.start at threads entered threads2 entered2 → 0 < length entered2.items →
         IsStepping s n hi at all (drop (index + 1) all) threads0 threads2 entered2
     stepping_closes threads2 entered2 slots now same closing grown some = record {
-      carries = λ below best o x.
-          stepping.carries below best o
-          (subst (λ ts. Carries s at threads.items entered.items (map pending ts ++ below) best o) (sym here)
-          (goes_on below best o (closing (map pending (drop (index + 1) all) ++ below) best o x)));
+      carries = λ limit le below best o x.
+          stepping.carries limit le below best o
+          (subst (λ ts. CarriesTo limit s at threads.items entered.items (map pending ts ++ below) best o) (sym here)
+          (goes_on limit below best o (closing limit le (map pending (drop (index + 1) all) ++ below) best o x)));
       sound = grown.sound;
       same_room = grown.same_room ∙ stepping.same_room;
       same_most = grown.same_most ∙ stepping.same_most;
@@ -110,26 +110,26 @@ module _ (s : Sight) (n hi at : ℕ) (all : List Thread) (threads0 : ThreadList)
       some = inr (omega (arith, some));
     }
       where
-        goes_on : (below : List (Trace × Pair)) (best o : Option Trace) →
-            Carries s at threads.items entered.items ((trace t.start slots, (t.place, at)) ∷ (map pending (drop (index + 1) all) ++ below)) best o →
-            Carries s at threads.items entered.items (pending t ∷ (map pending (drop (index + 1) all) ++ below)) best o
-        goes_on below best o x =
+        goes_on : (limit : Option ℕ) (below : List (Trace × Pair)) (best o : Option Trace) →
+            CarriesTo limit s at threads.items entered.items ((trace t.start slots, (t.place, at)) ∷ (map pending (drop (index + 1) all) ++ below)) best o →
+            CarriesTo limit s at threads.items entered.items (pending t ∷ (map pending (drop (index + 1) all) ++ below)) best o
+        goes_on limit below best o x =
             let i = in_at n at (min hi (at + 3)) all index t inside item in
             let e : t.at ≡ at = omega (arith, i.1, now) in
-            subst (λ q. Carries s at threads.items entered.items ((trace t.start t.slots, (t.place, q)) ∷ (map pending (drop (index + 1) all) ++ below)) best o) (sym e)
-            (subst (λ l. Carries s at threads.items entered.items ((trace t.start l, (t.place, at)) ∷ (map pending (drop (index + 1) all) ++ below)) best o) (sym same) x)
+            subst (λ q. CarriesTo limit s at threads.items entered.items ((trace t.start t.slots, (t.place, q)) ∷ (map pending (drop (index + 1) all) ++ below)) best o) (sym e)
+            (subst (λ l. CarriesTo limit s at threads.items entered.items ((trace t.start l, (t.place, at)) ∷ (map pending (drop (index + 1) all) ++ below)) best o) (sym same) x)
 
     -- a walk of the thread ends
     pub stepping_ends : (resting : List Thread) (other : List ℕ) (slots after : List (Option ℕ)) (p : ℕ) → t.at ≤ at → t.slots ≡ slots →
-        ((below : List (Trace × Pair)) (best o : Option Trace) → Carries s at resting other [] (Some (done p t.start at after)) o →
-        Carries s at threads.items entered.items ((trace t.start slots, (t.place, at)) ∷ below) best o) →
-        (below : List (Trace × Pair)) (best o : Option Trace) → Carries s at resting other [] (Some (done p t.start at after)) o →
-        Carries s at [] [] (map pending all ++ below) best o
-    stepping_ends resting other slots after p now same closing below best o x =
+        ((limit : Option ℕ) → IsUpTo at limit → (below : List (Trace × Pair)) (best o : Option Trace) → CarriesTo limit s at resting other [] (Some (done p t.start at after)) o →
+        CarriesTo limit s at threads.items entered.items ((trace t.start slots, (t.place, at)) ∷ below) best o) →
+        (limit : Option ℕ) → IsUpTo at limit → (below : List (Trace × Pair)) (best o : Option Trace) → CarriesTo limit s at resting other [] (Some (done p t.start at after)) o →
+        CarriesTo limit s at [] [] (map pending all ++ below) best o
+    stepping_ends resting other slots after p now same closing limit le below best o x =
         let i = in_at n at (min hi (at + 3)) all index t inside item in
         let e : t.at ≡ at = omega (arith, i.1, now) in
-        stepping.carries below best o
-        (subst (λ ts. Carries s at threads.items entered.items (map pending ts ++ below) best o) (sym here)
-        (subst (λ q. Carries s at threads.items entered.items ((trace t.start t.slots, (t.place, q)) ∷ (map pending (drop (index + 1) all) ++ below)) best o) (sym e)
-        (subst (λ l. Carries s at threads.items entered.items ((trace t.start l, (t.place, at)) ∷ (map pending (drop (index + 1) all) ++ below)) best o) (sym same)
-        (closing (map pending (drop (index + 1) all) ++ below) best o x))))
+        stepping.carries limit le below best o
+        (subst (λ ts. CarriesTo limit s at threads.items entered.items (map pending ts ++ below) best o) (sym here)
+        (subst (λ q. CarriesTo limit s at threads.items entered.items ((trace t.start t.slots, (t.place, q)) ∷ (map pending (drop (index + 1) all) ++ below)) best o) (sym e)
+        (subst (λ l. CarriesTo limit s at threads.items entered.items ((trace t.start l, (t.place, at)) ∷ (map pending (drop (index + 1) all) ++ below)) best o) (sym same)
+        (closing limit le (map pending (drop (index + 1) all) ++ below) best o x))))

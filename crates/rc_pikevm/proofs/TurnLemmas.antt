@@ -5,7 +5,7 @@ use Rattle.rc_pikevm.specs.Sights.{Sight}
 use Rattle.rc_pikevm.specs.Sparse.{Members}
 use Rattle.rc_pikevm.specs.Threads.{Thread, ThreadList}
 use Rattle.rc_pikevm.specs.Trace.{Trace, done}
-use Rattle.rc_pikevm.specs.Passing.{pending, Carries, AllIn, AllFrom, count_from, HasRoom, IsLined, waiting_starts, Pending, best_of}
+use Rattle.rc_pikevm.specs.Passing.{pending, CarriesTo, AllIn, AllFrom, count_from, HasRoom, IsLined, waiting_starts, PendingTo, best_of}
 use Rattle.rc_pikevm.specs.declared.pass.Ending.{Ending}
 use Rattle.rc_pikevm.proofs.MoveLemmas.{turned}
 use Rattle.rc_pikevm.proofs.StartLemmas.{waiting_past}
@@ -61,24 +61,24 @@ lined_next n hi width at insertions insertions2 curr next entered lined sound wi
         (from_earlier (at + 1 - insertions2) (at - insertions) curr.items (omega (arith, m)) lined.begun)
 
 -- no walk has ended at this position
-pub turned_on : (s : Sight) (width last at : ℕ) (curr next : List Thread) (items : List ℕ) (best : Option Ending) (found : List (Option ℕ)) (o : Option Trace)
+pub turned_on : (limit : Option ℕ) (s : Sight) (width last at : ℕ) (curr next : List Thread) (items : List ℕ) (best : Option Ending) (found : List (Option ℕ)) (o : Option Trace)
     (is_open : Bool) → is_open ≡ is_none best →
-    ((best o : Option Trace) → Carries s at next items (waiting_starts is_open width (at + 1) last) best o →
-    Carries s at [] [] (map pending curr ++ waiting_starts is_open width at last) best o) →
-    Pending s width last (at + 1) next best found o → Pending s width last at curr best found o
-turned_on s width last at curr next items best found o is_open open_is step x =
-    subst (λ b. Carries s at [] [] (map pending curr ++ waiting_starts b width at last) (best_of best found) o) open_is
+    ((best o : Option Trace) → CarriesTo limit s at next items (waiting_starts is_open width (at + 1) last) best o →
+    CarriesTo limit s at [] [] (map pending curr ++ waiting_starts is_open width at last) best o) →
+    PendingTo limit s width last (at + 1) next best found o → PendingTo limit s width last at curr best found o
+turned_on limit s width last at curr next items best found o is_open open_is step x =
+    subst (λ b. CarriesTo limit s at [] [] (map pending curr ++ waiting_starts b width at last) (best_of best found) o) open_is
     (step (best_of best found) o
-    (subst (λ b. Carries s at next items (waiting_starts b width (at + 1) last) (best_of best found) o) (sym open_is)
-    (turned s at next items (best_of best found) o (waiting_starts (is_none best) width (at + 1) last) (waiting_past (is_none best) width at last) x)))
+    (subst (λ b. CarriesTo limit s at next items (waiting_starts b width (at + 1) last) (best_of best found) o) (sym open_is)
+    (turned limit s at next items (best_of best found) o (waiting_starts (is_none best) width (at + 1) last) (waiting_past (is_none best) width at last) x)))
 
 -- a walk has
-pub turned_ends : (s : Sight) (width last at : ℕ) (curr next : List Thread) (items : List ℕ) (best : Option Ending) (found0 found : List (Option ℕ))
+pub turned_ends : (limit : Option ℕ) (s : Sight) (width last at : ℕ) (curr next : List Thread) (items : List ℕ) (best : Option Ending) (found0 found : List (Option ℕ))
     (o : Option Trace) (is_open : Bool) (end : Ending) → is_open ≡ is_none best →
-    ((best o : Option Trace) → Carries s at next items [] (Some (done end.pattern end.start end.end found)) o →
-    Carries s at [] [] (map pending curr ++ waiting_starts is_open width at last) best o) →
-    Pending s width last (at + 1) next (Some end) found o → Pending s width last at curr best found0 o
-turned_ends s width last at curr next items best found0 found o is_open end open_is step x =
-    subst (λ b. Carries s at [] [] (map pending curr ++ waiting_starts b width at last) (best_of best found0) o) open_is
+    ((best o : Option Trace) → CarriesTo limit s at next items [] (Some (done end.pattern end.start end.end found)) o →
+    CarriesTo limit s at [] [] (map pending curr ++ waiting_starts is_open width at last) best o) →
+    PendingTo limit s width last (at + 1) next (Some end) found o → PendingTo limit s width last at curr best found0 o
+turned_ends limit s width last at curr next items best found0 found o is_open end open_is step x =
+    subst (λ b. CarriesTo limit s at [] [] (map pending curr ++ waiting_starts b width at last) (best_of best found0) o) open_is
     (step (best_of best found0) o
-    (turned s at next items (Some (done end.pattern end.start end.end found)) o [] tt x))
+    (turned limit s at next items (Some (done end.pattern end.start end.end found)) o [] tt x))

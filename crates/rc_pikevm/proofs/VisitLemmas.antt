@@ -4,12 +4,12 @@ use Rattle.std.proofs.lemmas.List.{append-nil}
 use Rattle.std.proofs.lemmas.Option.{none-some, same_Some}
 use Rattle.rc_text.specs.Found.{Found}
 use Rattle.rc_walks.specs.Walks.{Pair}
-use Rattle.rc_pikevm.specs.Sights.{Sight}
+use Rattle.rc_pikevm.specs.Sights.{Sight, IsUpTo}
 use Rattle.rc_pikevm.specs.Entered.{IsSkipped, IsEntered, IsVisited}
 use Rattle.rc_pikevm.specs.Moves.{IsMove, ended_by}
 use Rattle.rc_pikevm.specs.Threads.{ThreadList}
 use Rattle.rc_pikevm.specs.Trace.{Trace, trace, done}
-use Rattle.rc_pikevm.specs.Passing.{Carries, waits, resting_of, slots_after}
+use Rattle.rc_pikevm.specs.Passing.{CarriesTo, waits, resting_of, slots_after}
 use Rattle.rc_pikevm.specs.Spread.{Runner, Seeks, BeginFrom, IsGreater, IsOrdered, runners_of}
 use Rattle.rc_pikevm.specs.declared.growth.Growth.{Growth}
 use Rattle.rc_pikevm.specs.declared.moves.Move.{Move}
@@ -55,37 +55,37 @@ module _ (s : Sight) (at p start : ℕ) (g0 g : Growth) where
   same_threads move q is m =
       ap (λ (l : ThreadList). l.items) m.threads ∙ ap (λ (v : Move). g0.threads.items ++ resting_of start g0.slots.items v) is ∙ append-nil g0.threads.items
 
-  module _ (best o : Option Trace) (below : List (Trace × Pair)) where
+  module _ (limit : Option ℕ) (le : IsUpTo at limit) (best o : Option Trace) (below : List (Trace × Pair)) where
     -- the place was entered before
-    skipped_carries : IsSkipped p g0 g → Carries s at g.threads.items g.entered.items (waits start at (reverse g.stack.items) g.slots.items ++ below) best o →
-        Carries s at g0.threads.items g0.entered.items
+    skipped_carries : IsSkipped p g0 g → CarriesTo limit s at g.threads.items g.entered.items (waits start at (reverse g.stack.items) g.slots.items ++ below) best o →
+        CarriesTo limit s at g0.threads.items g0.entered.items
         ((trace start g0.slots.items, (p, at)) ∷ (waits start at (reverse g0.stack.items) g0.slots.items ++ below)) best o
     skipped_carries m x =
-        skipped s at g0.threads.items g0.entered.items best o p (trace start g0.slots.items)
+        skipped limit s at g0.threads.items g0.entered.items best o p (trace start g0.slots.items)
         (waits start at (reverse g0.stack.items) g0.slots.items ++ below) m.before (rw (m.threads, m.entered, m.frames, m.slots) at x)
 
     -- it is entered, and a walk ends there or goes on
     entered_carries : (move : Move) (r : Option ℕ) → IsEntered s at p start move g0 g →
         MatchOption r ((q : ℕ) → move ≢ Matches q) (λ q. move ≡ Matches q) →
-        MatchOption r (Carries s at g.threads.items g.entered.items (waits start at (reverse g.stack.items) g.slots.items ++ below) best o)
-        (λ q. Carries s at g.threads.items g.entered.items [] (Some (done q start at g.slots.items)) o) →
-        Carries s at g0.threads.items g0.entered.items
+        MatchOption r (CarriesTo limit s at g.threads.items g.entered.items (waits start at (reverse g.stack.items) g.slots.items ++ below) best o)
+        (λ q. CarriesTo limit s at g.threads.items g.entered.items [] (Some (done q start at g.slots.items)) o) →
+        CarriesTo limit s at g0.threads.items g0.entered.items
         ((trace start g0.slots.items, (p, at)) ∷ (waits start at (reverse g0.stack.items) g0.slots.items ++ below)) best o
     entered_carries move None m other x =
-        gone_on s at g0.threads.items g0.entered.items best o p start g0.slots.items m.fresh move (reverse g0.stack.items) below m.goes other
+        gone_on s at g0.threads.items g0.entered.items limit le best o p start g0.slots.items m.fresh move (reverse g0.stack.items) below m.goes other
         (rw (m.threads, m.entered, m.frames, m.slots) at x)
     entered_carries move (Some q) m is x =
         let i = end_there q (subst (λ v. IsEntered s at p start v g0 g) is m) in
         let slots : g.slots.items ≡ g0.slots.items = m.slots ∙ ap (slots_after at g0.slots.items) is in
-        matched s at g0.threads.items g0.entered.items best o p q start g0.slots.items g.entered.items
+        matched limit s at g0.threads.items g0.entered.items best o le p q start g0.slots.items g.entered.items
         (waits start at (reverse g0.stack.items) g0.slots.items ++ below) m.fresh i.0 i.1
-        (subst (λ ts. Carries s at ts g.entered.items [] (Some (done q start at g0.slots.items)) o) (same_threads move q is m)
-        (subst (λ l. Carries s at g.threads.items g.entered.items [] (Some (done q start at l)) o) slots x))
+        (subst (λ ts. CarriesTo limit s at ts g.entered.items [] (Some (done q start at g0.slots.items)) o) (same_threads move q is m)
+        (subst (λ l. CarriesTo limit s at g.threads.items g.entered.items [] (Some (done q start at l)) o) slots x))
 
     pub visited_carries : (r : Option ℕ) → IsVisited s at p start r g0 g →
-        MatchOption r (Carries s at g.threads.items g.entered.items (waits start at (reverse g.stack.items) g.slots.items ++ below) best o)
-        (λ q. Carries s at g.threads.items g.entered.items [] (Some (done q start at g.slots.items)) o) →
-        Carries s at g0.threads.items g0.entered.items
+        MatchOption r (CarriesTo limit s at g.threads.items g.entered.items (waits start at (reverse g.stack.items) g.slots.items ++ below) best o)
+        (λ q. CarriesTo limit s at g.threads.items g.entered.items [] (Some (done q start at g.slots.items)) o) →
+        CarriesTo limit s at g0.threads.items g0.entered.items
         ((trace start g0.slots.items, (p, at)) ∷ (waits start at (reverse g0.stack.items) g0.slots.items ++ below)) best o
     visited_carries None v x = quiet v (λ m. skipped_carries m x) (λ move m other. entered_carries move None m other x)
     visited_carries (Some q) v x = entered_carries (Matches q) (Some q) (entered_end q v) refl x

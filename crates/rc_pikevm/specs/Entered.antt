@@ -4,7 +4,7 @@ use Rattle.std.specs.Prelude.{◌≡◌, ℕ, ◌⊎◌, List, [], ◌∷◌, �
 use Rattle.rc_walks.specs.Walks.{Pair}
 use Rattle.rc_pikevm.specs.Sights.{Sight}
 use Rattle.rc_pikevm.specs.Sparse.{Has}
-use Rattle.rc_pikevm.specs.Alone.{IsDead}
+use Rattle.rc_pikevm.specs.Entrances.{IsShut}
 use Rattle.rc_pikevm.specs.Moves.{IsMove, ended_by}
 use Rattle.rc_pikevm.specs.Passing.{frames_of, resting_of, slots_after}
 use Rattle.rc_pikevm.specs.declared.moves.Move.{Move}
@@ -21,7 +21,7 @@ pub record IsSkipped (place : ℕ) (g0 g : Growth) : Type 0 where
 
 -- The move is the one that the pair has; or it is none, and no walk leads on from there.
 abbrev pub Goes : Sight → Pair → Move → Type 0
-Goes s n move = IsMove s n move ⊎ ((move ≡ DeadEnd) × ((passed : List Pair) → IsDead s passed n))
+Goes s n move = IsMove s n move ⊎ ((move ≡ DeadEnd) × IsShut s n)
 
 -- A thread that began at `start` enters the place, and the move is made.
 pub record IsEntered (s : Sight) (at place start : ℕ) (move : Move) (g0 g : Growth) : Type 0 where

@@ -1,14 +1,15 @@
 -- Only proofs use this file.
 -- Epsilon shortcuts: places at which a thread may enter instead of another.
-use Rattle.std.specs.Prelude.{◌≡◌, ℕ, ◌⊎◌, List, [], ◌∷◌, IsTrue}
+use Rattle.std.specs.Prelude.{◌≡◌, ℕ, ◌⊎◌, List, [], ◌∷◌, IsTrue, Option}
 use Rattle.rc_walks.specs.Walks.{Pair, HasNoWalk}
 use Rattle.rc_program.specs.Program.{choice, place_at}
-use Rattle.rc_pikevm.specs.Sights.{Sight, ends, next_of}
+use Rattle.rc_pikevm.specs.Sights.{Sight, IsUpTo, ends_to, next_to}
 use Rattle.rc_pikevm.specs.Sparse.{Has}
 
--- No walk leads on from the pair, whatever pairs it avoids.
+-- No walk leads on from the pair, whatever pairs it avoids, and none leads past it.
 abbrev pub IsShut : Sight → Pair → Type 0
-IsShut s n = (passed : List Pair) → HasNoWalk (next_of s) (λ m. IsTrue (ends s m)) passed (n ∷ [])
+IsShut s n = (limit : Option ℕ) → IsUpTo n.1 limit → (passed : List Pair) →
+    HasNoWalk (next_to limit s) (λ m. IsTrue (ends_to limit s m)) passed (n ∷ [])
 
 -- Exactly two ways lead on from p: to a and to b.
 abbrev pub AreWays : Sight → ℕ → ℕ → ℕ → Type 0

@@ -3,7 +3,7 @@
 use Rattle.std.specs.Prelude.{◌≡◌, ℕ, ◌+◌, ◌-◌, ◌<◌, ◌≤◌, ◌⊎◌, Bool, List, [], ◌∷◌, ◌++◌, length, map, reverse, Option, Some, None, IsTrue, slice_set, slice_index_or, if◌then◌else◌, is_none, option_map, nat_lt, nat_le, min, ◌*◌, MatchOption}
 use Rattle.rc_walks.specs.Walks.{Pair}
 use Rattle.rc_walks.specs.Threads.{Pends, noted}
-use Rattle.rc_pikevm.specs.Sights.{Sight, ends, next_of, IsFirstFrom, HasNoWalkFrom}
+use Rattle.rc_pikevm.specs.Sights.{Sight, IsFirstFrom, IsFirstTo, HasNoWalkFrom, HasNoWalkTo, IsUpTo, ends_to, next_to}
 use Rattle.rc_pikevm.specs.Sparse.{Members}
 use Rattle.rc_pikevm.specs.Threads.{Thread, ThreadList}
 use Rattle.rc_pikevm.specs.Trace.{Trace, note, trace, done, starts, sets_out}
@@ -61,9 +61,13 @@ IsMoveInside n DeadEnd = Unit {0}
 
 -- All that is under way at a position: the threads of later positions, the places entered, and the
 -- threads still to come, in order.
+abbrev pub CarriesTo : Option ℕ → Sight → ℕ → List Thread → List ℕ → List (Trace × Pair) → Option Trace → Option Trace → Type 0
+CarriesTo limit s at resting entered waiting best o =
+    Pends (next_to limit s) (λ n. IsTrue (ends_to limit s n)) Trace (note s.places) (map pending resting) (pairs at entered) waiting best o
+
+-- The same without a limit.
 abbrev pub Carries : Sight → ℕ → List Thread → List ℕ → List (Trace × Pair) → Option Trace → Option Trace → Type 0
-Carries s at resting entered waiting best o =
-    Pends (next_of s) (λ n. IsTrue (ends s n)) Trace (note s.places) (map pending resting) (pairs at entered) waiting best o
+Carries s at resting entered waiting best o = CarriesTo None s at resting entered waiting best o
 
 -- The threads go on at one of the n places, at positions from lo to hi.
 abbrev pub AllIn : ℕ → ℕ → ℕ → List Thread → Type 0
@@ -102,17 +106,17 @@ pub record IsGrown (n hi start at : ℕ) (threads0 : ThreadList) (entered0 : Mem
 -- A closure under way: it gives what the threads give that waited when it began.
 pub record IsClosing (s : Sight) (n hi start at : ℕ) (waiting0 : List (Trace × Pair)) (threads0 : ThreadList) (entered0 : Members)
     (threads : ThreadList) (entered : Members) (frames : List Frame) (slots : List (Option ℕ)) : Type 0 where
-  pub carries : (below : List (Trace × Pair)) (best o : Option Trace) →
-      Carries s at threads.items entered.items (waits start at frames slots ++ below) best o →
-      Carries s at threads0.items entered0.items (waiting0 ++ below) best o
+  pub carries : (limit : Option ℕ) → IsUpTo at limit → (below : List (Trace × Pair)) (best o : Option Trace) →
+      CarriesTo limit s at threads.items entered.items (waits start at frames slots ++ below) best o →
+      CarriesTo limit s at threads0.items entered0.items (waiting0 ++ below) best o
   pub grown : IsGrown n hi start at threads0 entered0 threads entered
   pub some : 0 < length entered.items
   pub frames_in : AllInside n threads.width frames
 
 -- The threads of a position have gone on so far: `left` are those still to go on.
 pub record IsStepping (s : Sight) (n hi at : ℕ) (all left : List Thread) (threads0 threads : ThreadList) (entered : Members) : Type 0 where
-  pub carries : (below : List (Trace × Pair)) (best o : Option Trace) → Carries s at threads.items entered.items (map pending left ++ below) best o →
-      Carries s at [] [] (map pending all ++ below) best o
+  pub carries : (limit : Option ℕ) → IsUpTo at limit → (below : List (Trace × Pair)) (best o : Option Trace) →
+      CarriesTo limit s at threads.items entered.items (map pending left ++ below) best o → CarriesTo limit s at [] [] (map pending all ++ below) best o
   pub sound : HasRoom n hi at threads entered
   pub same_room : threads.room ≡ threads0.room
   pub same_most : threads.most ≡ threads0.most
@@ -127,11 +131,14 @@ waiting_starts is_open width at last = if is_open then starts width at (last + 1
 
 -- The trace of the first walk of the least start in from..=last that has one; None if there is no
 -- such start.
-abbrev pub GivesTrace : Sight → ℕ → ℕ → ℕ → Option Trace → Type 0
-GivesTrace s width from last o =
-    ((o ≡ None) × ((y : ℕ) → from ≤ y → y ≤ last → HasNoWalkFrom s y))
-    ⊎ ((x : ℕ) × (w : List Pair) × (from ≤ x) × (x ≤ last) × IsFirstFrom s x w × ((y : ℕ) → from ≤ y → y < x → HasNoWalkFrom s y)
+abbrev pub GivesTraceTo : Option ℕ → Sight → ℕ → ℕ → ℕ → Option Trace → Type 0
+GivesTraceTo limit s width from last o =
+    ((o ≡ None) × ((y : ℕ) → from ≤ y → y ≤ last → HasNoWalkTo limit s y))
+    ⊎ ((x : ℕ) × (w : List Pair) × (from ≤ x) × (x ≤ last) × IsFirstTo limit s x w × ((y : ℕ) → from ≤ y → y < x → HasNoWalkTo limit s y)
     × (o ≡ Some (noted (note s.places) (sets_out width x).0 w)))
+
+abbrev pub GivesTrace : Sight → ℕ → ℕ → ℕ → Option Trace → Type 0
+GivesTrace s width from last o = GivesTraceTo None s width from last o
 
 -- Whether one of the starts has a walk.
 abbrev pub Tells : Sight → ℕ → ℕ → Option Ending → Type 0
@@ -143,9 +150,12 @@ abbrev pub best_of : Option Ending → List (Option ℕ) → Option Trace
 best_of best found = option_map (λ (r : Ending). done r.pattern r.start r.end found) best
 
 -- All that is under way before the position `at`.
+abbrev pub PendingTo : Option ℕ → Sight → ℕ → ℕ → ℕ → List Thread → Option Ending → List (Option ℕ) → Option Trace → Type 0
+PendingTo limit s width last at curr best found o =
+    CarriesTo limit s at [] [] (map pending curr ++ waiting_starts (is_none best) width at last) (best_of best found) o
+
 abbrev pub Pending : Sight → ℕ → ℕ → ℕ → List Thread → Option Ending → List (Option ℕ) → Option Trace → Type 0
-Pending s width last at curr best found o =
-    Carries s at [] [] (map pending curr ++ waiting_starts (is_none best) width at last) (best_of best found) o
+Pending s width last at curr best found o = PendingTo None s width last at curr best found o
 
 -- The threads wait for `at` or later, and are few enough for the next list. Each position since a
 -- thread's walk began was counted.

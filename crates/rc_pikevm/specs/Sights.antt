@@ -1,7 +1,8 @@
 -- Only proofs use this file.
 -- Search parameters: all that a pass sees of a search, without its starts and what is passed over.
-use Rattle.std.specs.Prelude.{ℕ, Bool, List, [], ◌∷◌, IsTrue}
+use Rattle.std.specs.Prelude.{ℕ, ◌≤◌, Bool, List, [], ◌∷◌, IsTrue, Option, Some, None, nat_lt}
 use Rattle.rc_walks.specs.Walks.{Pair, IsFirstWalk, HasNoWalk}
+use Rattle.rc_trails.specs.Limits.{ends_or_out, within}
 use Rattle.rc_program.specs.Text.{Text}
 use Rattle.rc_program.specs.Program.{Place, place_at, ways, is_match_place}
 use Rattle.rc_program.specs.Answer.{Search, Anchoring, only}
@@ -28,3 +29,27 @@ IsFirstFrom s x w = IsFirstWalk (next_of s) (λ n. IsTrue (ends s n)) [] ((0, x)
 
 abbrev pub HasNoWalkFrom : Sight → ℕ → Type 0
 HasNoWalkFrom s x = HasNoWalk (next_of s) (λ n. IsTrue (ends s n)) [] ((0, x) ∷ [])
+
+-- A pass that has come to a position knows nothing of what is past it. So its steps are told for
+-- walks that also end where they come past a limit, whatever the limit is; None is no limit.
+abbrev pub is_past : ℕ → Pair → Bool
+is_past limit n = nat_lt limit n.1
+
+abbrev pub next_to : Option ℕ → Sight → Pair → List Pair
+next_to None s = next_of s
+next_to (Some limit) s = within (next_of s) (is_past limit)
+
+abbrev pub ends_to : Option ℕ → Sight → Pair → Bool
+ends_to None s = ends s
+ends_to (Some limit) s = ends_or_out (ends s) (is_past limit)
+
+-- The position isn't past the limit.
+abbrev pub IsUpTo : ℕ → Option ℕ → Type 0
+IsUpTo at None = Unit {0}
+IsUpTo at (Some limit) = at ≤ limit
+
+abbrev pub IsFirstTo : Option ℕ → Sight → ℕ → List Pair → Type 0
+IsFirstTo limit s x w = IsFirstWalk (next_to limit s) (λ n. IsTrue (ends_to limit s n)) [] ((0, x) ∷ []) w
+
+abbrev pub HasNoWalkTo : Option ℕ → Sight → ℕ → Type 0
+HasNoWalkTo limit s x = HasNoWalk (next_to limit s) (λ n. IsTrue (ends_to limit s n)) [] ((0, x) ∷ [])

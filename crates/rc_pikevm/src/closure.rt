@@ -4,9 +4,10 @@ ghost use Rattle.std.specs.Prelude.{◌≡◌, ◌≢◌, ℕ, ◌+◌, ◌*◌,
 ghost use Rattle.rc_walks.specs.Walks.{Pair};
 ghost use Rattle.rc_text.specs.Text.{Searched};
 ghost use Rattle.rc_pikevm.specs.Near.{IsHere, seen_from, size};
+ghost use Rattle.rc_pikevm.specs.Sights.{IsUpTo};
 ghost use Rattle.rc_pikevm.specs.Trace.{Trace, trace, done};
 ghost use Rattle.rc_pikevm.specs.Moves.{reading};
-ghost use Rattle.rc_pikevm.specs.Passing.{Carries, waits, AllInside, HasRoom, IsGrown};
+ghost use Rattle.rc_pikevm.specs.Passing.{CarriesTo, waits, AllInside, HasRoom, IsGrown};
 ghost use Rattle.rc_pikevm.specs.Entered.{IsMade, IsActed, IsVisited};
 ghost use Rattle.rc_pikevm.specs.declared.moves.Move.TheVariants.{Fork, Save, Stays};
 
@@ -196,14 +197,14 @@ fn drain(spot: &Spot, start: usize, growth: &mut Growth) -> Option<usize>
         (reverse growth.old.stack.items) }
     requires deep { vec_len growth.old.stack ≤ length growth.old.entered.items + 1 }
     requires some { 0 < length growth.old.entered.items }
-    ensures carries { (below : List (Trace × Pair)) (best o : Option Trace)
-        → MatchOption result
-        (Carries (seen_from spot.now text) spot.now.at growth.new.threads.items
+    ensures carries { (limit : Option ℕ) → IsUpTo spot.now.at limit
+        → (below : List (Trace × Pair)) (best o : Option Trace) → MatchOption result
+        (CarriesTo limit (seen_from spot.now text) spot.now.at growth.new.threads.items
         growth.new.entered.items below best o)
-        (λ p. Carries (seen_from spot.now text) spot.now.at growth.new.threads.items
+        (λ p. CarriesTo limit (seen_from spot.now text) spot.now.at growth.new.threads.items
         growth.new.entered.items []
         (Some (done p start spot.now.at growth.new.slots.items)) o)
-        → Carries (seen_from spot.now text) spot.now.at growth.old.threads.items
+        → CarriesTo limit (seen_from spot.now text) spot.now.at growth.old.threads.items
         growth.old.entered.items
         (waits start spot.now.at (reverse growth.old.stack.items) growth.old.slots.items
         ++ below) best o }
@@ -238,14 +239,14 @@ pub fn close(spot: &Spot, root: usize, start: usize, growth: &mut Growth) -> Opt
     requires root_in { root < size spot.now.course }
     requires sound { HasRoom (size spot.now.course) spot.now.course.hi spot.now.at
         growth.old.threads growth.old.entered }
-    ensures carries { (below : List (Trace × Pair)) (best o : Option Trace)
-        → MatchOption result
-        (Carries (seen_from spot.now text) spot.now.at growth.new.threads.items
+    ensures carries { (limit : Option ℕ) → IsUpTo spot.now.at limit
+        → (below : List (Trace × Pair)) (best o : Option Trace) → MatchOption result
+        (CarriesTo limit (seen_from spot.now text) spot.now.at growth.new.threads.items
         growth.new.entered.items below best o)
-        (λ p. Carries (seen_from spot.now text) spot.now.at growth.new.threads.items
+        (λ p. CarriesTo limit (seen_from spot.now text) spot.now.at growth.new.threads.items
         growth.new.entered.items []
         (Some (done p start spot.now.at growth.new.slots.items)) o)
-        → Carries (seen_from spot.now text) spot.now.at growth.old.threads.items
+        → CarriesTo limit (seen_from spot.now text) spot.now.at growth.old.threads.items
         growth.old.entered.items
         ((trace start growth.old.slots.items, (root, spot.now.at)) ∷ below) best o }
     ensures grown { IsGrown (size spot.now.course) spot.now.course.hi start spot.now.at

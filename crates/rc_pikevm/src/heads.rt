@@ -6,6 +6,7 @@ ghost use Rattle.rc_walks.specs.Walks.{Pair};
 ghost use Rattle.rc_program.specs.Heads.{MayGoOn};
 ghost use Rattle.rc_program.specs.Places.{places_of};
 ghost use Rattle.rc_pikevm.specs.Alone.{IsDead};
+ghost use Rattle.rc_pikevm.specs.Entrances.{IsShut};
 ghost use Rattle.rc_pikevm.specs.Moves.{IsSetting, seen_by};
 ghost use Rattle.rc_pikevm.specs.Near.{IsHere, seen_from, size};
 ghost use Rattle.rc_pikevm.specs.Windows.{IsAround, IsBegun, IsWindow};
@@ -22,8 +23,7 @@ pub(crate) fn is_dead(spot: &Spot, place: usize) -> bool
     ghost text: { Searched }
     requires here { IsHere spot.now text }
     requires place_in { place < size spot.now.course }
-    ensures { IsTrue result → (passed : List Pair)
-        → IsDead (seen_from spot.now text) passed (place, spot.now.at) }
+    ensures { IsTrue result → IsShut (seen_from spot.now text) (place, spot.now.at) }
 {
     if spot.at >= spot.course.hi || spot.after.is_empty() {
         return false;

@@ -15,6 +15,7 @@ mod moves;
 mod pass;
 mod race;
 mod race_closure;
+pub mod reach;
 pub mod rule;
 mod scratch;
 pub mod search;

@@ -12,7 +12,7 @@
 ghost use Rattle.std.specs.Prelude.{◌≡◌, ℕ, ◌+◌, ◌-◌, ◌*◌, ◌<◌, ◌≤◌, ◌⊎◌, ⊤, List, [], ◌∷◌, ◌++◌, length, map, min, Option, None, Some, MatchOption, true, false, replicate, ◌^◌, IsTrue, is_none, vec_capacity};
 ghost use Rattle.rc_walks.specs.Walks.{Pair};
 ghost use Rattle.rc_text.specs.Text.{Searched, Keeps, low, high};
-ghost use Rattle.rc_pikevm.specs.Sights.{HasNoWalkFrom};
+ghost use Rattle.rc_pikevm.specs.Sights.{HasNoWalkFrom, IsUpTo};
 ghost use Rattle.rc_needles.specs.Guards.{Guards};
 ghost use Rattle.rc_needles.specs.Prefilters.{needles_of};
 ghost use Rattle.rc_program.specs.Places.{places_of};
@@ -23,7 +23,7 @@ ghost use Rattle.rc_pikevm.specs.Near.{IsHere, seen_from, size};
 ghost use Rattle.rc_pikevm.specs.Moves.{IsSetting, seen_by};
 ghost use Rattle.rc_pikevm.specs.Roots.{StandsFor};
 ghost use Rattle.rc_pikevm.specs.Trace.{Trace, done};
-ghost use Rattle.rc_pikevm.specs.Passing.{Carries, pending, AllIn, AllFrom, count_from, HasRoom, waiting_starts, Pending, IsCounted, best_of};
+ghost use Rattle.rc_pikevm.specs.Passing.{CarriesTo, pending, AllIn, AllFrom, count_from, HasRoom, waiting_starts, Pending, PendingTo, IsCounted, best_of};
 ghost use Rattle.rc_pikevm.specs.Scratches.{IsSame};
 ghost use Rattle.rc_pikevm.specs.Rules.{GivesBy, MayEnter, TellsBy, Turns};
 ghost use Rattle.rc_pikevm.specs.Underway.{IsInLine};
@@ -74,14 +74,14 @@ fn step(spot: &Spot, curr: &Threads, growth: &mut Growth) -> Option<(usize, usiz
     requires capacity { growth.old.entered.capacity ≡ size spot.now.course }
     requires room { count_from (spot.now.at + 1) curr.now.items + size spot.now.course
         ≤ growth.old.threads.room }
-    ensures carries { (below : List (Trace × Pair)) (best o : Option Trace)
-        → MatchOption result
-        (Carries (seen_from spot.now text) spot.now.at growth.new.threads.items
+    ensures carries { (limit : Option ℕ) → IsUpTo spot.now.at limit
+        → (below : List (Trace × Pair)) (best o : Option Trace) → MatchOption result
+        (CarriesTo limit (seen_from spot.now text) spot.now.at growth.new.threads.items
         growth.new.entered.items below best o)
-        (λ r. Carries (seen_from spot.now text) spot.now.at growth.new.threads.items
+        (λ r. CarriesTo limit (seen_from spot.now text) spot.now.at growth.new.threads.items
         growth.new.entered.items []
         (Some (done r.0 r.1 spot.now.at growth.new.slots.items)) o)
-        → Carries (seen_from spot.now text) spot.now.at [] []
+        → CarriesTo limit (seen_from spot.now text) spot.now.at [] []
         (map pending curr.now.items ++ below) best o }
     ensures sound { HasRoom (size spot.now.course) spot.now.course.hi spot.now.at growth.new.threads
         growth.new.entered }
@@ -123,16 +123,16 @@ fn set_out(spot: &Spot, root: usize, is_open: bool, growth: &mut Growth) -> Opti
     requires room { size spot.now.course ≤ growth.old.threads.room }
     requires root { root < size spot.now.course }
     requires stands { StandsFor (seen_from spot.now text) root }
-    ensures carries { (best o : Option Trace)
-        → MatchOption result
-        (Carries (seen_from spot.now text) spot.now.at growth.new.threads.items
+    ensures carries { (limit : Option ℕ) → IsUpTo spot.now.at limit → (limit ≡ None) ⊎ (root ≡ 0)
+        → (best o : Option Trace) → MatchOption result
+        (CarriesTo limit (seen_from spot.now text) spot.now.at growth.new.threads.items
         growth.new.entered.items
         (waiting_starts is_open growth.old.threads.width
         (spot.now.at + 1) spot.now.course.last) best o)
-        (λ r. Carries (seen_from spot.now text) spot.now.at growth.new.threads.items
+        (λ r. CarriesTo limit (seen_from spot.now text) spot.now.at growth.new.threads.items
         growth.new.entered.items []
         (Some (done r.0 r.1 spot.now.at growth.new.slots.items)) o)
-        → Carries (seen_from spot.now text) spot.now.at [] []
+        → CarriesTo limit (seen_from spot.now text) spot.now.at [] []
         (waiting_starts is_open growth.old.threads.width spot.now.at spot.now.course.last) best
         o }
     ensures sound { HasRoom (size spot.now.course) spot.now.course.hi spot.now.at growth.new.threads
@@ -179,16 +179,16 @@ fn advance(
         ≤ growth.old.threads.room }
     requires root { root < size spot.now.course }
     requires stands { StandsFor (seen_from spot.now text) root }
-    ensures carries { (best o : Option Trace)
-        → MatchOption result
-        (Carries (seen_from spot.now text) spot.now.at growth.new.threads.items
+    ensures carries { (limit : Option ℕ) → IsUpTo spot.now.at limit → (limit ≡ None) ⊎ (root ≡ 0)
+        → (best o : Option Trace) → MatchOption result
+        (CarriesTo limit (seen_from spot.now text) spot.now.at growth.new.threads.items
         growth.new.entered.items
         (waiting_starts is_open growth.old.threads.width
         (spot.now.at + 1) spot.now.course.last) best o)
-        (λ r. Carries (seen_from spot.now text) spot.now.at growth.new.threads.items
+        (λ r. CarriesTo limit (seen_from spot.now text) spot.now.at growth.new.threads.items
         growth.new.entered.items []
         (Some (done r.0 r.1 spot.now.at growth.new.slots.items)) o)
-        → Carries (seen_from spot.now text) spot.now.at [] []
+        → CarriesTo limit (seen_from spot.now text) spot.now.at [] []
         (map pending curr.now.items ++ waiting_starts is_open growth.old.threads.width
         spot.now.at spot.now.course.last) best o }
     ensures sound { HasRoom (size spot.now.course) spot.now.course.hi spot.now.at growth.new.threads
@@ -234,7 +234,12 @@ pub(crate) fn empty(slots: &mut Vec<Option<usize>>)
 
 /// Handles one position of a pass: advances the threads, and counts the places entered. Returns the
 /// best walk that has ended so far, with its slots in `found`.
-fn turn(spot: &Spot, root: usize, best: Option<Ending>, scratch: &mut Scratch) -> Option<Ending>
+pub(crate) fn turn(
+    spot: &Spot,
+    root: usize,
+    best: Option<Ending>,
+    scratch: &mut Scratch,
+) -> Option<Ending>
     ghost text: { Searched }
     requires here { IsHere spot.now text }
     requires made { scratch.old.next.entered.capacity ≡ size spot.now.course }
@@ -243,17 +248,19 @@ fn turn(spot: &Spot, root: usize, best: Option<Ending>, scratch: &mut Scratch) -
     requires small { scratch.old.insertions + size spot.now.course < 2 ^ 128 }
     requires root { root < size spot.now.course }
     requires stands { StandsFor (seen_from spot.now text) root }
-    ensures carries { (o : Option Trace)
-        → Pending (seen_from spot.now text) scratch.old.next.threads.width spot.now.course.last
+    ensures carries { (limit : Option ℕ) → IsUpTo spot.now.at limit → (limit ≡ None) ⊎ (root ≡ 0)
+        → (o : Option Trace) → PendingTo limit (seen_from spot.now text) scratch.old.next.threads.width spot.now.course.last
         (spot.now.at + 1) scratch.new.curr.items
         result scratch.new.found.items o
-        → Pending (seen_from spot.now text) scratch.old.next.threads.width spot.now.course.last
+        → PendingTo limit (seen_from spot.now text) scratch.old.next.threads.width spot.now.course.last
         spot.now.at scratch.old.curr.items
         best scratch.old.found.items o }
     ensures lined { IsInLine spot.now.course scratch.old.next.threads.width (spot.now.at + 1)
         scratch.new }
     ensures same { IsSame scratch.old scratch.new }
     ensures counted { IsCounted scratch.new.insertions result }
+    ensures ends { (x : ℕ) → spot.now.at ≤ x → MatchOption best ⊤ (λ r. r.end ≤ x)
+        → MatchOption result ⊤ (λ r. r.end ≤ x) }
     ensures few { scratch.new.insertions ≤ scratch.old.insertions + size spot.now.course }
 {
     scratch.next.clear();

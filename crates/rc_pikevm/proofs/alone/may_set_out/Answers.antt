@@ -1,4 +1,4 @@
-use Rattle.std.proofs.Common.{◌≡◌, ℕ, [], ◌∷◌, inl, ap, arith}
+use Rattle.std.proofs.Common.{◌≡◌, ℕ, None, [], ◌∷◌, inl, ap, arith}
 use Rattle.rc_pikevm.specs.Near.{seen_from}
 use Rattle.rc_pikevm.proofs.AloneLemmas.{dead_on, dead_tried, not_false}
 use Rattle.rc_pikevm.proofs.alone.may_set_out.Goals as goal
@@ -13,7 +13,7 @@ returns-then-is_shut g c _ _ _ =
     let s = seen_from c.args.spot.now g.text in
     let at = c.args.spot.now.at in
     dead_on s at ((c.args.tried, at) ∷ []) 0 c.args.way c.requires.1.1
-    (c.is_shut.ensures c.if-is_shut.true ((c.args.tried, at) ∷ []))
+    (c.is_shut.ensures c.if-is_shut.true None tt ((c.args.tried, at) ∷ []))
 
 pub returns-then-way-tried : goal.returns-then-way-tried
 returns-then-way-tried g c _ _ _ =

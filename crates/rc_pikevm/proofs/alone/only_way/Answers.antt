@@ -1,4 +1,4 @@
-use Rattle.std.proofs.Common.{ℕ, [], ◌∷◌, inl, inr, refl, sym, subst}
+use Rattle.std.proofs.Common.{ℕ, None, [], ◌∷◌, inl, inr, refl, sym, subst}
 use Rattle.rc_pikevm.specs.Near.{seen_from}
 use Rattle.rc_pikevm.specs.Sights.{Sight}
 use Rattle.rc_pikevm.specs.Alone.{IsChosen, IsDead}
@@ -9,7 +9,7 @@ pub returns-then-is_closed : goal.returns-then-is_closed
 returns-then-is_closed g c = inl (refl, c.is_closed.ensures c.if-is_closed.true ((c.args.place, c.args.spot.now.at) ∷ []))
 
 pub returns-then-is_dead : goal.returns-then-is_dead
-returns-then-is_dead g c = inr (refl, c.is_dead.ensures c.if-is_dead.true ((c.args.place, c.args.spot.now.at) ∷ []))
+returns-then-is_dead g c = inr (refl, c.is_dead.ensures c.if-is_dead.true None tt ((c.args.place, c.args.spot.now.at) ∷ []))
 
 pub returns-then-leads_nowhere : goal.returns-then-leads_nowhere
 returns-then-leads_nowhere g c =

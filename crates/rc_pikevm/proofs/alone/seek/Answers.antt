@@ -1,4 +1,4 @@
-use Rattle.std.proofs.Common.{◌≡◌, ℕ, ◌+◌, ◌<◌, ◌≤◌, [], inl, inr, refl, ⊎_elim, sym, subst, arith}
+use Rattle.std.proofs.Common.{◌≡◌, ℕ, ◌+◌, ◌<◌, ◌≤◌, None, [], inl, inr, refl, ⊎_elim, sym, subst, arith}
 use Rattle.std.proofs.lemmas.Bool.{cases_lt}
 use Rattle.rc_pikevm.specs.Sights.{Sight, HasNoWalkFrom}
 use Rattle.rc_pikevm.specs.Near.{seen_from, size}
@@ -119,7 +119,7 @@ starts-preserved g c =
       | in-Reads+else-to-here+else-not-is_shut w ↦
           let m = subst (IsMove (seen_from c.spot_at-spot.result g.text) (place, c.spot_at-spot.result.at)) w.in-Reads.is c.in-Some.ensures.makes in
           let to : w.in-Reads.to ≡ here + 1 = omega (arith, w.if-to-here.false) in
-          let shut = rw (w.spot_at.ensures.course, w.spot_at.ensures.at) at (w.is_shut.ensures w.if-not-is_shut.false []) in
+          let shut = rw (w.spot_at.ensures.course, w.spot_at.ensures.at) at (w.is_shut.ensures w.if-not-is_shut.false None tt []) in
           dead_reads s here [] place w.in-Reads.next w.in-Reads.to (rw (c.spot_at-spot.ensures.course, c.spot_at-spot.ensures.at) at m)
           (subst (λ z. IsDead s [] (w.in-Reads.next, z)) (sym to) shut)
       | in_default-step+else-not-leads_nowhere w ↦

@@ -2,7 +2,7 @@ use Rattle.std.proofs.Common.{◌≡◌, ℕ, ◌+◌, List, ◌∷◌, sym, ap,
 use Rattle.rc_walks.specs.Walks.{Pair}
 use Rattle.rc_pikevm.specs.Near.{seen_from}
 use Rattle.rc_pikevm.specs.Trace.{Trace, trace}
-use Rattle.rc_pikevm.specs.Passing.{Carries, pairs, waiting_starts}
+use Rattle.rc_pikevm.specs.Passing.{CarriesTo, pairs, waiting_starts}
 use Rattle.rc_pikevm.proofs.EntranceLemmas.{carries_in}
 use Rattle.rc_pikevm.proofs.StartLemmas.{waiting_next}
 use Rattle.rc_pikevm.proofs.AloneLemmas.{quiet_start}
@@ -24,7 +24,7 @@ pub returns-clause-begun : goal.returns-clause-begun
 returns-clause-begun g c x l h = c.in_default-close.ensures.grown.begun x l (c.in_default.ensures.begun x h)
 
 pub returns-in-Some-close-clause-carries : goal.returns-in-Some-close-clause-carries
-returns-in-Some-close-clause-carries g c best o x =
+returns-in-Some-close-clause-carries g c limit le free best o x =
     let at : ℕ = c.args.spot.now.at in
     let width : ℕ = c.args.growth.now.threads.width in
     let last : ℕ = c.args.spot.now.course.last in
@@ -32,16 +32,16 @@ returns-in-Some-close-clause-carries g c best o x =
     let next = waiting_next c.args.is_open width at last c.if-not-is_open.false (omega (arith, c.if-spot.false)) in
     let slots : c.empty.new.slots.items ≡ replicate width None =
     c.empty.ensures.slots ∙ ap (λ n. replicate n None) (c.step.new.growth.wide.0 ∙ c.in_default.ensures.same.2) in
-    c.in_default.ensures.carries (waiting_starts c.args.is_open width at last) best o
-    (subst (λ ts. Carries (seen_from c.args.spot.now g.text) at c.step.new.growth.threads.items c.step.new.growth.entered.items ts best o) (sym next)
-    (subst (λ l. Carries (seen_from c.args.spot.now g.text) at c.step.new.growth.threads.items c.step.new.growth.entered.items
+    c.in_default.ensures.carries limit le (waiting_starts c.args.is_open width at last) best o
+    (subst (λ ts. CarriesTo limit (seen_from c.args.spot.now g.text) at c.step.new.growth.threads.items c.step.new.growth.entered.items ts best o) (sym next)
+    (subst (λ l. CarriesTo limit (seen_from c.args.spot.now g.text) at c.step.new.growth.threads.items c.step.new.growth.entered.items
     ((trace at l, (0, at)) ∷ rest) best o) slots
-    (carries_in (seen_from c.args.spot.now g.text) at c.step.new.growth.threads.items c.step.new.growth.entered.items best o
+    (carries_in (seen_from c.args.spot.now g.text) at limit le c.step.new.growth.threads.items c.step.new.growth.entered.items best o
     (trace at c.empty.new.slots.items) rest c.way_in-place.ensures.way
-    (c.in-Some-close.ensures.carries rest best o x))))
+    (c.in-Some-close.ensures.carries limit le rest best o x))))
 
 pub returns-clause-carries : goal.returns-clause-carries
-returns-clause-carries g c best o x =
+returns-clause-carries g c limit le free best o x =
     let at : ℕ = c.args.spot.now.at in
     let width : ℕ = c.args.growth.now.threads.width in
     let last : ℕ = c.args.spot.now.course.last in
@@ -49,22 +49,22 @@ returns-clause-carries g c best o x =
     let next = waiting_next c.args.is_open width at last c.if-not-is_open.false (omega (arith, c.if-spot.false)) in
     let slots : c.empty.new.slots.items ≡ replicate width None =
     c.empty.ensures.slots ∙ ap (λ n. replicate n None) (c.step.new.growth.wide.0 ∙ c.in_default.ensures.same.2) in
-    c.in_default.ensures.carries (waiting_starts c.args.is_open width at last) best o
-    (subst (λ ts. Carries (seen_from c.args.spot.now g.text) at c.step.new.growth.threads.items c.step.new.growth.entered.items ts best o) (sym next)
-    (subst (λ l. Carries (seen_from c.args.spot.now g.text) at c.step.new.growth.threads.items c.step.new.growth.entered.items
+    c.in_default.ensures.carries limit le (waiting_starts c.args.is_open width at last) best o
+    (subst (λ ts. CarriesTo limit (seen_from c.args.spot.now g.text) at c.step.new.growth.threads.items c.step.new.growth.entered.items ts best o) (sym next)
+    (subst (λ l. CarriesTo limit (seen_from c.args.spot.now g.text) at c.step.new.growth.threads.items c.step.new.growth.entered.items
     ((trace at l, (0, at)) ∷ rest) best o) slots
-    (carries_in (seen_from c.args.spot.now g.text) at c.step.new.growth.threads.items c.step.new.growth.entered.items best o
+    (carries_in (seen_from c.args.spot.now g.text) at limit le c.step.new.growth.threads.items c.step.new.growth.entered.items best o
     (trace at c.empty.new.slots.items) rest c.way_in-place.ensures.way
-    (c.in_default-close.ensures.carries rest best o x))))
+    (c.in_default-close.ensures.carries limit le rest best o x))))
 
 pub returns-then-is_dead-clause-carries : goal.returns-then-is_dead-clause-carries
-returns-then-is_dead-clause-carries g c best o x =
+returns-then-is_dead-clause-carries g c limit le free best o x =
     let at : ℕ = c.args.spot.now.at in
     let width : ℕ = c.args.growth.now.threads.width in
     let last : ℕ = c.args.spot.now.course.last in
-    c.in_default.ensures.carries (waiting_starts c.args.is_open width at last) best o
-    (quiet_start (seen_from c.args.spot.now g.text) at width last best o c.args.is_open c.step.new.growth.threads.items c.step.new.growth.entered.items
-    (λ _ _. c.is_dead.ensures c.if-is_dead.true (pairs at c.step.new.growth.entered.items)) x)
+    c.in_default.ensures.carries limit le (waiting_starts c.args.is_open width at last) best o
+    (quiet_start (seen_from c.args.spot.now g.text) at width last best o limit c.args.is_open c.step.new.growth.threads.items c.step.new.growth.entered.items
+    (λ _ _. c.is_dead.ensures c.if-is_dead.true limit le (pairs at c.step.new.growth.entered.items)) x)
 
 pub returns-then-is_dead-clause-begun : goal.returns-then-is_dead-clause-begun
 returns-then-is_dead-clause-begun g c x l h = c.in_default.ensures.begun x h

@@ -3,9 +3,9 @@ use Rattle.rc_walks.specs.Walks.{Pair}
 use Rattle.rc_pikevm.specs.Near.{seen_from}
 use Rattle.rc_pikevm.specs.Sights.{Sight}
 use Rattle.rc_pikevm.specs.Trace.{Trace, trace}
-use Rattle.rc_pikevm.specs.Passing.{AllFrom, Carries, waiting_starts}
+use Rattle.rc_pikevm.specs.Passing.{AllFrom, CarriesTo, waiting_starts}
 use Rattle.rc_pikevm.proofs.EntranceLemmas.{carries_in}
-use Rattle.rc_pikevm.proofs.RootLemmas.{carries_root}
+use Rattle.rc_pikevm.proofs.RootLemmas.{carries_root_to}
 use Rattle.rc_pikevm.proofs.StartLemmas.{waiting_next}
 use Rattle.rc_pikevm.proofs.pass.set_out.Goals as goal
 
@@ -16,7 +16,7 @@ pub returns-clause-begun : goal.returns-clause-begun
 returns-clause-begun g c x l = c.in_default.ensures.grown.begun x l (subst (AllFrom x) (sym c.requires.1.0.0) tt)
 
 pub returns-in-Some-clause-carries : goal.returns-in-Some-clause-carries
-returns-in-Some-clause-carries g c best o x =
+returns-in-Some-clause-carries g c limit le free best o x =
     let s : Sight = seen_from c.args.spot.now g.text in
     let at : ℕ = c.args.spot.now.at in
     let width : ℕ = c.args.growth.now.threads.width in
@@ -24,14 +24,14 @@ returns-in-Some-clause-carries g c best o x =
     let rest : List (Trace × Pair) = waiting_starts c.args.is_open width (at + 1) last in
     let next = waiting_next c.args.is_open width at last c.if-not-is_open.false (omega (arith, c.if-spot.false)) in
     let slots : c.empty.new.slots.items ≡ replicate width None = c.empty.ensures.slots ∙ ap (λ n. replicate n None) c.args.growth.now.wide.0 in
-    subst (λ ts. Carries s at [] [] ts best o) (sym next)
-    (carries_root s c.args.root c.requires.1.1.1.1.1 (trace at (replicate width None)) at rest best o c.requires.0.near.within
-    (subst (λ l. Carries s at [] [] ((trace at l, (c.args.root, at)) ∷ rest) best o) slots
-    (rw (c.requires.1.0.0, c.requires.1.0.1) at (carries_in s at c.args.growth.now.threads.items c.args.growth.now.entered.items best o (trace at c.empty.new.slots.items) rest c.way_in-place.ensures.way
-    (c.in-Some.ensures.carries rest best o x)))))
+    subst (λ ts. CarriesTo limit s at [] [] ts best o) (sym next)
+    (carries_root_to limit s c.args.root c.requires.1.1.1.1.1 free (trace at (replicate width None)) at rest best o c.requires.0.near.within
+    (subst (λ l. CarriesTo limit s at [] [] ((trace at l, (c.args.root, at)) ∷ rest) best o) slots
+    (rw (c.requires.1.0.0, c.requires.1.0.1) at (carries_in s at limit le c.args.growth.now.threads.items c.args.growth.now.entered.items best o (trace at c.empty.new.slots.items) rest c.way_in-place.ensures.way
+    (c.in-Some.ensures.carries limit le rest best o x)))))
 
 pub returns-clause-carries : goal.returns-clause-carries
-returns-clause-carries g c best o x =
+returns-clause-carries g c limit le free best o x =
     let s : Sight = seen_from c.args.spot.now g.text in
     let at : ℕ = c.args.spot.now.at in
     let width : ℕ = c.args.growth.now.threads.width in
@@ -39,8 +39,8 @@ returns-clause-carries g c best o x =
     let rest : List (Trace × Pair) = waiting_starts c.args.is_open width (at + 1) last in
     let next = waiting_next c.args.is_open width at last c.if-not-is_open.false (omega (arith, c.if-spot.false)) in
     let slots : c.empty.new.slots.items ≡ replicate width None = c.empty.ensures.slots ∙ ap (λ n. replicate n None) c.args.growth.now.wide.0 in
-    subst (λ ts. Carries s at [] [] ts best o) (sym next)
-    (carries_root s c.args.root c.requires.1.1.1.1.1 (trace at (replicate width None)) at rest best o c.requires.0.near.within
-    (subst (λ l. Carries s at [] [] ((trace at l, (c.args.root, at)) ∷ rest) best o) slots
-    (rw (c.requires.1.0.0, c.requires.1.0.1) at (carries_in s at c.args.growth.now.threads.items c.args.growth.now.entered.items best o (trace at c.empty.new.slots.items) rest c.way_in-place.ensures.way
-    (c.in_default.ensures.carries rest best o x)))))
+    subst (λ ts. CarriesTo limit s at [] [] ts best o) (sym next)
+    (carries_root_to limit s c.args.root c.requires.1.1.1.1.1 free (trace at (replicate width None)) at rest best o c.requires.0.near.within
+    (subst (λ l. CarriesTo limit s at [] [] ((trace at l, (c.args.root, at)) ∷ rest) best o) slots
+    (rw (c.requires.1.0.0, c.requires.1.0.1) at (carries_in s at limit le c.args.growth.now.threads.items c.args.growth.now.entered.items best o (trace at c.empty.new.slots.items) rest c.way_in-place.ensures.way
+    (c.in_default.ensures.carries limit le rest best o x)))))

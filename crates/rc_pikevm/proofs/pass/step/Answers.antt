@@ -41,16 +41,16 @@ returns-clause-ended g c =
     ⊎_elim (λ few. inl (omega (arith, l, few, c.threads-test.false, c.len-index-end.ensures.value))) (λ some. inr some) c.threads.invariant.stepping.some
 
 pub returns-in-Some-clause-carries : goal.returns-in-Some-clause-carries
-returns-in-Some-clause-carries g c below best o x =
+returns-in-Some-clause-carries g c limit le below best o x =
     let s : Sight = seen_from c.args.spot.now g.text in
     stepping_ends s (size c.args.spot.now.course) c.args.spot.now.course.hi c.args.spot.now.at c.args.curr.now.items c.args.growth.now.threads c.threads.growth.threads c.threads.growth.entered
     c.threads.index (thread_of c.get.result.0 c.get.result.1.now) c.get.ensures.item c.requires.1.0 c.threads.invariant.stepping
     c.close.new.growth.threads.items c.close.new.growth.entered.items c.copy_row.new.slots.items c.close.new.growth.slots.items c.in-Some.number
     (omega (arith, c.if-head-spot.false)) (sym c.copy_row.ensures.items)
-    (λ below best o x. carries_in s c.args.spot.now.at c.threads.growth.threads.items c.threads.growth.entered.items best o
+    (λ limit le below best o x. carries_in s c.args.spot.now.at limit le c.threads.growth.threads.items c.threads.growth.entered.items best o
     (trace c.get.result.0.start c.copy_row.new.slots.items) below c.way_in-place.ensures.way
-    (c.in-Some.ensures.carries below best o x))
-    below best o x
+    (c.in-Some.ensures.carries limit le below best o x))
+    limit le below best o x
 
 pub returns-in-Some-clause-begun : goal.returns-in-Some-clause-begun
 returns-in-Some-clause-begun g c x h =
@@ -71,8 +71,8 @@ threads-preserved g c =
           c.threads.index (thread_of c.get.result.0 c.get.result.1.now) c.get.ensures.item c.requires.1.0 c.threads.invariant.stepping
           c.close.new.growth.threads c.close.new.growth.entered c.copy_row.new.slots.items
           (omega (arith, c.if-head-spot.false)) (sym c.copy_row.ensures.items)
-          (λ below best o x. carries_in s c.args.spot.now.at c.threads.growth.threads.items c.threads.growth.entered.items best o
+          (λ limit le below best o x. carries_in s c.args.spot.now.at limit le c.threads.growth.threads.items c.threads.growth.entered.items best o
           (trace c.get.result.0.start c.copy_row.new.slots.items) below c.way_in-place.ensures.way
-          (c.in_default.ensures.carries below best o x))
+          (c.in_default.ensures.carries limit le below best o x))
           c.in_default.ensures.grown c.in_default.ensures.some;
     }

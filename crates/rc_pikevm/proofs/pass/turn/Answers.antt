@@ -2,7 +2,7 @@ use Rattle.std.proofs.Common.{◌≡◌, ℕ, ◌+◌, ◌-◌, [], ◌++◌, ma
 use Rattle.rc_pikevm.specs.Threads.{ThreadList}
 use Rattle.rc_pikevm.specs.Near.{seen_from, size}
 use Rattle.rc_pikevm.specs.Trace.{done}
-use Rattle.rc_pikevm.specs.Passing.{Carries, Pending, AllIn, IsLined, pending, waiting_starts}
+use Rattle.rc_pikevm.specs.Passing.{CarriesTo, PendingTo, AllIn, IsLined, pending, waiting_starts}
 use Rattle.rc_pikevm.proofs.TurnLemmas.{none_from, lined_next, turned_on, turned_ends}
 use Rattle.rc_pikevm.proofs.pass.turn.Given.{Over}
 use Rattle.rc_pikevm.proofs.pass.turn.Goals as goal
@@ -20,35 +20,35 @@ finish-requires-clause-inside g c = (
 )
 
 pub returns-in-Some-clause-carries : goal.returns-in-Some-clause-carries
-returns-in-Some-clause-carries g c o x =
+returns-in-Some-clause-carries g c limit le free o x =
     let width : ℕ = c.args.scratch.now.next.threads.width in
     let found : c.copy_from_slice.new.self.items ≡ c.advance-end.new.growth.slots.items = c.copy_from_slice.ensures.items ∙ c.deref.ensures.value ∙ c.finish.ensures.slots in
-    turned_ends (seen_from c.args.spot.now g.text) width c.args.spot.now.course.last c.args.spot.now.at c.args.scratch.now.curr.items
+    turned_ends limit (seen_from c.args.spot.now g.text) width c.args.spot.now.course.last c.args.spot.now.at c.args.scratch.now.curr.items
     c.advance-end.new.growth.threads.items c.advance-end.new.growth.entered.items c.args.best c.args.scratch.now.found.items
     c.copy_from_slice.new.self.items o c.is_none.result
     (record { pattern = c.in-Some.number; start = c.in-Some.start; end = c.args.spot.now.at })
     (none_from c.args.best c.is_none.result c.is_none.ensures)
-    (λ best o y. subst (λ w. Carries (seen_from c.args.spot.now g.text) c.args.spot.now.at [] []
+    (λ best o y. subst (λ w. CarriesTo limit (seen_from c.args.spot.now g.text) c.args.spot.now.at [] []
     (map pending c.args.scratch.now.curr.items ++ waiting_starts c.is_none.result w c.args.spot.now.at c.args.spot.now.course.last) best o)
     (wide g (goal.at.returns-in-Some-clause-carries g c).After-clear)
-    (c.in-Some.ensures.carries best o
-    (subst (λ l. Carries (seen_from c.args.spot.now g.text) c.args.spot.now.at c.advance-end.new.growth.threads.items
+    (c.in-Some.ensures.carries limit le free best o
+    (subst (λ l. CarriesTo limit (seen_from c.args.spot.now g.text) c.args.spot.now.at c.advance-end.new.growth.threads.items
     c.advance-end.new.growth.entered.items [] (Some (done c.in-Some.number c.in-Some.start c.args.spot.now.at l)) o) found y)))
-    (subst (λ (l : ThreadList). Pending (seen_from c.args.spot.now g.text) width c.args.spot.now.course.last (c.args.spot.now.at + 1) l.items
+    (subst (λ (l : ThreadList). PendingTo limit (seen_from c.args.spot.now g.text) width c.args.spot.now.course.last (c.args.spot.now.at + 1) l.items
     (Some (record { pattern = c.in-Some.number; start = c.in-Some.start; end = c.args.spot.now.at })) c.copy_from_slice.new.self.items o)
     c.finish.ensures.threads x)
 
 pub returns-clause-carries : goal.returns-clause-carries
-returns-clause-carries g c o x =
+returns-clause-carries g c limit le free o x =
     let width : ℕ = c.args.scratch.now.next.threads.width in
-    turned_on (seen_from c.args.spot.now g.text) width c.args.spot.now.course.last c.args.spot.now.at c.args.scratch.now.curr.items
+    turned_on limit (seen_from c.args.spot.now g.text) width c.args.spot.now.course.last c.args.spot.now.at c.args.scratch.now.curr.items
     c.advance-end.new.growth.threads.items c.advance-end.new.growth.entered.items c.args.best c.args.scratch.now.found.items o c.is_none.result
     (none_from c.args.best c.is_none.result c.is_none.ensures)
-    (λ best o y. subst (λ w. Carries (seen_from c.args.spot.now g.text) c.args.spot.now.at [] []
+    (λ best o y. subst (λ w. CarriesTo limit (seen_from c.args.spot.now g.text) c.args.spot.now.at [] []
     (map pending c.args.scratch.now.curr.items ++ waiting_starts c.is_none.result w c.args.spot.now.at c.args.spot.now.course.last) best o)
     (wide g (goal.at.returns-clause-carries g c).After-clear)
-    (c.in_default.ensures.carries best o
-    (subst (λ w. Carries (seen_from c.args.spot.now g.text) c.args.spot.now.at c.advance-end.new.growth.threads.items
+    (c.in_default.ensures.carries limit le free best o
+    (subst (λ w. CarriesTo limit (seen_from c.args.spot.now g.text) c.args.spot.now.at c.advance-end.new.growth.threads.items
     c.advance-end.new.growth.entered.items (waiting_starts c.is_none.result w (c.args.spot.now.at + 1) c.args.spot.now.course.last) best o)
     (sym (wide g (goal.at.returns-clause-carries g c).After-clear)) y)))
     (rw (c.finish.ensures.threads, c.finish.ensures.found) at x)

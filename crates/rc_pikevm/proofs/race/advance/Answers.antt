@@ -62,7 +62,7 @@ returns-then-is_dead-clause-races g c all x =
     let width : ℕ = c.args.growth.now.threads.width in
     let last : ℕ = c.args.spot.now.course.last in
     raced_quiet (seen_from c.args.spot.now g.text) all at c.step.new.growth.threads.items c.step.new.growth.entered.items c.step.new.best c.step.new.found
-    width last true (λ e. absurd (true≢false e)) (λ _ _. c.is_dead.ensures c.if-is_dead.true (pairs at c.step.new.growth.entered.items))
+    width last true (λ e. absurd (true≢false e)) (λ _ _. c.is_dead.ensures c.if-is_dead.true None tt (pairs at c.step.new.growth.entered.items))
     (c.step.ensures.races all (starts_to width at last) x)
 
 pub returns-then-is_dead-clause-begun : goal.returns-then-is_dead-clause-begun
