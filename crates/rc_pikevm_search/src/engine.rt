@@ -8,6 +8,7 @@ use crate::literals::{Literals, guards_of, literals_of};
 use rc_literals::search;
 use rc_pikevm::cache::Cache;
 use rc_pikevm::kinds::{find_by_kind, is_match_by_kind, search_slots_by_kind};
+use rc_pikevm::reach::{Reached, find_reach};
 use rc_program::matches::is_again;
 use rc_program::program::Program;
 use rc_text::cursor::Cursor;
@@ -27,14 +28,15 @@ pub struct Engine {
 }
 
 impl Engine {
-    ghost use Rattle.std.specs.Prelude.{◌≡◌, is_some, IfOk, IfSome, MatchOption, Option, Some, None, length};
+    ghost use Rattle.std.specs.Prelude.{◌≡◌, ◌+◌, ◌≤◌, is_some, IfOk, IfSome, MatchOption, Option, Some, None, length};
     ghost use Rattle.std.specs.Option.{option_map};
     ghost use Rattle.rc_text.specs.Found.{Found};
     ghost use Rattle.rc_pikevm_search.specs.Walks.{next_start};
     ghost use Rattle.rc_pikevm.specs.KindSlots.{slots_by};
     ghost use Rattle.rc_program.specs.Kinds.{answer_by, answer_by_from};
     ghost use Rattle.rc_text.specs.Bounds.{IsWithinBounds};
-    ghost use Rattle.rc_text.specs.Text.{Keeps};
+    ghost use Rattle.rc_text.specs.Text.{Keeps, slice_end};
+    ghost use Rattle.rc_reach.specs.Settled.{IsSettled};
     ghost use Rattle.rc_program.specs.Matches.{begin_of, end_of, next_match};
     ghost use Rattle.rc_pikevm_search.specs.Engine.{engine_search, Counts, IsEngineCache, IsSameCache};
     ghost use Rattle.rc_pikevm_search.specs.Moved.{IsMoved};
@@ -68,6 +70,21 @@ impl Engine {
             guards_of(&self.literals),
             self.kind,
         )
+    }
+
+    /// Returns the match that a search finds, and how many bytes of the content settle it: at most
+    /// one more than where the slice ends. It allocates nothing, and doesn't go by literals.
+    pub fn find_reach<C: Cursor>(&self, cache: &mut Cache, input: &mut Input<C>) -> Reached
+        requires made { IsEngineCache self.now 0 cache.old }
+        ensures keeps { Keeps input.old input.new }
+        ensures found { result.found
+            ≡ answer_by self.now.kind (engine_search self.now input.old) }
+        ensures bounds { IfSome result.found (IsWithinBounds input.old) }
+        ensures settled { IsSettled self.now.kind result.reach (engine_search self.now input.old) }
+        ensures within { result.reach ≤ slice_end input.old + 1 }
+        ensures cache { IsSameCache cache.old cache.new }
+    {
+        find_reach(cache, input, &self.program, self.kind)
     }
 
     /// Whether a search finds a match. It allocates nothing. Unless matches are passed over, the
