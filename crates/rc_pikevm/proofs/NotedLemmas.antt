@@ -9,7 +9,7 @@ use Rattle.rc_walks.specs.Threads.{noted}
 use Rattle.rc_program.specs.Program.{Place, choice, byte, branch, scalar, guard, slot, accept, place_at}
 use Rattle.rc_program.specs.Answer.{last_of, pattern_at}
 use Rattle.rc_program.specs.Columns.{column_at}
-use Rattle.rc_program.proofs.AnswerLemmas.{last_of_more}
+use Rattle.rc_program.proofs.AnswerLemmas.{last_of_more, walk_ends}
 use Rattle.rc_pikevm.specs.Trace.{Trace, note, note_at}
 use Rattle.rc_pikevm.specs.Found.{fills, last_filled}
 
@@ -84,14 +84,20 @@ module _ (places : List Place) where
   noted_length h [] = refl
   noted_length h (n ∷ w) = noted_length (note places h n) w ∙ length_kept (column_at places n.0) (place_at places n.0) h n.1
 
-  -- the trace of a walk tells the pattern and the end
+  -- the trace of a walk that ends at a match place tells the pattern and the end
+  pub noted_stop : (ways : Pair → List Pair) (Ends : Pair → Type 0) (h : Trace) {passed from w : List Pair} → IsWalk ways Ends passed from w →
+      place_at places (last_of w).0 ≡ accept (pattern_at (place_at places (last_of w).0)) →
+      (noted (note places) h w).ended ≡ Some (pattern_at (place_at places (last_of w).0), (last_of w).1)
+  noted_stop ways Ends h (stops n here fresh end) is = ended_at (column_at places n.0) (place_at places n.0) h n.1 is
+  noted_stop ways Ends h (goes {w = w} n here fresh rest) is =
+      let more = last_of_more ways Ends n rest in
+      noted_stop ways Ends (note places h n) rest (subst (λ (e : Pair). place_at places e.0 ≡ accept (pattern_at (place_at places e.0))) more is)
+      ∙ ap (λ (e : Pair). Some (pattern_at (place_at places e.0), e.1)) (sym more)
+
   pub noted_end : (ways : Pair → List Pair) (Ends : Pair → Type 0) → ((n : Pair) → Ends n → place_at places n.0 ≡ accept (pattern_at (place_at places n.0))) →
       (h : Trace) {passed from w : List Pair} → IsWalk ways Ends passed from w →
       (noted (note places) h w).ended ≡ Some (pattern_at (place_at places (last_of w).0), (last_of w).1)
-  noted_end ways Ends match h (stops n here fresh end) = ended_at (column_at places n.0) (place_at places n.0) h n.1 (match n end)
-  noted_end ways Ends match h (goes {w = w} n here fresh rest) =
-      noted_end ways Ends match (note places h n) rest
-      ∙ ap (λ (e : Pair). Some (pattern_at (place_at places e.0), e.1)) (sym (last_of_more ways Ends n rest))
+  noted_end ways Ends match h {w = w} walk = noted_stop ways Ends h walk (match (last_of w) (walk_ends ways Ends walk))
 
   -- a place is a match place, or nothing is noted of an end there
   ended_or_kept : (c : ℕ) (q : Place) (h : Trace) (i : ℕ) → (q ≡ accept (pattern_at q)) ⊎ ((note_at c q h i).ended ≡ h.ended)

@@ -38,12 +38,12 @@ ends_last : (n : Pair) (w : List Pair) → EndsAt (n ∷ w) (last_of (n ∷ w))
 ends_last n [] = refl
 ends_last n (m ∷ w) = ends_last m w
 
-walk_ends_last : (ways : Pair → List Pair) (Ends : Pair → Type 0) {passed from w : List Pair} → IsWalk ways Ends passed from w → EndsAt w (last_of w)
+pub walk_ends_last : (ways : Pair → List Pair) (Ends : Pair → Type 0) {passed from w : List Pair} → IsWalk ways Ends passed from w → EndsAt w (last_of w)
 walk_ends_last ways Ends (stops n here fresh end) = refl
 walk_ends_last ways Ends (goes {w = w} n here fresh rest) = ends_last n w
 
 -- no way leads out of a match place
-accept_last : (limit : Option ℕ) (s : Sight) (n m : Pair) → place_at s.places n.0 ≡ accept (pattern_at (place_at s.places n.0)) → ¬ IsIn m (next_to limit s n)
+pub accept_last : (limit : Option ℕ) (s : Sight) (n m : Pair) → place_at s.places n.0 ≡ accept (pattern_at (place_at s.places n.0)) → ¬ IsIn m (next_to limit s n)
 accept_last limit s n m is i =
     subst (λ q. IsIn m (map (pair_at n.1) (ways_out (λ l. holds s.text l n.1) (ahead s.text s.hi n.1) q))) is (way_to limit s n m i)
 

@@ -20,5 +20,6 @@ pub mod PatternSpans
 pub mod Marking
 pub mod Fronts
 pub mod Races
+pub mod Reach
 pub mod Rules
 pub mod Alone

@@ -234,6 +234,7 @@ pub(crate) fn empty(slots: &mut Vec<Option<usize>>)
 
 /// Handles one position of a pass: advances the threads, and counts the places entered. Returns the
 /// best walk that has ended so far, with its slots in `found`.
+#[inline(always)]
 pub(crate) fn turn(
     spot: &Spot,
     root: usize,

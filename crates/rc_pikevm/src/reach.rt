@@ -3,29 +3,32 @@
 //! A pass that has come to a position has seen at most four bytes after it. So if no thread is left
 //! there, the bytes up to four further settle what the pass found. If threads are left at the upper
 //! bound, so do the bytes up to four after that.
-ghost use Rattle.std.specs.Prelude.{◌≡◌, ℕ, ◌+◌, ◌<◌, ◌≤◌, ◌^◌, ⊤, length, Option, None, Some, MatchOption, is_none, min, true, false};
+ghost use Rattle.std.specs.Prelude.{◌≡◌, ℕ, ◌+◌, ◌-◌, ◌<◌, ◌≤◌, ◌⊎◌, ◌^◌, ⊤, length, Option, None, Some, MatchOption, MatchBool, is_none, min, true, false};
 ghost use Rattle.rc_text.specs.Bounds.{IsWithinBounds};
-ghost use Rattle.rc_text.specs.Text.{Searched, Keeps, low, slice_end};
+ghost use Rattle.rc_text.specs.Text.{Searched, Keeps, low, high, slice_end};
 ghost use Rattle.rc_text.specs.declared.types.MatchKind.TheVariants.{LeftmostFirst};
 ghost use Rattle.rc_program.specs.Answer.{chosen};
 ghost use Rattle.rc_program.specs.Kinds.{answer_by};
 ghost use Rattle.rc_program.specs.Places.{places_of};
 ghost use Rattle.rc_program.specs.Programs.{search_of};
+ghost use Rattle.rc_reach.specs.Reads.{ReadsBelow};
 ghost use Rattle.rc_reach.specs.Settled.{IsSettled};
 ghost use Rattle.rc_pikevm.specs.Caches.{IsCacheFor};
 ghost use Rattle.rc_pikevm.specs.Found.{IsPickedBy, last_filled};
 ghost use Rattle.rc_pikevm.specs.Moves.{IsSetting, seen_by};
 ghost use Rattle.rc_pikevm.specs.Near.{size};
 ghost use Rattle.rc_pikevm.specs.Passing.{GivesTraceTo, best_of};
+ghost use Rattle.rc_pikevm.specs.Reach.{IsStillOn};
 ghost use Rattle.rc_pikevm.specs.Scratches.{IsSame};
 ghost use Rattle.rc_pikevm.specs.Sights.{IsUpTo};
 
 use crate::cache::Cache;
 use crate::kinds::find_by_kind;
-use crate::pass::{Ending, is_done, turn};
+use crate::pass::{Ending, turn};
 use crate::scratch::Scratch;
 use crate::search::{bounds, starts_of};
 use crate::spot::Course;
+use crate::threads::Threads;
 use crate::window::{open, reach, spot_at};
 use rc_program::program::Program;
 use rc_text::cursor::Cursor;
@@ -42,6 +45,18 @@ pub struct Reached {
     pub found: Option<Match>,
     /// A count of bytes from the start of the content.
     pub reach: usize,
+}
+
+/// Whether a pass goes on after the position `at`: a thread is left, or another will set out.
+fn goes_on(curr: &Threads, best: Option<Ending>, at: usize, last: usize) -> bool
+    ensures { MatchBool result
+        ((0 < length curr.now.items) ⊎ ((is_none best ≡ true) × (at + 1 ≤ last)))
+        ((length curr.now.items ≡ 0) × ((is_none best ≡ false) ⊎ (last ≤ at))) }
+{
+    if curr.len() > 0 {
+        return true;
+    }
+    best.is_none() && at < last
 }
 
 /// Runs one pass for the first walk over the positions from `from` on. Returns the walk of the
@@ -64,6 +79,8 @@ fn pass_far<C: Cursor>(
         course.entry.last (best_of result.0 scratch.new.found.items) }
     ensures ended { MatchOption result.0 ⊤ (λ r. r.end ≤ result.1) }
     ensures whole { is_none result.0 ≡ true → course.entry.last ≤ result.1 }
+    ensures sharp { (result.1 ≡ 0) ⊎ IsStillOn (result.1 - 1) (seen_by course.entry text) from
+        course.entry.last result.1 }
     ensures within { (from ≤ result.1) × (result.1 ≤ course.entry.hi) }
     ensures same { IsSame scratch.old scratch.new }
 {
@@ -75,7 +92,7 @@ fn pass_far<C: Cursor>(
     'positions: while at <= course.hi {
         reach(&mut window, input, at);
         best = turn(&spot_at(course, &window, at), 0, best, scratch);
-        if is_done(&scratch.curr, best, at, course.last) {
+        if !goes_on(&scratch.curr, best, at, course.last) {
             return (best, at);
         }
         at += 1;
@@ -114,6 +131,9 @@ fn choose_far<C: Cursor>(
     ensures chosen { IsPickedBy last_filled (search_of program.now input.old)
         (chosen (search_of program.now input.old)) result.0 scratch.new.found.items }
     ensures settled { IsSettled LeftmostFirst result.1 (search_of program.now input.old) }
+    ensures sharp { low input.old ≤ high input.old
+        → (r : ℕ) → ReadsBelow (search_of program.now input.old) r
+        (chosen (search_of program.now input.old)) → result.1 ≤ r + 4 }
     ensures within { result.1 ≤ slice_end input.old + 1 }
     ensures same { IsSame scratch.old scratch.new }
 {
@@ -142,6 +162,9 @@ fn find_far<C: Cursor>(cache: &mut Cache, input: &mut Input<C>, program: &Progra
     ensures found { result.found ≡ answer_by LeftmostFirst (search_of program.now input.old) }
     ensures bounds { MatchOption result.found ⊤ (IsWithinBounds input.old) }
     ensures settled { IsSettled LeftmostFirst result.reach (search_of program.now input.old) }
+    ensures sharp { low input.old ≤ high input.old
+        → (r : ℕ) → ReadsBelow (search_of program.now input.old) r
+        (chosen (search_of program.now input.old)) → result.reach ≤ r + 4 }
     ensures within { result.reach ≤ slice_end input.old + 1 }
     ensures cache { cache.new ≡ record cache.old { insertions = cache.new.insertions } }
 {
@@ -183,7 +206,8 @@ fn find_whole<C: Cursor>(
 
 /// Returns the match of the given kind, and how many bytes of the content settle it: at most one
 /// more than where the slice ends. It is that many, if the match isn't the leftmost-first one, or
-/// if matches may be passed over. The earliest flag is not read, and no prefilter is used.
+/// if matches may be passed over. Otherwise it is at most four more than what the walks read. The
+/// earliest flag is not read, and no prefilter is used.
 ///
 /// The cache must be made for programs of as many places, and stays so. Nothing is allocated.
 pub fn find_reach<C: Cursor>(
@@ -197,6 +221,9 @@ pub fn find_reach<C: Cursor>(
     ensures found { result.found ≡ answer_by kind (search_of program.now input.old) }
     ensures bounds { MatchOption result.found ⊤ (IsWithinBounds input.old) }
     ensures settled { IsSettled kind result.reach (search_of program.now input.old) }
+    ensures sharp { kind ≡ LeftmostFirst → program.now.passes_over ≡ false
+        → low input.old ≤ high input.old → (r : ℕ) → ReadsBelow (search_of program.now input.old) r
+        (chosen (search_of program.now input.old)) → result.reach ≤ r + 4 }
     ensures within { result.reach ≤ slice_end input.old + 1 }
     ensures cache { cache.new ≡ record cache.old { insertions = cache.new.insertions } }
 {

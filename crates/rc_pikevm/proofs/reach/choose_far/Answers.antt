@@ -1,13 +1,15 @@
-use Rattle.std.proofs.Common.{◌≡◌, ℕ, ◌+◌, ◌≤◌, length, min, refl, sym, ap, subst, ◌∙◌, arith, rules, Option, None}
+use Rattle.std.proofs.Common.{◌≡◌, ℕ, ◌+◌, ◌-◌, ◌≤◌, ◌⊎◌, length, min, refl, sym, ap, subst, ◌∙◌, arith, rules, Option, None}
 use Rattle.rc_text.specs.declared.types.MatchKind.TheVariants.{LeftmostFirst}
 use Rattle.rc_program.specs.Programs.{search_of}
 use Rattle.rc_program.specs.Sought.{anchoring_of}
 use Rattle.rc_program.proofs.AnswerLemmas.{last_start_of}
 use Rattle.rc_pikevm.specs.Moves.{seen}
 use Rattle.rc_pikevm.specs.Passing.{GivesTraceTo, best_of}
+use Rattle.rc_pikevm.specs.Reach.{IsStillOn}
 use Rattle.rc_pikevm.specs.Sights.{IsUpTo, sight_of}
 use Rattle.rc_pikevm.proofs.KeptLemmas.{kept_seen}
 use Rattle.rc_pikevm.proofs.ReachLemmas.{picked, search_inside, settles, settled_whole}
+use Rattle.rc_pikevm.proofs.SharpLemmas.{sharp}
 use Rattle.rc_pikevm.proofs.SearchLemmas.{last_found, outside_chosen}
 use Rattle.rc_pikevm.proofs.reach.choose_far.Given.{Over}
 use Rattle.rc_pikevm.proofs.reach.choose_far.Goals as goal
@@ -64,3 +66,16 @@ returns-clause-settled g c =
     let value = rw (k.slice, k.content) at (rw (j.slice, j.content) at c.up_to_slice_end-reach.ensures.value) in
     let fits = rw (k.slice, k.content) at (rw (j.slice, j.content) at c.up_to_slice_end-reach.ensures.fits) in
     omega (arith, value, fits, c.saturating_add.ensures))
+
+pub returns-then-lo-hi-clause-sharp : goal.returns-then-lo-hi-clause-sharp
+returns-then-lo-hi-clause-sharp g c within = absurd (omega (arith, within, c.if-lo-hi.true, c.bounds-lo.ensures.low, c.bounds-lo.ensures.high))
+
+pub returns-clause-sharp : goal.returns-clause-sharp
+returns-clause-sharp g c within r reads =
+    let s = search_of c.args.program.now c.args.input.now in
+    let at : ℕ = c.pass_far-best.result.1 in
+    let live = subst (λ lo. (at ≡ 0) ⊎ IsStillOn (at - 1) (sight_of s) lo c.starts_of-pattern.result.1 at) c.bounds-lo.ensures.low
+    (subst (λ t. (at ≡ 0) ⊎ IsStillOn (at - 1) (sight_of t) c.bounds-lo.result.0 c.starts_of-pattern.result.1 at)
+    (kept_seen c.args.program.now c.args.input.now c.bounds-lo.new.input c.bounds-lo.ensures.keeps) c.pass_far-best.ensures.sharp) in
+    sharp s c.starts_of-pattern.result.1 at (last_is g (goal.at.returns-clause-sharp g c).After-pass_far-best) live
+    c.up_to_slice_end-reach.result (omega (arith, c.up_to_slice_end-reach.ensures.value, c.saturating_add.ensures)) r reads

@@ -1,5 +1,6 @@
-use Rattle.std.proofs.Common.{◌≡◌, ℕ, ◌+◌, ◌-◌, ◌*◌, ◌<◌, ◌≤◌, ◌⊎◌, length, min, inl, inr, refl, sym, ap, subst, ◌∙◌, ⊎_elim, arith, Option, Some, None, MatchOption, is_none, true, false, true≢false}
+use Rattle.std.proofs.Common.{◌≡◌, ℕ, ◌+◌, ◌-◌, ◌*◌, ◌<◌, ◌≤◌, ◌⊎◌, [], length, min, inl, inr, refl, sym, ap, subst, ◌∙◌, ⊎_elim, arith, Option, Some, None, MatchOption, is_none, true, false, true≢false}
 use Rattle.std.specs.Bool.{⊤}
+use Rattle.std.proofs.lemmas.Bool.{cases_lt}
 use Rattle.std.proofs.lemmas.List.{length-map}
 use Rattle.rc_text.specs.Text.{Keeps}
 use Rattle.rc_program.specs.Places.{place_of}
@@ -8,12 +9,13 @@ use Rattle.rc_pikevm.specs.Moves.{seen_by}
 use Rattle.rc_pikevm.specs.Near.{seen_from, size}
 use Rattle.rc_pikevm.specs.Sights.{Sight, IsUpTo}
 use Rattle.rc_pikevm.specs.Trace.{Trace}
-use Rattle.rc_pikevm.specs.Passing.{GivesTraceTo, IsLined, IsPassing, PendingTo, best_of, waiting_starts}
+use Rattle.rc_pikevm.specs.Passing.{CarriesTo, GivesTraceTo, IsLined, IsPassing, PendingTo, best_of, waiting_starts}
 use Rattle.rc_pikevm.specs.declared.pass.Ending.{Ending}
 use Rattle.rc_pikevm.proofs.KeptLemmas.{kept_back, kept_then, kept_window, kept_begun, kept_around, begun_later}
 use Rattle.rc_pikevm.proofs.PassingLemmas.{begins_to, counts_fit, done_to, none_in, passing_begins, passing_turns}
 use Rattle.rc_pikevm.proofs.ReachLemmas.{up_to_less}
 use Rattle.rc_pikevm.proofs.RootLemmas.{stands_itself}
+use Rattle.rc_pikevm.proofs.SharpLemmas.{first_waits, still_on}
 use Rattle.rc_pikevm.proofs.StartLemmas.{waiting_over}
 use Rattle.rc_pikevm.proofs.reach.pass_far.Given.{Over}
 use Rattle.rc_pikevm.proofs.reach.pass_far.Goals as goal
@@ -37,6 +39,7 @@ positions-init g c =
       carries = λ limit up o x. begins_to s (size c.args.course) c.args.course.hi c.args.scratch.now.next.threads.width
           c.args.from c.args.course.last limit c.clear.new.self.items c.args.scratch.now.found.items no_items c.requires.1.1.1.0.1 o x;
       ended = λ x le. tt;
+      live = inr (refl, c.requires.1.1.1.0.1);
       same = record { capacity = refl; most = refl; width = refl };
     }
 
@@ -149,6 +152,7 @@ positions-preserved g c =
       come = turned g after.After-turn-best;
       carries = λ limit up o x. given g after.After-turn-best limit (up_to_less c.positions.at (c.positions.at + 1 - 1) limit (omega arith) up) o x;
       ended = λ x le. (rw c.spot_at.ensures.at at c.turn-best.ensures.ends) x (omega (arith, le)) (inv.ended x (omega (arith, le)));
+      live = c.if-not-goes_on.ensures;
       same = record {
         capacity = c.turn-best.ensures.same.capacity ∙ inv.same.capacity;
         most = c.turn-best.ensures.same.most ∙ inv.same.most;
@@ -156,23 +160,23 @@ positions-preserved g c =
       };
     }
 
-pub returns-then-is_done-clause-gives : goal.returns-then-is_done-clause-gives
-returns-then-is_done-clause-gives g c limit up =
-    let done = c.is_done.ensures c.if-is_done.true in
+pub returns-then-not-goes_on-clause-gives : goal.returns-then-not-goes_on-clause-gives
+returns-then-not-goes_on-clause-gives g c limit up =
+    let done = c.if-not-goes_on.ensures in
     let width : ℕ = c.args.scratch.now.next.threads.width in
     let last : ℕ = c.args.course.last in
     let at : ℕ = c.positions.at in
     done_to (seen_by c.args.course g.text) (size c.args.course) c.args.course.hi width c.args.from last limit (at + 1)
     c.turn-best.new.scratch.curr.items c.turn-best.result c.turn-best.new.scratch.found.items
-    (λ o x. given g (goal.at.returns-then-is_done-clause-gives g c).After-turn-best limit up o x) done.0
+    (λ o x. given g (goal.at.returns-then-not-goes_on-clause-gives g c).After-turn-best limit up o x) done.0
     (⊎_elim (λ e. ap (λ b. waiting_starts b width (at + 1) last) e) (λ l. waiting_over (is_none c.turn-best.result) width (at + 1) last (omega (arith, l))) done.1)
 
-pub returns-then-is_done-clause-ended : goal.returns-then-is_done-clause-ended
-returns-then-is_done-clause-ended g c = ended g (goal.at.returns-then-is_done-clause-ended g c).After-turn-best
+pub returns-then-not-goes_on-clause-ended : goal.returns-then-not-goes_on-clause-ended
+returns-then-not-goes_on-clause-ended g c = ended g (goal.at.returns-then-not-goes_on-clause-ended g c).After-turn-best
 
-pub returns-then-is_done-clause-whole : goal.returns-then-is_done-clause-whole
-returns-then-is_done-clause-whole g c none =
-    ⊎_elim (λ e. absurd (true≢false (sym none ∙ e))) (λ l. l) (c.is_done.ensures c.if-is_done.true).1
+pub returns-then-not-goes_on-clause-whole : goal.returns-then-not-goes_on-clause-whole
+returns-then-not-goes_on-clause-whole g c none =
+    ⊎_elim (λ e. absurd (true≢false (sym none ∙ e))) (λ l. l) c.if-not-goes_on.ensures.1
 
 pub returns-clause-gives : goal.returns-clause-gives
 returns-clause-gives g c limit up =
@@ -189,3 +193,26 @@ returns-clause-gives g c limit up =
 
 pub returns-clause-ended : goal.returns-clause-ended
 returns-clause-ended g c = c.positions.invariant.ended c.args.course.hi (omega (arith, c.positions.invariant.come.within))
+
+pub returns-then-not-goes_on-clause-sharp : goal.returns-then-not-goes_on-clause-sharp
+returns-then-not-goes_on-clause-sharp g c =
+    let s : Sight = seen_by c.args.course g.text in
+    let at : ℕ = c.positions.at in
+    let width : ℕ = c.args.scratch.now.next.threads.width in
+    let last : ℕ = c.args.course.last in
+    let inv = c.positions.invariant in
+    let w = first_waits (size c.args.course) (min c.args.course.hi (at + 3)) at width last c.positions.scratch.curr.items c.positions.best inv.come.lined.inside
+    inv.live in
+    ⊎_elim (λ l. inl (omega (arith, l)))
+    (λ more. inr (still_on s width c.args.from last (at - 1) at (omega (arith, more)) (omega arith) w.0 w.1 (best_of c.positions.best c.positions.scratch.found.items)
+    w.3 w.4
+    (λ o x. inv.carries (Some (at - 1)) (omega arith) o
+    (subst (λ ts. CarriesTo (Some (at - 1)) s at [] [] ts (best_of c.positions.best c.positions.scratch.found.items) o) (sym w.2) x))))
+    (cases_lt at 1)
+
+pub returns-clause-sharp : goal.returns-clause-sharp
+returns-clause-sharp g c =
+    let inv = c.positions.invariant in
+    let none = ap length (none_in (size c.args.course) c.positions.at (min c.args.course.hi (c.positions.at + 3)) c.positions.scratch.curr.items
+    inv.come.lined.inside (omega (arith, c.positions-test.false))) in
+    absurd (⊎_elim (λ some. let e : ⊥ = omega (arith, some, none) in e) (λ q. let l = q.1 in let e : ⊥ = omega (arith, l, c.positions-test.false, c.args.course.ordered) in e) inv.live)

@@ -1,4 +1,4 @@
-use Rattle.std.proofs.Common.{ℕ, ◌+◌, ◌-◌, ◌≤◌, Option, MatchOption}
+use Rattle.std.proofs.Common.{◌≡◌, ℕ, ◌+◌, ◌-◌, ◌<◌, ◌≤◌, ◌⊎◌, length, Option, MatchOption, is_none, true}
 use Rattle.std.specs.Bool.{⊤}
 use Rattle.rc_text.specs.Text.{Keeps}
 use Rattle.rc_pikevm.specs.Moves.{seen_by}
@@ -22,6 +22,7 @@ invariant-positions g l = record {
       l.scratch.found.items o
       → GivesTraceTo limit (seen_by l.course g.text) l.fn.scratch.next.threads.width l.from l.course.last o;
   ended : (x : ℕ) → l.at ≤ x + 1 → MatchOption l.best ⊤ (λ r. r.end ≤ x);
+  live : (0 < length l.scratch.curr.items) ⊎ ((is_none l.best ≡ true) × (l.at ≤ l.course.last));
   same : IsSame l.fn.scratch l.scratch;
 }
 
