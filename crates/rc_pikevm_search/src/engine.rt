@@ -28,14 +28,17 @@ pub struct Engine {
 }
 
 impl Engine {
-    ghost use Rattle.std.specs.Prelude.{◌≡◌, ◌+◌, ◌≤◌, is_some, IfOk, IfSome, MatchOption, Option, Some, None, length};
+    ghost use Rattle.std.specs.Prelude.{◌≡◌, ℕ, ◌+◌, ◌≤◌, false, is_some, IfOk, IfSome, MatchOption, Option, Some, None, length};
     ghost use Rattle.std.specs.Option.{option_map};
     ghost use Rattle.rc_text.specs.Found.{Found};
     ghost use Rattle.rc_pikevm_search.specs.Walks.{next_start};
     ghost use Rattle.rc_pikevm.specs.KindSlots.{slots_by};
     ghost use Rattle.rc_program.specs.Kinds.{answer_by, answer_by_from};
     ghost use Rattle.rc_text.specs.Bounds.{IsWithinBounds};
-    ghost use Rattle.rc_text.specs.Text.{Keeps, slice_end};
+    ghost use Rattle.rc_text.specs.Text.{Keeps, high, low, slice_end};
+    ghost use Rattle.rc_text.specs.declared.types.MatchKind.TheVariants.{LeftmostFirst};
+    ghost use Rattle.rc_program.specs.Answer.{chosen};
+    ghost use Rattle.rc_reach.specs.Reads.{ReadsBelow};
     ghost use Rattle.rc_reach.specs.Settled.{IsSettled};
     ghost use Rattle.rc_program.specs.Matches.{begin_of, end_of, next_match};
     ghost use Rattle.rc_pikevm_search.specs.Engine.{engine_search, Counts, IsEngineCache, IsSameCache};
@@ -73,7 +76,9 @@ impl Engine {
     }
 
     /// Returns the match that a search finds, and how many bytes of the content settle it: at most
-    /// one more than where the slice ends. It allocates nothing, and doesn't go by literals.
+    /// one more than where the slice ends. If the match is the leftmost-first one, and none may be
+    /// passed over, it is at most four more than what the walks read. It allocates nothing, and
+    /// doesn't go by literals.
     pub fn find_reach<C: Cursor>(&self, cache: &mut Cache, input: &mut Input<C>) -> Reached
         requires made { IsEngineCache self.now 0 cache.old }
         ensures keeps { Keeps input.old input.new }
@@ -81,6 +86,10 @@ impl Engine {
             ≡ answer_by self.now.kind (engine_search self.now input.old) }
         ensures bounds { IfSome result.found (IsWithinBounds input.old) }
         ensures settled { IsSettled self.now.kind result.reach (engine_search self.now input.old) }
+        ensures sharp { self.now.kind ≡ LeftmostFirst → self.now.program.passes_over ≡ false
+            → low input.old ≤ high input.old → (r : ℕ)
+            → ReadsBelow (engine_search self.now input.old) r
+            (chosen (engine_search self.now input.old)) → result.reach ≤ r + 4 }
         ensures within { result.reach ≤ slice_end input.old + 1 }
         ensures cache { IsSameCache cache.old cache.new }
     {
