@@ -1,5 +1,5 @@
 -- How far a pass for the first walk has read.
-use Rattle.std.proofs.Common.{◌≡◌, ℕ, ◌+◌, ◌<◌, ◌≤◌, List, [], ◌∷◌, map, min, inl, inr, ⊎_elim, sym, subst, ap, ◌∙◌, refl, length, arith, false, true, IsTrue, Option, Some, None, MatchOption, is_none, true≢false, if◌then◌else◌}
+use Rattle.std.proofs.Common.{◌≡◌, ℕ, ◌+◌, ◌≤◌, List, [], ◌∷◌, map, min, inl, inr, ⊎_elim, sym, subst, ap, ◌∙◌, refl, length, arith, false, true, Option, Some, None, MatchOption, is_none, true≢false, if◌then◌else◌}
 use Rattle.std.specs.Bool.{⊤}
 use Rattle.std.proofs.lemmas.Bool.{cases_Bool, cases_lt, le-ltb, ltb-false}
 use Rattle.std.proofs.lemmas.Option.{none-some, same_Some}
@@ -10,10 +10,10 @@ use Rattle.rc_walks.specs.Threads.{noted}
 use Rattle.rc_trails.proofs.LimitLemmas.{limit_law}
 use Rattle.rc_program.specs.Program.{accept, place_at, ways_out, pair_at}
 use Rattle.rc_program.specs.Text.{holds, ahead}
-use Rattle.rc_program.specs.Answer.{Search, Chosen, IsStart, chosen, ends, is_anchored, last_of, next_of, pattern_at}
+use Rattle.rc_program.specs.Answer.{Search, Chosen, chosen, ends, is_anchored, last_of, next_of, pattern_at}
 use Rattle.rc_program.proofs.AnswerLemmas.{last_start_of, start_to_last}
 use Rattle.rc_reach.specs.Reads.{AreKnownStarts, IsBoundKnown, IsKnownBelow, IsKnownStart, ReadsBelow}
-use Rattle.rc_reach.specs.Settled.{IsInside, IsSettled, IsWalkSettled}
+use Rattle.rc_reach.specs.Settled.{IsInside, IsSettled}
 use Rattle.rc_reach.proofs.KnownLemmas.{few_seen}
 use Rattle.rc_reach.proofs.LawLemmas.{reach_law}
 use Rattle.rc_reach.proofs.SliceLemmas.{slice_law}

@@ -1,20 +1,19 @@
 -- A pass that tells its reach reads no further than it has to: where it still had a thread, some trail leads there.
-use Rattle.std.proofs.Common.{◌≡◌, ℕ, ◌+◌, ◌-◌, ◌<◌, ◌≤◌, ◌⊎◌, List, [], ◌∷◌, ◌++◌, map, min, length, inl, inr, ⊎_elim, sym, subst, ap, ap₂, ◌∙◌, refl, arith, Bool, false, true, IsTrue, Option, Some, None, MatchOption, IfSome, is_none, true≢false, ◌||◌, if◌then◌else◌}
+use Rattle.std.proofs.Common.{◌≡◌, ℕ, ◌+◌, ◌-◌, ◌<◌, ◌≤◌, ◌⊎◌, List, [], ◌∷◌, ◌++◌, map, length, inl, inr, ⊎_elim, sym, subst, ap, ap₂, ◌∙◌, refl, arith, Bool, false, true, IsTrue, Option, Some, None, is_none, true≢false, ◌||◌, if◌then◌else◌}
 use Rattle.std.proofs.lemmas.Bool.{cases_Bool, cases_lt, lt-ltb, ltb-true}
 use Rattle.std.proofs.lemmas.Option.{none-some, same_Some}
-use Rattle.rc_walks.specs.Walks.{Pair, IsIn, IsWalk, stops, goes, IsBefore, IsFirstWalk, EndsAt}
-use Rattle.rc_walks.specs.Threads.{IsFirstOf, over, found, noted}
+use Rattle.rc_walks.specs.Walks.{Pair, IsIn, IsWalk, stops, goes, IsBefore, IsFirstWalk}
+use Rattle.rc_walks.specs.Threads.{over, found, noted}
 use Rattle.rc_trails.specs.Limits.{ends_or_out, within}
 use Rattle.rc_trails.specs.Trails.{IsNoLater, IsTrail}
 use Rattle.rc_trails.proofs.LimitLemmas.{limit_law}
-use Rattle.rc_program.specs.Program.{accept, place_at}
-use Rattle.rc_program.specs.Columns.{column_at}
+use Rattle.rc_program.specs.Program.{place_at}
 use Rattle.rc_program.specs.Answer.{Search, Chosen, chosen, ends, last_of, next_of, only, pattern_at}
 use Rattle.rc_program.proofs.AnswerLemmas.{chosen_law, last_start_of, match_place_is, start_within_last, walk_ends}
 use Rattle.rc_reach.specs.Reads.{IsKnownStart, ReadsBelow}
 use Rattle.rc_pikevm.specs.Sights.{Sight, IsFirstTo, ends as sight_ends, ends_to, is_past, next_of as next_of_sight, next_to, sight_of}
 use Rattle.rc_pikevm.specs.Threads.{Thread}
-use Rattle.rc_pikevm.specs.Trace.{Trace, note, sets_out, trace}
+use Rattle.rc_pikevm.specs.Trace.{Trace, note, sets_out}
 use Rattle.rc_pikevm.specs.Passing.{AllIn, CarriesTo, GivesTraceTo, pending, waiting_starts}
 use Rattle.rc_pikevm.specs.Reach.{IsStillOn}
 use Rattle.rc_pikevm.specs.declared.pass.Ending.{Ending}

@@ -9,7 +9,6 @@ ghost use Rattle.rc_text.specs.Text.{Searched, Keeps, low, high, slice_end};
 ghost use Rattle.rc_text.specs.declared.types.MatchKind.TheVariants.{LeftmostFirst};
 ghost use Rattle.rc_program.specs.Answer.{chosen};
 ghost use Rattle.rc_program.specs.Kinds.{answer_by};
-ghost use Rattle.rc_program.specs.Places.{places_of};
 ghost use Rattle.rc_program.specs.Programs.{search_of};
 ghost use Rattle.rc_reach.specs.Reads.{ReadsBelow};
 ghost use Rattle.rc_reach.specs.Settled.{IsSettled};

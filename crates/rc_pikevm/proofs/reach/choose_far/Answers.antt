@@ -1,9 +1,8 @@
-use Rattle.std.proofs.Common.{◌≡◌, ℕ, ◌+◌, ◌-◌, ◌≤◌, ◌⊎◌, length, min, refl, sym, ap, subst, ◌∙◌, arith, rules, Option, None}
+use Rattle.std.proofs.Common.{◌≡◌, ℕ, ◌-◌, ◌⊎◌, ap, subst, ◌∙◌, arith, Option, None}
 use Rattle.rc_text.specs.declared.types.MatchKind.TheVariants.{LeftmostFirst}
 use Rattle.rc_program.specs.Programs.{search_of}
 use Rattle.rc_program.specs.Sought.{anchoring_of}
 use Rattle.rc_program.proofs.AnswerLemmas.{last_start_of}
-use Rattle.rc_pikevm.specs.Moves.{seen}
 use Rattle.rc_pikevm.specs.Passing.{GivesTraceTo, best_of}
 use Rattle.rc_pikevm.specs.Reach.{IsStillOn}
 use Rattle.rc_pikevm.specs.Sights.{IsUpTo, sight_of}
