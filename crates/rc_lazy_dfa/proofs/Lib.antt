@@ -7,3 +7,5 @@ pub mod CellLemmas
 pub mod TableLemmas
 pub mod SearchLemmas
 pub mod MakeLemmas
+pub mod SetLemmas
+pub mod WhichLemmas

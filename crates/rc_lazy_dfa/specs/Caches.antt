@@ -1,7 +1,7 @@
 -- Lazy DFA: its cache, with the states of each direction.
-use Rattle.std.specs.Prelude.{◌≡◌, ◌⊎◌, ℕ, ◌+◌, ◌<◌, Bool, [], max}
+use Rattle.std.specs.Prelude.{◌≡◌, ◌⊎◌, ℕ, ◌+◌, ◌<◌, Bool, [], max, IfSome}
 use Rattle.rc_dfa.specs.declared.automaton.Automaton.{Automaton}
-use Rattle.rc_dfa.specs.declared.automaton.Direction.TheVariants.{Forwards, Backwards}
+use Rattle.rc_dfa.specs.declared.automaton.Direction.TheVariants.{Forwards, Overlapping, Backwards}
 use Rattle.rc_dfa.specs.Machine.{Machine}
 use Rattle.rc_dfa.specs.Automata.{machine_of}
 use Rattle.rc_lazy_dfa.specs.Stores.{frame_of, minimum_of, Spends}
@@ -9,6 +9,7 @@ use Rattle.rc_lazy_dfa.specs.Halves.{IsHalf}
 use Rattle.rc_lazy_dfa.specs.Courses.{MayGiveUp}
 use Rattle.rc_lazy_dfa.specs.declared.lazy.Lazy.{Lazy}
 use Rattle.rc_lazy_dfa.specs.declared.lazy.Cache.{Cache}
+use Rattle.rc_lazy_dfa.specs.declared.which.Ends.{Ends}
 use Rattle.rc_lazy_dfa.specs.declared.error.LazyError.{LazyError}
 use Rattle.rc_lazy_dfa.specs.declared.error.LazyError.TheVariants.{Memory, TooSmall}
 
@@ -34,6 +35,7 @@ AreHalves l m n = (machine_of l.automaton Forwards ≡ m) × (machine_of l.autom
 pub record IsCacheOf (l : Lazy) (c : Cache) : Type 0 where
   pub forward_is : IsHalf (frame_of l.automaton Forwards) c.forward
   pub reverse_is : IsHalf (frame_of l.automaton Backwards) c.reverse
+  pub overlapping_is : IfSome c.overlapping (λ (e : Ends). IsHalf (frame_of l.automaton Overlapping) e.half)
   pub forward_capacity : c.forward.store.capacity ≡ l.capacity
   pub reverse_capacity : c.reverse.store.capacity ≡ l.capacity
 

@@ -8,3 +8,4 @@ pub mod Caches
 pub mod CacheLaws
 pub mod Errors
 pub mod Rows
+pub mod Overlaps

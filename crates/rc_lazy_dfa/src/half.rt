@@ -1,5 +1,5 @@
 //! Lazy determinization: the states of one direction, and the steps that add to them.
-ghost use Rattle.std.specs.Prelude.{◌≡◌, ◌<◌, ◌≤◌, length, IfOk, IfErr, MatchOption, []};
+ghost use Rattle.std.specs.Prelude.{◌≡◌, ◌<◌, ◌≤◌, length, IfOk, IfErr, MatchOption, [], true};
 ghost use Rattle.rc_determinize.specs.Places.{state_of};
 ghost use Rattle.rc_determinize.specs.States as states;
 ghost use Rattle.rc_dfa.specs.Machine.{IsAsked, Leads, Begins};
@@ -7,7 +7,7 @@ ghost use Rattle.rc_lazy_dfa.specs.Stores.{Frame, frame_of, Spends, IsRefused, I
 ghost use Rattle.rc_lazy_dfa.specs.Halves.{IsHalf, IsFresh, IsPlace};
 ghost use Rattle.rc_dfa.specs.Laws.{IsWithin};
 ghost use Rattle.rc_dfa.specs.Runs.{IsByte};
-ghost use Rattle.rc_lazy_dfa.specs.Moves.{IsNamed};
+ghost use Rattle.rc_lazy_dfa.specs.Moves.{Grows, IsNamed};
 
 use crate::cells::{QUIT, UNKNOWN, column, mode};
 use crate::error::Refusal;
@@ -148,7 +148,53 @@ impl Half {
     }
 
     /// Returns the cell of a row and a byte; None is the end. If it isn't known, the step is made,
-    /// and the cell is known from then on.
+    /// and the cell is known from then on. Also returns whether all earlier rows were kept.
+    #[inline(always)]
+    pub(crate) fn follow(
+        &mut self,
+        automaton: &Automaton,
+        direction: Direction,
+        row: usize,
+        beside: Option<u8>,
+    ) -> Result<Named, Refusal>
+        ghost f: { Frame }
+        requires same { frame_of automaton.now direction ≡ f }
+        requires half { IsHalf f self.old }
+        requires row { IsPlace f self.old.store row }
+        requires byte { IsByte beside }
+        ensures half { IsHalf f self.new }
+        ensures spends { Spends f self.old.store self.new.store 1 }
+        ensures leads { IfOk result (λ named. (s : states.State)
+            → IsRow f.width self.old.store.states row s
+            → IsKnown f self.new.store.states beside (Leads f.machine s beside) named.cell) }
+        ensures grows { IfOk result (λ named. named.kept ≡ true
+            → Grows self.old.store.states self.new.store.states) }
+        ensures refused { IfErr result (IsRefused f self.old.store self.new.store) }
+    {
+        let column = column(automaton.classes(), self.store.width, beside);
+        let known = self.store.cells[row + column];
+        if known != UNKNOWN {
+            return Ok(Named {
+                cell: known,
+                kept: true,
+            });
+        }
+        if !automaton.may_read(beside) {
+            self.store.write(row, column, QUIT);
+            return Ok(Named {
+                cell: QUIT,
+                kept: true,
+            });
+        }
+        self.lead(automaton, direction, row, beside)?;
+        let named = self.name()?;
+        if named.kept {
+            self.store.write(row, column, named.cell);
+        }
+        Ok(named)
+    }
+
+    /// Returns the cell of a row and a byte, as `follow` does.
     #[inline(always)]
     pub(crate) fn next(
         &mut self,
@@ -169,20 +215,7 @@ impl Half {
             → IsKnown f self.new.store.states beside (Leads f.machine s beside) cell) }
         ensures refused { IfErr result (IsRefused f self.old.store self.new.store) }
     {
-        let column = column(automaton.classes(), self.store.width, beside);
-        let known = self.store.cells[row + column];
-        if known != UNKNOWN {
-            return Ok(known);
-        }
-        if !automaton.may_read(beside) {
-            self.store.write(row, column, QUIT);
-            return Ok(QUIT);
-        }
-        self.lead(automaton, direction, row, beside)?;
-        let named = self.name()?;
-        if named.kept {
-            self.store.write(row, column, named.cell);
-        }
+        let named = self.follow(automaton, direction, row, beside)?;
         Ok(named.cell)
     }
 

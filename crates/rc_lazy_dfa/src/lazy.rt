@@ -8,9 +8,11 @@ ghost use Rattle.rc_lazy_dfa.specs.Stores.{frame_of, minimum_of};
 use crate::error::LazyError;
 use crate::half::{Half, starts_in};
 use crate::search;
+use crate::which::Ends;
 use rc_dfa::automaton::{Automaton, Direction};
 use rc_dfa::ended::Ended;
 use rc_dfa::halves::Halves;
+use rc_pattern_set::sets::PatternSet;
 use rc_text::cursor::Cursor;
 use rc_text::input::Input;
 use rc_text::types::Anchored;
@@ -32,6 +34,8 @@ pub struct Lazy {
 pub struct Cache {
     forward: Half,
     reverse: Half,
+    /// What overlapping searches keep, if the cache is for these too.
+    overlapping: Option<Ends>,
     alloc: Global,
 }
 
@@ -63,8 +67,14 @@ fn is_asked(automaton: &Automaton, anchored: &Anchored) -> bool
 }
 
 impl Lazy {
-    ghost use Rattle.std.specs.Prelude.{◌≡◌, IfOk, IfErr};
+    ghost use Rattle.std.specs.Prelude.{◌≡◌, ◌≤◌, IfOk, IfErr, IsTrue};
+    ghost use Rattle.rc_text.specs.Text.{Keeps, high, low};
+    ghost use Rattle.rc_program.specs.Sought.{text_of};
+    ghost use Rattle.rc_dfa.specs.Automata.{machine_of};
+    ghost use Rattle.rc_dfa.specs.Machine.{IsAsked};
+    ghost use Rattle.rc_dfa.specs.declared.automaton.Direction.TheVariants.{Overlapping};
     ghost use Rattle.rc_lazy_dfa.specs.Caches.{IsCacheOf, IsFreshCache, IsLazyOf, IsNone, least_of};
+    ghost use Rattle.rc_lazy_dfa.specs.Overlaps.{AddsOnly, HasEach, IsMet};
 
     /// A lazy DFA for this automaton, with `capacity` bytes for the states of each direction. The
     /// error is `TooSmall` if that is less than the least that suffices, and `Memory` if the least
@@ -106,8 +116,52 @@ impl Lazy {
         Ok(Cache {
             forward,
             reverse,
+            overlapping: None,
             alloc,
         })
+    }
+
+    /// A cache for searches that is for overlapping ones too, with no states yet. `Err` means out
+    /// of memory.
+    pub fn create_overlapping_cache(&self, alloc: Global) -> Result<Cache, AllocError>
+        ensures made { IfOk result (IsCacheOf self.now) }
+        ensures fresh { IfOk result IsFreshCache }
+    {
+        let mut cache = self.create_cache(alloc)?;
+        let ends = Ends::new(alloc, &self.automaton, self.capacity)?;
+        cache.overlapping = Some(ends);
+        Ok(cache)
+    }
+
+    /// Inserts into the set each pattern that has a match from the position `from` on, up to the
+    /// end of the input's bounds, as far as the set can hold it. Returns false if some may be
+    /// missing: the cache isn't for overlapping searches, its capacity or memory doesn't suffice,
+    /// or a byte may not be read.
+    pub fn which_patterns<C: Cursor>(
+        &self,
+        cache: &mut Cache,
+        input: &mut Input<C>,
+        from: usize,
+        set: &mut PatternSet,
+    ) -> bool
+        requires cache { IsCacheOf self.now cache.old }
+        requires asked { IsAsked (machine_of self.now.automaton Overlapping) input.old.anchored }
+        requires low { low input.old ≤ from }
+        requires high { from ≤ high input.old }
+        ensures cache { IsCacheOf self.now cache.new }
+        ensures keeps { Keeps input.old input.new }
+        ensures adds { AddsOnly (IsMet (machine_of self.now.automaton Overlapping)
+            (text_of (machine_of self.now.automaton Overlapping).setting.terminator input.old)
+            (high input.old) from input.old.anchored) set.old set.new }
+        ensures all { IsTrue result → HasEach (IsMet (machine_of self.now.automaton Overlapping)
+            (text_of (machine_of self.now.automaton Overlapping).setting.terminator input.old)
+            (high input.old) from input.old.anchored) set.new }
+    {
+        let Some(ends) = &mut cache.overlapping else {
+            return false;
+        };
+        let anchored = input.get_anchored();
+        ends.search(&self.automaton, input, &anchored, from, set)
     }
 }
 
@@ -135,6 +189,14 @@ impl Cache {
             .store
             .used
             .saturating_add(self.reverse.store.used)
+    }
+
+    /// Returns how many bytes overlapping searches take beside, or `usize::MAX` if that is more.
+    pub fn overlapping_usage(&self) -> usize {
+        match &self.overlapping {
+            Some(ends) => ends.memory_usage(),
+            None => 0,
+        }
     }
 
     /// Returns how many bytes the states of each direction may take.

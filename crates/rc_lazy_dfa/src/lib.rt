@@ -18,3 +18,4 @@ mod rows;
 mod run;
 mod search;
 mod store;
+mod which;

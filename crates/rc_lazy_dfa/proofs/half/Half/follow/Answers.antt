@@ -5,8 +5,8 @@ use Rattle.rc_lazy_dfa.specs.Stores.{frame_of, Names}
 use Rattle.rc_lazy_dfa.specs.Moves.{Grows}
 use Rattle.rc_lazy_dfa.specs.declared.store.Store.{Store}
 use Rattle.rc_lazy_dfa.proofs.StepLemmas.{cell_says, column_by, cell_made, unread_by, read_by, led_within, there_still, same_still}
-use Rattle.rc_lazy_dfa.proofs.half.Half.next.Goals as goal
-use Rattle.rc_lazy_dfa.proofs.half.Half.next.Goals.{After-column-column, After-may_read, In_ok-named}
+use Rattle.rc_lazy_dfa.proofs.half.Half.follow.Goals as goal
+use Rattle.rc_lazy_dfa.proofs.half.Half.follow.Goals.{After-column-column, After-may_read, In_ok-named}
 
 column : (g : _) (c : After-column-column g) → c.column-column.result ≡ column_of g.f.classes g.f.width c.args.beside
 column g c =
