@@ -6,8 +6,9 @@ use denote.Struct.Props.{props}
 use Rattle.rc_dfa.specs.Automata.{classes_of, machine_of, samples_of}
 use Rattle.rc_dfa.specs.Samples.{AreSamples}
 use Rattle.rc_dfa.specs.declared.automaton.Direction.{Direction}
-use Rattle.rc_dfa.specs.declared.automaton.Direction.TheVariants.{Backwards, Forwards}
-use Rattle.rc_dfa.specs.Machine.{Machine}
+use Rattle.rc_dfa.specs.declared.automaton.Direction.TheVariants.{Backwards, Forwards, Overlapping}
+use Rattle.rc_dfa.specs.Machine.{Machine, forwards}
+use Rattle.rc_text.specs.declared.types.MatchKind.TheVariants.{All as all_matches}
 use Rattle.rc_program.specs.Columns.{row_width}
 use Rattle.rc_program.specs.Places.{places_of}
 use Rattle.rc_pikevm.specs.Caches.{Made}
@@ -16,6 +17,7 @@ use Rattle.rc_lazy_dfa.specs.Halves.{IsHalf}
 use Rattle.rc_lazy_dfa.specs.Stores.{Frame, frame_of}
 use Rattle.rc_lazy_dfa.specs.declared.lazy.Lazy.{Lazy}
 use Rattle.rc_lazy_dfa.specs.declared.lazy.Cache as made
+use Rattle.rc_lazy_dfa.specs.declared.which.Ends.{Ends}
 use Rattle.rc_dfa_search.proofs.SameLemmas.{same_classes_of, same_count, same_machines}
 use Rattle.rc_strategy.specs.Caches.{IsCacheBy, IsCacheIn, IsCacheOfBoth, IsSameCacheIn, KeepsStates}
 use Rattle.rc_strategy.specs.Plans.{IsLazyFor, LazyPlan, ServesLazy}
@@ -26,7 +28,7 @@ use Rattle.rc_strategy.specs.declared.engines.Engines.{Engines}
 abbrev AreSame : Lazy → Lazy → Type 0
 AreSame l k =
     (frame_of l.automaton Forwards ≡ frame_of k.automaton Forwards) × (frame_of l.automaton Backwards ≡ frame_of k.automaton Backwards)
-    × (l.capacity ≡ k.capacity)
+    × (frame_of l.automaton Overlapping ≡ frame_of k.automaton Overlapping) × (l.capacity ≡ k.capacity)
 
 module _ (plan : LazyPlan) (l k : Lazy) (h : IsLazyFor plan l) (j : IsLazyFor plan k) where
   same_classes : classes_of l.automaton ≡ classes_of k.automaton
@@ -50,7 +52,8 @@ module _ (plan : LazyPlan) (l k : Lazy) (h : IsLazyFor plan l) (j : IsLazyFor pl
       let same =
       same_machines plan.patterns plan.terminator plan.kind (machine_of l.automaton Forwards) (machine_of l.automaton Backwards) (machine_of k.automaton Forwards)
       (machine_of k.automaton Backwards) h.machines j.machines in
-      (same_frame Forwards same.ahead, same_frame Backwards same.back, h.capacity_is ∙ sym j.capacity_is)
+      let overlapping : Machine → Machine = λ m. record m { direction = forwards all_matches } in
+      (same_frame Forwards same.ahead, same_frame Backwards same.back, same_frame Overlapping (ap overlapping same.ahead), h.capacity_is ∙ sym j.capacity_is)
 
 same_prop : (l k : Lazy) → IsProp (AreSame l k)
 same_prop l k = hlevel props
@@ -65,8 +68,9 @@ other_cache : (l k : Lazy) (c : made.Cache) → AreSame l k → IsCacheOf l c �
 other_cache l k c same i = record {
   forward_is = subst (λ f. IsHalf f c.forward) same.0 i.forward_is;
   reverse_is = subst (λ f. IsHalf f c.reverse) same.1 i.reverse_is;
-  forward_capacity = i.forward_capacity ∙ same.2;
-  reverse_capacity = i.reverse_capacity ∙ same.2;
+  overlapping_is = subst (λ f. IfSome c.overlapping (λ (e : Ends). IsHalf f e.half)) same.2 i.overlapping_is;
+  forward_capacity = i.forward_capacity ∙ same.3;
+  reverse_capacity = i.reverse_capacity ∙ same.3;
 }
 
 -- a cache that was made for some tables by the plan serves all

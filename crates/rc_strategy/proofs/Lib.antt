@@ -14,3 +14,4 @@ pub mod QuestionLemmas
 pub mod FrontLemmas
 pub mod HeldLemmas
 pub mod StartLemmas
+pub mod OverlapLemmas

@@ -5,7 +5,7 @@ use Rattle.rc_text.specs.Found.{Found}
 use Rattle.rc_pattern_set.specs.Sets.{Has}
 use Rattle.rc_program.specs.Answer.{Search, IsStart}
 use Rattle.rc_program.specs.Greatest.{HasNoSpan, IsSpelledIn}
-use Rattle.rc_pikevm.specs.PatternSpans.{AddsSpelled}
+use Rattle.rc_pikevm.specs.PatternSpans.{AddsSpelled, HasSpan}
 
 -- The same search, but it passes no match over.
 abbrev pub unpassed : Search → Search
@@ -30,3 +30,9 @@ pub record AddsBefore (s : Search) (x : ℕ) (old new : List Bool) : Type 0 wher
 abbrev pub AddsTo : Search → Option ℕ → List Bool → List Bool → Type 0
 AddsTo s None = AddsSpelled s
 AddsTo s (Some x) = AddsBefore s x
+
+-- The set keeps what it had, and adds only patterns of which a walk is spelled.
+pub record AddsSome (s : Search) (old new : List Bool) : Type 0 where
+  pub capacity : length new ≡ length old
+  pub keeps : (p : ℕ) → Has old p → Has new p
+  pub only : (p : ℕ) → Has new p → Has old p ⊎ HasSpan s p

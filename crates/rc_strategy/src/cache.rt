@@ -24,7 +24,9 @@ impl Cache {
     {
         let pass = self.pass.memory_usage();
         match &self.lazy {
-            Some(states) => pass.saturating_add(states.memory_usage()),
+            Some(states) => pass
+                .saturating_add(states.memory_usage())
+                .saturating_add(states.overlapping_usage()),
             None => pass,
         }
     }

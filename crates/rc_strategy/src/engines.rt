@@ -175,7 +175,11 @@ impl Engines {
         let Some(tables) = &self.lazy else {
             return Ok(Cache { pass, lazy: None });
         };
-        let states = tables.create_cache(alloc)?;
+        let states = if self.goes_overlapping() {
+            tables.create_overlapping_cache(alloc)?
+        } else {
+            tables.create_cache(alloc)?
+        };
         Ok(Cache {
             pass,
             lazy: Some(states),

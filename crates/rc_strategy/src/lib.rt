@@ -7,6 +7,7 @@ mod entries;
 pub mod laws;
 pub mod lengths;
 mod longest;
+mod overlap;
 mod pass;
 mod question;
 mod route;

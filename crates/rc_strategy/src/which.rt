@@ -193,10 +193,11 @@ impl Engines {
     ///
     /// If the set has each pattern that it can hold, or the lengths and anchors of the patterns
     /// rule a match out between the bounds, nothing is searched. If literals alone decide each
-    /// answer, they are searched for. Else a search finds where the first match begins, if there is
-    /// one, and a pass from there on finds all patterns with a match; for a leftmost kind, passes
-    /// go from start to start while matches are few. With one pattern, the search alone decides.
-    /// Matches that other searches pass over count here.
+    /// answer, they are searched for. With one pattern, a search decides. If no literals guard the
+    /// patterns, the lazy DFA's states tell all that end at a position. Else a search finds where
+    /// the first match begins, if there is one, and a pass from there on finds all patterns with a
+    /// match; for a leftmost kind, passes go from start to start while matches are few. Matches
+    /// that other searches pass over count here.
     pub fn which_patterns<C: Cursor>(
         &self,
         cache: &mut Cache,
@@ -224,6 +225,28 @@ impl Engines {
             self.mark_only(cache, input, set);
             return;
         }
+        if self.mark_overlapping(&mut cache.lazy, input, set) {
+            return;
+        }
+        self.mark_by_passes(cache, input, patterns, set);
+    }
+
+    /// Inserts each pattern that has a match, as far as the set can hold it, by passes: from start
+    /// to start for a leftmost kind, else one from where the first match may begin.
+    fn mark_by_passes<C: Cursor>(
+        &self,
+        cache: &mut Cache,
+        input: &mut Input<C>,
+        patterns: usize,
+        set: &mut PatternSet,
+    )
+        requires made { IsCacheIn self.now 0 cache.old }
+        requires first { AreOfFirst patterns (places_of self.now.engine.program.places.items) }
+        requires ordered { low input.old ≤ high input.old }
+        ensures keeps { Keeps input.old input.new }
+        ensures adds { AddsSpelled (engine_search self.now.engine input.old) set.old set.new }
+        ensures cache { IsSameCacheIn self.now cache.old cache.new }
+    {
         if self.seeks_starts(input) {
             self.mark_by_starts(cache, input, patterns, set);
             return;

@@ -1,12 +1,12 @@
-use Rattle.std.proofs.Common.{Some, subst, sym}
-use Rattle.rc_program.specs.Answer.{Search}
-use Rattle.rc_program.specs.Greatest.{HasNoSpan}
+use Rattle.std.proofs.Common.{◌∙◌, refl, subst}
 use Rattle.rc_program.specs.Places.{places_of}
 use Rattle.rc_pikevm_search.specs.Engine.{engine_search}
 use Rattle.rc_pikevm.specs.PatternSpans.{AddsSpelled, AreOfFirst}
-use Rattle.rc_strategy.specs.Starts.{IsFirstStart}
-use Rattle.rc_strategy.proofs.CacheLemmas.{same_in}
-use Rattle.rc_strategy.proofs.PatternLemmas.{early_adds, full_adds, kept_search, none_adds}
+use Rattle.rc_strategy.specs.Starts.{AddsSome}
+use Rattle.rc_strategy.proofs.CacheLemmas.{same_in, still_in}
+use Rattle.rc_strategy.proofs.OverlapLemmas.{some_then}
+use Rattle.rc_strategy.proofs.StartLemmas.{same_then}
+use Rattle.rc_strategy.proofs.PatternLemmas.{early_adds, full_adds, kept_search}
 use Rattle.rc_strategy.proofs.engines.Engines.which_patterns.Goals as goal
 
 pub returns-then-has_all-clause-adds : goal.returns-then-has_all-clause-adds
@@ -47,25 +47,24 @@ returns-then-patterns-eq1-clause-adds g c =
     subst (λ q. AddsSpelled q c.args.set.now c.mark_only.new.set)
     (kept_search c.args.self.now.engine c.args.input.now c.leave_none.new.input c.leave_none.ensures.keeps) c.mark_only.ensures.adds
 
-pub mark_by_starts-requires-clause-leftmost : goal.mark_by_starts-requires-clause-leftmost
-mark_by_starts-requires-clause-leftmost g c = (c.seeks_starts.ensures c.if-seeks_starts.true).0
+pub returns-then-mark_overlapping-clause-adds : goal.returns-then-mark_overlapping-clause-adds
+returns-then-mark_overlapping-clause-adds g c =
+    subst (λ q. AddsSpelled q c.args.set.now c.mark_overlapping.new.set)
+    (kept_search c.args.self.now.engine c.args.input.now c.leave_none.new.input c.leave_none.ensures.keeps) (c.mark_overlapping.ensures.all c.if-mark_overlapping.true)
 
-pub mark_by_starts-requires-clause-free : goal.mark_by_starts-requires-clause-free
-mark_by_starts-requires-clause-free g c = (c.seeks_starts.ensures c.if-seeks_starts.true).1
+pub mark_by_passes-requires-clause-made : goal.mark_by_passes-requires-clause-made
+mark_by_passes-requires-clause-made g c =
+    still_in c.args.self.now 0 c.args.cache.now _ c.requires.made (record { pass = refl; lazy = c.mark_overlapping.ensures.cache })
 
-pub returns-then-seeks_starts-clause-adds : goal.returns-then-seeks_starts-clause-adds
-returns-then-seeks_starts-clause-adds g c =
-    subst (λ q. AddsSpelled q c.args.set.now c.mark_by_starts.new.set)
-    (kept_search c.args.self.now.engine c.args.input.now c.leave_none.new.input c.leave_none.ensures.keeps) c.mark_by_starts.ensures.adds
-
-pub mark_from-requires-clause-start : goal.mark_from-requires-clause-start
-mark_from-requires-clause-start g c =
-    subst (λ (q : Search). IsFirstStart q (Some c.in-Some.start))
-    (sym (kept_search c.args.self.now.engine c.leave_none.new.input c.least_start.new.input c.least_start.ensures.keeps)) c.in-Some.ensures.first
-
-pub returns-in_default-clause-adds : goal.returns-in_default-clause-adds
-returns-in_default-clause-adds g c =
+pub returns-clause-adds : goal.returns-clause-adds
+returns-clause-adds g c =
     let e = c.args.self.now.engine in
-    none_adds (engine_search e c.args.input.now) c.args.set.now
-    (subst HasNoSpan (kept_search e c.args.input.now c.leave_none.new.input c.leave_none.ensures.keeps)
-    (subst (IsFirstStart (engine_search e c.leave_none.new.input)) c.in_default.is c.least_start.ensures.first))
+    let kept = kept_search e c.args.input.now c.leave_none.new.input c.leave_none.ensures.keeps in
+    some_then (engine_search e c.args.input.now) c.args.set.now c.mark_overlapping.new.set c.mark_by_passes.new.set
+    (subst (λ q. AddsSome q c.args.set.now c.mark_overlapping.new.set) kept c.mark_overlapping.ensures.adds)
+    (subst (λ q. AddsSpelled q c.mark_overlapping.new.set c.mark_by_passes.new.set)
+    (kept_search e c.leave_none.new.input c.mark_overlapping.new.input c.mark_overlapping.ensures.keeps ∙ kept) c.mark_by_passes.ensures.adds)
+
+pub returns-clause-cache : goal.returns-clause-cache
+returns-clause-cache g c =
+    same_then c.args.self.now c.args.cache.now _ _ (record { pass = refl; lazy = c.mark_overlapping.ensures.cache }) c.mark_by_passes.ensures.cache
