@@ -1,5 +1,5 @@
 -- Overlapping search: what the set has.
-use Rattle.std.proofs.Common.{◌≡◌, ℕ, ◌+◌, ◌<◌, ◌≤◌, ◌⊎◌, zero, suc, Bool, true, false, true≢false, IsTrue, List, [], ◌∷◌, length, slice_get, slice_index, slice_set, get_or, Some, None, inl, inr, ⊎_elim, length-set, refl, sym, subst, ap, ◌∙◌, arith}
+use Rattle.std.proofs.Common.{◌≡◌, ℕ, ◌+◌, ◌<◌, ◌≤◌, Bool, true, false, true≢false, IsTrue, List, length, slice_index, slice_set, get_or, Some, None, inl, inr, ⊎_elim, length-set, refl, sym, subst, ap, ◌∙◌, arith}
 use Rattle.std.proofs.lemmas.Bool.{cases_Bool, cases_eq, cases_lt}
 use Rattle.std.proofs.lemmas.Option.{slice_get-get_or}
 use Rattle.rc_pattern_set.specs.Sets.{Has, members}

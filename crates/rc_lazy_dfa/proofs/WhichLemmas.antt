@@ -1,15 +1,12 @@
 -- Overlapping search: what a search knows at a position.
-use Rattle.std.proofs.Common.{◌≡◌, ◌≢◌, ℕ, ◌+◌, ◌*◌, ◌-◌, ◌<◌, ◌≤◌, ◌⊎◌, ◌↔◌, Bool, true, false, not, true≢false, zero, suc, IsTrue, List, [], ◌∷◌, length, slice_get, slice_index_or, slice_range, Option, Some, None, max, inl, inr, ⊎_elim, refl, sym, subst, ap, ◌∙◌, arith}
+use Rattle.std.proofs.Common.{◌≡◌, ◌≢◌, ℕ, ◌+◌, ◌*◌, ◌-◌, ◌<◌, ◌≤◌, ◌⊎◌, ◌↔◌, Bool, true, false, not, true≢false, zero, suc, IsTrue, List, [], ◌∷◌, length, slice_get, slice_index_or, Option, Some, None, max, ⊎_elim, refl, sym, subst, ap, ◌∙◌, arith}
 use Rattle.std.proofs.Math.Nat.{mul-le-mul_right}
 use Rattle.std.proofs.lemmas.Bool.{cases_eq, cases_lt}
 use Rattle.std.proofs.lemmas.Option.{slice_get_within, slice_get_past, same_Some, slice_get-get_or, get_or_from_slice_get}
-use Rattle.rc_text.specs.Text.{Searched}
 use Rattle.rc_pattern_set.specs.Sets.{Has}
 use Rattle.rc_program.specs.Text.{Text}
-use Rattle.rc_program.specs.Program.{accept, is_match_place, place_at}
+use Rattle.rc_program.specs.Program.{is_match_place}
 use Rattle.rc_program.specs.Sought.{text_of}
-use Rattle.rc_utf8.specs.Places.{places_of}
-use Rattle.rc_determinize.specs.Classes.{TellsAlike}
 use Rattle.rc_determinize.specs.Sets.{ComesHere, EndsHere}
 use Rattle.rc_determinize.specs.States.{State, best_at}
 use Rattle.rc_determinize.specs.Steps.{HasPlace}
@@ -21,18 +18,17 @@ use Rattle.rc_dfa.specs.Machine.{Machine, IsMachine, Leads, Begins, is_dead}
 use Rattle.rc_dfa.specs.Runs.{MayRead, Runs, ahead_at, behind_at}
 use Rattle.rc_dfa.proofs.OverlapLemmas.{overlap_law}
 use Rattle.rc_table_search.specs.Ways.{IsNext}
-use Rattle.rc_table_search.proofs.SpanLemmas.{next_here}
 use Rattle.rc_lazy_dfa.specs.Cells.{unknown, met, quit, row_of, has_died, column_of}
 use Rattle.rc_lazy_dfa.specs.Stores.{Frame, IsFrame, Held, IsRow, IsColumn, IsKnown, Names, frame_of}
 use Rattle.rc_lazy_dfa.specs.Moves.{Grows}
 use Rattle.rc_lazy_dfa.specs.Halves.{IsHalf, IsPlace}
-use Rattle.rc_lazy_dfa.specs.Overlaps.{AddsOnly, AreCollected, ComesTo, EndsAt, HasEach, IsAmong, IsMetAt, IsOverlap, IsTold, IsUnderway, Meets, MeetsAt, MeetsBefore, Overlap, text_over}
+use Rattle.rc_lazy_dfa.specs.Overlaps.{AddsOnly, AreCollected, ComesTo, EndsAt, HasEach, IsAmong, IsOverlap, IsTold, IsUnderway, Meets, MeetsAt, MeetsBefore, Overlap, text_over}
 use Rattle.rc_lazy_dfa.specs.declared.which.Ends.{Ends}
 use Rattle.rc_lazy_dfa.specs.declared.half.Half.{Half}
 use Rattle.rc_lazy_dfa.specs.declared.store.Store.{Store}
 use Rattle.rc_lazy_dfa.proofs.CellLemmas as cells
 use Rattle.rc_lazy_dfa.proofs.CellLemmas.{cell_here, leads_to}
-use Rattle.rc_lazy_dfa.proofs.NameLemmas.{died_or_not, is_read, row_going}
+use Rattle.rc_lazy_dfa.proofs.NameLemmas.{died_or_not, row_going}
 use Rattle.rc_lazy_dfa.proofs.RowLemmas.{same_row, same_column}
 use Rattle.rc_lazy_dfa.proofs.WriteLemmas.{column_inside}
 use Rattle.rc_lazy_dfa.proofs.StepLemmas.{column_is}

@@ -1,9 +1,9 @@
-//! Overlapping search: which patterns have a match. Its states are those for `MatchKind::All`, which
-//! tell each pattern that ends at a position.
+//! Overlapping search: which patterns have a match. Its states are those for `MatchKind::All`,
+//! which tell each pattern that ends at a position.
 //!
 //! A cell with `MET` needs a look: some pattern ends before its byte. Once each that does is in the
-//! set, the cell is collected, and a run follows it without a further look. So a search looks at most
-//! once at each cell while its states are kept.
+//! set, the cell is collected, and a run follows it without a further look. So a search looks at
+//! most once at each cell while its states are kept.
 ghost use Rattle.std.specs.Prelude.{◌≡◌, ◌<◌, ℕ, IsTrue, length};
 ghost use Rattle.rc_pattern_set.specs.Sets.{Has};
 ghost use Rattle.rc_determinize.specs.States.{is_match};
@@ -58,7 +58,8 @@ fn is_full(set: &PatternSet) -> bool
     set.len() == set.capacity()
 }
 
-/// Inserts the patterns of these match places. Returns whether each has a number that a set may have.
+/// Inserts the patterns of these match places. Returns whether each has a number that a set may
+/// have.
 fn insert_all(automaton: &Automaton, places: &[usize], set: &mut PatternSet) -> bool
     requires { (q : ℕ) → HasPlace q places.now
         → IsTrue (is_match (machine_of automaton.now Overlapping).setting.places q) }
@@ -192,15 +193,16 @@ impl Ends {
         Ok(())
     }
 
-    /// Collects the cell of the row and the byte. `Err` means out of memory; then it isn't collected.
+    /// Counts the cell of the row and the byte as collected. `Err` means out of memory; then it
+    /// isn't.
     fn collect(&mut self, automaton: &Automaton, row: usize, byte: u8) -> Result<(), AllocError>
         ghost f: { Frame }
         requires same { frame_of automaton.now Overlapping ≡ f }
         requires half { IsHalf f self.old.half }
         requires row { IsPlace f self.old.half.store row }
         ensures half { self.new.half ≡ self.old.half }
-        ensures short { length self.new.collected.items
-            ≤ max (length self.old.collected.items) (row + column_of f.classes f.width (Some byte) + 1) }
+        ensures short { length self.new.collected.items ≤ max (length self.old.collected.items)
+            (row + column_of f.classes f.width (Some byte) + 1) }
         ensures collected { (index : ℕ) → slice_get self.new.collected.items index ≡ Some true
             → (slice_get self.old.collected.items index ≡ Some true)
             ⊎ (index ≡ row + column_of f.classes f.width (Some byte)) }

@@ -1,5 +1,4 @@
 use Rattle.std.proofs.Common.{◌∙◌, sym, subst}
-use Rattle.rc_table_search.proofs.SpanLemmas.{beside_same}
 use Rattle.rc_dfa.specs.Machine.{Begins}
 use Rattle.rc_lazy_dfa.specs.Stores.{IsKnown}
 use Rattle.rc_lazy_dfa.proofs.WhichLemmas.{begin_dies, begin_goes}

@@ -1,4 +1,4 @@
-use Rattle.std.proofs.Common.{rules, ◌≡◌, ◌∙◌, ◌+◌, ◌-◌, ◌<◌, ◌≤◌, length, false, slice_range, slice_index_or, sym, subst, ap, arith}
+use Rattle.std.proofs.Common.{◌≡◌, ◌∙◌, ◌+◌, ◌-◌, ◌<◌, length, false, slice_range, slice_index_or, subst, arith}
 use Rattle.rc_table_search.specs.Ways.{IsNext}
 use Rattle.rc_table_search.proofs.SpanLemmas.{next_here}
 use Rattle.rc_lazy_dfa.proofs.WhichLemmas.{served}

@@ -1,4 +1,4 @@
-use Rattle.std.proofs.Common.{◌≡◌, ◌∙◌, false, true, sym, subst}
+use Rattle.std.proofs.Common.{◌≡◌, ◌∙◌, false, subst}
 use Rattle.rc_dfa.specs.declared.automaton.Direction.TheVariants.{Overlapping}
 use Rattle.rc_dfa.specs.Runs.{ahead_at}
 use Rattle.rc_table_search.proofs.SpanLemmas.{beside_kept}

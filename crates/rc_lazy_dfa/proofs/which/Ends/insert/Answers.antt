@@ -1,4 +1,4 @@
-use Rattle.std.proofs.Common.{◌≡◌, ◌∙◌, ◌↔◌, ℕ, ap, sym, subst}
+use Rattle.std.proofs.Common.{◌↔◌, ℕ, sym, subst}
 use Rattle.rc_determinize.specs.Places.{state_of}
 use Rattle.rc_determinize.specs.Sets.{EndsHere}
 use Rattle.rc_determinize.specs.Steps.{HasPlace}

@@ -1,4 +1,4 @@
-use Rattle.std.proofs.Common.{◌+◌, ◌-◌, ◌∙◌, ◌≡◌, ◌<◌, ◌≤◌, length, List, Bool, false, Some, slice_get, slice_index_or, refl, sym, subst, ap, arith}
+use Rattle.std.proofs.Common.{◌+◌, ◌-◌, ◌∙◌, ◌≡◌, ◌<◌, ◌≤◌, length, List, Bool, false, Some, slice_get, slice_index_or, sym, subst, ap, arith}
 use Rattle.std.proofs.lemmas.Option.{slice_get-get_or}
 use Rattle.rc_table_search.proofs.SpanLemmas.{next_here}
 use Rattle.rc_lazy_dfa.specs.Cells.{met, unknown}

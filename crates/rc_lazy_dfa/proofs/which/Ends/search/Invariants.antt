@@ -1,6 +1,4 @@
 use Rattle.rc_dfa.specs.declared.automaton.Direction.TheVariants.{Overlapping}
-use Rattle.rc_text.specs.Text.{high}
-use Rattle.rc_lazy_dfa.specs.Overlaps.{Overlap}
 use Rattle.rc_lazy_dfa.specs.Stores.{frame_of}
 use Rattle.rc_lazy_dfa.proofs.which.Ends.search.Given as goal
 

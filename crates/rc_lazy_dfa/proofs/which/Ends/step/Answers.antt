@@ -1,5 +1,4 @@
 use Rattle.std.proofs.Common.{◌≡◌, ◌∙◌, ◌⊎◌, ◌+◌, ◌<◌, ◌≤◌, true, false, length, slice_get, max, Some, sym, subst, ap, arith}
-use Rattle.rc_dfa.specs.Runs.{MayRead}
 use Rattle.rc_dfa.specs.declared.automaton.Direction.TheVariants.{Overlapping}
 use Rattle.rc_lazy_dfa.specs.Cells.{column_of}
 use Rattle.rc_lazy_dfa.specs.Stores.{Held, frame_of}
