@@ -18,7 +18,7 @@ use Rattle.rc_dense_dfa.specs.declared.run.Outcome.TheVariants.{Met, Idle, Quit}
 use Rattle.rc_dense_dfa.proofs.MarkLemmas.{named_state, died_or_not, idle_row, is_read, noted_more, told_is, met_at_end, plain_row, met_row, met_note, here_is, row_within}
 
 module _ (m : Machine) (states : List State) (d : Table) (t : Text) (q : Request) (ok : IsTable m states d) where
-  abbrev EndsHere : RunEnd → Type 0
+  abbrev EndsHere : ℕ → RunEnd → Type 0
   EndsHere = EndsBy q.backwards m t (course_of q)
 
   -- over a byte that is read, to the state of the row that its cell names
@@ -48,53 +48,54 @@ module _ (m : Machine) (states : List State) (d : Table) (t : Text) (q : Request
         )
 
     -- where the byte isn't read
-    pub quits : IsOn q.backwards i q.bound → (q.backwards ≡ true → 0 < i) → cell_at d (row + class_at d b) ≡ quit → EndsHere (stopped_at (offset_of q.backwards i))
-    quits within some e =
+    pub quits : (r : ℕ) → (q.backwards ≡ false → r ≡ i + 1) → IsOn q.backwards i q.bound → (q.backwards ≡ true → 0 < i) → cell_at d (row + class_at d b) ≡ quit →
+        EndsHere r (stopped_at (offset_of q.backwards i))
+    quits r far within some e =
         let unread = subst (λ o. ¬ MayRead m o) (sym beside)
         (⊎_elim (λ u. u.1) (λ n. absurd (is_read m states d (cell_at d (row + class_at d b)) n.1.0 ok n.1.2 e)) (ok.leads row b x.state byte x.named)) in
-        ways.quits m t (course_of q) q.backwards i x.state x.found x.standing within some unread
+        ways.quits m t (course_of q) q.backwards i r far x.state x.found x.standing within some unread
 
   -- at the bound, over the byte that stands beyond
   pub bounded : (row b : ℕ) (noted : Option (ℕ × ℕ)) (x : IsHere m states d t q q.bound row noted) → b < 256 → beside_at q.backwards t q.bound ≡ Some b →
-      cell_at d (row + class_at d b) ≢ quit → EndsHere (met_last (told d (noted_by (cell_at d (row + class_at d b)) q.bound noted)))
+      cell_at d (row + class_at d b) ≢ quit → EndsHere (q.bound + 1) (met_last (told d (noted_by (cell_at d (row + class_at d b)) q.bound noted)))
   bounded row b noted x byte beside ne =
       let cell = cell_at d (row + class_at d b) in
       let l = leads q.bound row b noted x byte beside ne in
       let s = l.1.0 in
       let is = told_is m states d (noted_by cell q.bound noted) (best_at q.bound s.matched x.found) ok
       (noted_more m states d cell q.bound s noted x.found ok l.1.2 x.tells) in
-      subst (λ o. EndsHere (met_last o)) (sym is) (ways.bounded m t (course_of q) q.backwards x.state s x.found x.standing l.0 l.1.1)
+      subst (λ o. EndsHere (q.bound + 1) (met_last o)) (sym is) (ways.bounded m t (course_of q) q.backwards x.state s x.found x.standing l.0 l.1.1)
 
   -- or at the end of what the search sees
   pub ended : (row : ℕ) (noted : Option (ℕ × ℕ)) (x : IsHere m states d t q q.bound row noted) → beside_at q.backwards t q.bound ≡ None →
-      EndsHere (met_last (met_by (slice_index_or d.ends.items (row / d.width) 0) q.bound (told d noted)))
+      EndsHere (q.bound + 1) (met_last (met_by (slice_index_or d.ends.items (row / d.width) 0) q.bound (told d noted)))
   ended row noted x beside =
       let named = x.named in
       let e = ok.ends named.0 x.state named.1 in
       let s = e.0 in
       let is = met_at_end m states d row named.0 q.bound s.matched noted x.found ok named.2 x.tells e.2 in
-      subst (λ o. EndsHere (met_last o)) (sym is)
+      subst (λ o. EndsHere (q.bound + 1) (met_last o)) (sym is)
       (ways.bounded m t (course_of q) q.backwards x.state s x.found x.standing (subst (λ o. MayRead m o) (sym beside) tt)
       (subst (λ o. Leads m x.state o s) (sym beside) e.1))
 
   -- where nothing goes on
-  pub died : (i row : ℕ) (noted : Option (ℕ × ℕ)) (x : IsHere m states d t q i row noted) → is_dead x.state ≡ true → EndsHere (met_last (told d noted))
+  pub died : (i row : ℕ) (noted : Option (ℕ × ℕ)) (x : IsHere m states d t q i row noted) → is_dead x.state ≡ true → EndsHere i (met_last (told d noted))
   died i row noted x e =
-      subst (λ o. EndsHere (met_last o)) (sym (told_is m states d noted x.found ok x.tells)) (ways.dies m t (course_of q) q.backwards i x.state x.found x.standing e)
+      subst (λ o. EndsHere i (met_last o)) (sym (told_is m states d noted x.found ok x.tells)) (ways.dies m t (course_of q) q.backwards i x.state x.found x.standing e)
 
   -- where nothing was met, and nothing is under way
   pub rested : (i row : ℕ) (noted : Option (ℕ × ℕ)) (x : IsHere m states d t q i row noted) → q.backwards ≡ false → is_some noted ≡ false → IsOn q.backwards i q.bound →
-      slice_index_or d.idles.items (row / d.width) false ≡ true → EndsHere (idle_at i)
+      slice_index_or d.idles.items (row / d.width) false ≡ true → EndsHere i (idle_at i)
   rested i row noted x forwards none within idle =
       let nothing = subst (λ o. IsNoted d states o x.found) (ways.none_of noted none) x.tells in
       ways.rests m t (course_of q) q.backwards forwards i x.state x.found x.standing within (ap is_some nothing)
       (idle_row m states d row x.state ok x.named idle)
 
   -- where the first that is met is enough
-  pub was_early : (i row : ℕ) (n : ℕ × ℕ) (x : IsHere m states d t q i row (Some n)) → q.extent.earliest ≡ true → EndsHere (met_last (told d (Some n)))
+  pub was_early : (i row : ℕ) (n : ℕ × ℕ) (x : IsHere m states d t q i row (Some n)) → q.extent.earliest ≡ true → EndsHere i (met_last (told d (Some n)))
   was_early i row n x e =
       let h = x.tells in
-      subst (λ o. EndsHere (met_last o)) (sym (told_is m states d (Some n) x.found ok x.tells))
+      subst (λ o. EndsHere i (met_last o)) (sym (told_is m states d (Some n) x.found ok x.tells))
       (ways.stops_early m t (course_of q) q.backwards i x.state x.found x.standing e (ap is_some h.4))
 
   -- where a search begins
@@ -122,7 +123,7 @@ module _ (m : Machine) (states : List State) (d : Table) (t : Text) (q : Request
       ⊎_elim (λ u. u.1) (λ n. absurd (is_read m states d first_cell n.1.0 ok n.1.2 e)) (ok.begins q.anchored (beside_at (not q.backwards) t q.from) asked byte)
 
   pub never_starts : IsAsked m q.anchored → IsByte (beside_at (not q.backwards) t q.from) → first_cell ≡ quit → (q.backwards ≡ false → 0 < q.from) →
-      EndsHere (stopped_at (offset_of (not q.backwards) q.from))
+      EndsHere q.from (stopped_at (offset_of (not q.backwards) q.from))
   never_starts asked byte e some = ways.never_begins m t (course_of q) q.backwards some (unreadable asked byte e)
 
   -- the end is always read
@@ -139,33 +140,34 @@ module _ (d : Table) (q : Request) (i row b : ℕ) (noted : Option (ℕ × ℕ))
       (goes m states d (text_of terminator q.seen) q ok i row b noted (x m states terminator ok asked) byte (next.beside terminator) next.left (λ e. ne (is ∙ e))).0
 
   -- where the byte isn't read
-  pub stands_quits : cell ≡ quit → (p : ℕ) → p ≡ offset_of q.backwards i → Ends d q (Quit b p)
+  pub stands_quits : cell ≡ quit → (p : ℕ) → p ≡ offset_of q.backwards i → Ends d q (next_of q.backwards i) (Quit b p)
   stands_quits e p at m states terminator ok asked =
-      subst (λ k. EndsBy q.backwards m (text_of terminator q.seen) (course_of q) (stopped_at k)) (sym at)
+      subst (λ k. EndsBy q.backwards m (text_of terminator q.seen) (course_of q) (next_of q.backwards i) (stopped_at k)) (sym at)
       (quits m states d (text_of terminator q.seen) q ok i row b noted (x m states terminator ok asked) byte (next.beside terminator)
+      (next_of q.backwards i) (λ e. ap (λ way. next_of way i) e)
       (left_on q.backwards i q.bound next.left) (ways.some_before q.backwards q.seen.content i b next.there) (sym is ∙ e))
 
   -- where nothing goes on
-  pub stands_died : cell ≢ quit → has_died cell ≡ true → Ends d q (Met (told d (noted_by cell i noted)))
+  pub stands_died : cell ≢ quit → has_died cell ≡ true → Ends d q (next_of q.backwards i) (Met (told d (noted_by cell i noted)))
   stands_died ne died_here m states terminator ok asked =
       let t = text_of terminator q.seen in
       let g = goes m states d t q ok i row b noted (x m states terminator ok asked) byte (next.beside terminator) next.left (λ e. ne (is ∙ e)) in
-      subst (λ c. EndsBy q.backwards m t (course_of q) (met_last (told d (noted_by c i noted)))) (sym is)
+      subst (λ c. EndsBy q.backwards m t (course_of q) (next_of q.backwards i) (met_last (told d (noted_by c i noted)))) (sym is)
       (died m states d t q ok (next_of q.backwards i) (row_of (cell_at d (row + class_at d b))) (noted_by (cell_at d (row + class_at d b)) i noted) g.0
       (sym g.1 ∙ subst (λ c. has_died c ≡ true) is died_here))
 
   -- where the first that is met is enough
-  pub stands_early : cell ≢ quit → q.extent.earliest ≡ true → met ≤ cell → Ends d q (Met (told d (noted_by cell i noted)))
+  pub stands_early : cell ≢ quit → q.extent.earliest ≡ true → met ≤ cell → Ends d q (next_of q.backwards i) (Met (told d (noted_by cell i noted)))
   stands_early ne e le m states terminator ok asked =
       let y = stands_on ne m states terminator ok asked in
       let n = ap (λ v. if v then Some (row_of cell, i) else noted) (le-leb met cell le) in
-      subst (λ o. EndsBy q.backwards m (text_of terminator q.seen) (course_of q) (met_last (told d o))) (sym n)
+      subst (λ o. EndsBy q.backwards m (text_of terminator q.seen) (course_of q) (next_of q.backwards i) (met_last (told d o))) (sym n)
       (was_early m states d (text_of terminator q.seen) q ok (next_of q.backwards i) (row_of cell) (row_of cell, i)
       (subst (λ o. IsHere m states d (text_of terminator q.seen) q (next_of q.backwards i) (row_of cell) o) n y) e)
 
   -- where nothing was met, and nothing is under way
   pub stands_rests : cell ≢ quit → q.backwards ≡ false → is_some (noted_by cell i noted) ≡ false →
-      slice_index_or d.idles.items (row_of cell / d.width) false ≡ true → Ends d q (Idle (i + 1))
+      slice_index_or d.idles.items (row_of cell / d.width) false ≡ true → Ends d q (i + 1) (Idle (i + 1))
   stands_rests ne forwards none idle m states terminator ok asked =
       let y = stands_on ne m states terminator ok asked in
       let left = subst (λ way. 0 < span way i q.bound) forwards next.left in
@@ -182,17 +184,19 @@ module _ (d : Table) (q : Request) (row : ℕ) (noted : Option (ℕ × ℕ)) (x 
     beyond : (terminator : ℕ) → beside_at q.backwards (text_of terminator q.seen) q.bound ≡ Some b
     beyond terminator = beside_same q.backwards terminator 0 q.seen q.bound ∙ beside
 
-    pub bound_quits : (q.backwards ≡ true → 0 < q.bound) → cell_at d (row + class_at d b) ≡ quit → (p : ℕ) → p ≡ offset_of q.backwards q.bound → Ends d q (Quit b p)
+    pub bound_quits : (q.backwards ≡ true → 0 < q.bound) → cell_at d (row + class_at d b) ≡ quit → (p : ℕ) → p ≡ offset_of q.backwards q.bound →
+        Ends d q (q.bound + 1) (Quit b p)
     bound_quits some e p at m states terminator ok asked =
-        subst (λ k. EndsBy q.backwards m (text_of terminator q.seen) (course_of q) (stopped_at k)) (sym at)
-        (quits m states d (text_of terminator q.seen) q ok q.bound row b noted (x m states terminator ok asked) byte (beyond terminator) (on_here q.backwards q.bound) some e)
+        subst (λ k. EndsBy q.backwards m (text_of terminator q.seen) (course_of q) (q.bound + 1) (stopped_at k)) (sym at)
+        (quits m states d (text_of terminator q.seen) q ok q.bound row b noted (x m states terminator ok asked) byte (beyond terminator) (q.bound + 1) (λ _. refl)
+        (on_here q.backwards q.bound) some e)
 
-    pub bound_met : cell_at d (row + class_at d b) ≢ quit → Ends d q (Met (told d (noted_by (cell_at d (row + class_at d b)) q.bound noted)))
+    pub bound_met : cell_at d (row + class_at d b) ≢ quit → Ends d q (q.bound + 1) (Met (told d (noted_by (cell_at d (row + class_at d b)) q.bound noted)))
     bound_met ne m states terminator ok asked =
         bounded m states d (text_of terminator q.seen) q ok row b noted (x m states terminator ok asked) byte (beyond terminator) ne
 
   pub end_met : beside_at q.backwards (text_of 0 q.seen) q.bound ≡ None →
-      Ends d q (Met (met_by (slice_index_or d.ends.items (row / d.width) 0) q.bound (told d noted)))
+      Ends d q (q.bound + 1) (Met (met_by (slice_index_or d.ends.items (row / d.width) 0) q.bound (told d noted)))
   end_met beside m states terminator ok asked =
       ended m states d (text_of terminator q.seen) q ok row noted (x m states terminator ok asked) (beside_same q.backwards terminator 0 q.seen q.bound ∙ beside)
 
@@ -214,19 +218,19 @@ module _ (d : Table) (q : Request) (cell : ℕ) (beside : Option ℕ) (byte : Is
       (starts m states d (text_of terminator q.seen) q ok asked (byte_here terminator) (λ u. ne (e ∙ u))).0
 
   -- and goes no further
-  pub begins_dead : cell ≢ quit → has_died cell ≡ true → Ends d q (Met None)
+  pub begins_dead : cell ≢ quit → has_died cell ≡ true → Ends d q q.from (Met None)
   begins_dead ne died_here m states terminator ok asked =
       let t = text_of terminator q.seen in
       let e = cell_is terminator m states ok in
       let y = starts m states d t q ok asked (byte_here terminator) (λ u. ne (e ∙ u)) in
       died m states d t q ok q.from (row_of (first_cell m states d t q ok)) None y.0 (sym y.1 ∙ subst (λ c. has_died c ≡ true) e died_here)
 
-  pub begins_unread : cell ≡ quit → (q.backwards ≡ false → 0 < q.from) → (b p : ℕ) → p ≡ offset_of (not q.backwards) q.from → Ends d q (Quit b p)
+  pub begins_unread : cell ≡ quit → (q.backwards ≡ false → 0 < q.from) → (b p : ℕ) → p ≡ offset_of (not q.backwards) q.from → Ends d q q.from (Quit b p)
   begins_unread u some b p at m states terminator ok asked =
-      subst (λ k. EndsBy q.backwards m (text_of terminator q.seen) (course_of q) (stopped_at k)) (sym at)
+      subst (λ k. EndsBy q.backwards m (text_of terminator q.seen) (course_of q) q.from (stopped_at k)) (sym at)
       (never_starts m states d (text_of terminator q.seen) q ok asked (byte_here terminator) (sym (cell_is terminator m states ok) ∙ u) some)
 
-  pub begins_at_edge : cell ≡ quit → beside ≡ None → Ends d q (Met None)
+  pub begins_at_edge : cell ≡ quit → beside ≡ None → Ends d q q.from (Met None)
   begins_at_edge u none m states terminator ok asked =
       absurd (end_starts m states d (text_of terminator q.seen) q ok asked (byte_here terminator) (sym (cell_is terminator m states ok) ∙ u) (sym (here terminator) ∙ none))
 

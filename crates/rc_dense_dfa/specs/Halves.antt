@@ -39,7 +39,7 @@ pub record AreTablesOf (a : Automaton) (limit : Option ℕ) (d : Dense) : Type 0
 -- If the search by a table ended so, the halves return this.
 pub record Says (backwards : Bool) (patterns : List ℕ) (ended : Outcome) (said : halves.Ended) : Type 0 where
   pub says : (m : Machine) (t : Text) (c : Course) (may_rest : Bool) → (backwards ≡ false → ArePatterns m patterns) → MayEnd t.content may_rest ended → (may_rest ≡ true → backwards ≡ false) →
-      EndsBy backwards m t c (run_end ended) → HasEndedBy backwards m t c may_rest said
+      (r : ℕ) → EndsBy backwards m t c r (run_end ended) → HasEndedBy backwards m t c may_rest r said
 
 -- How many bytes the parts of a table take.
 abbrev pub bytes_of : Table → ℕ

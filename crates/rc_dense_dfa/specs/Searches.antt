@@ -87,15 +87,16 @@ Stands d q i s =
     (m : Machine) (states : List State) (terminator : ℕ) → IsTable m states d → IsAsked m q.anchored →
     IsHere m states d (text_of terminator q.seen) q i s.row s.noted
 
-abbrev pub Ends : Table → Request → Outcome → Type 0
-Ends d q e =
+-- Forwards it looked at the bytes before r alone.
+abbrev pub Ends : Table → Request → ℕ → Outcome → Type 0
+Ends d q r e =
     (m : Machine) (states : List State) (terminator : ℕ) → IsTable m states d → IsAsked m q.anchored →
-    EndsBy q.backwards m (text_of terminator q.seen) (course_of q) (run_end e)
+    EndsBy q.backwards m (text_of terminator q.seen) (course_of q) r (run_end e)
 
 -- The run goes on at the position, or the search has ended.
 abbrev pub IsLeg : Table → Request → ℕ → Progress → Type 0
 IsLeg d q i (Through s) = InRow d s.row × Stands d q i s
-IsLeg d q i (Over e) = Ends d q e × MayEnd q.seen.content q.extent.may_rest e
+IsLeg d q i (Over e r) = Ends d q r e × MayEnd q.seen.content q.extent.may_rest e
 
 -- By these classes of the bytes, the row is one of the table.
 pub record IsRowBy (d : Table) (classes : List ℕ) (row : ℕ) : Type 0 where

@@ -12,7 +12,7 @@ use crate::run;
 use crate::search::run_on;
 use crate::table::Table;
 use rc_dfa::automaton::{Automaton, Direction};
-use rc_dfa::ended::{Ended, Met};
+use rc_dfa::ended::{Ended, Met, Reading};
 use rc_dfa::halves::Halves;
 use rc_table_search::run::Extent;
 use rc_table_search::way::{self, Way};
@@ -145,15 +145,18 @@ impl Halves for Dense {
         earliest: bool,
         may_rest: bool,
         rest_from: usize,
-    ) -> Ended {
+    ) -> Reading {
         let extent = Extent {
             earliest,
             may_rest,
             rest_from,
         };
         let end = high(input);
-        let ended = run_on::<way::Forwards, C>(&self.forward, input, anchored, from, end, extent);
-        said::<way::Forwards>(&self.patterns, ended)
+        let run = run_on::<way::Forwards, C>(&self.forward, input, anchored, from, end, extent);
+        Reading {
+            ended: said::<way::Forwards>(&self.patterns, run.outcome),
+            read: run.read,
+        }
     }
 
     #[inline(always)]
@@ -171,8 +174,8 @@ impl Halves for Dense {
             may_rest: false,
             rest_from: 0,
         };
-        let ended = run_on::<way::Backwards, C>(&self.reverse, input, anchored, end, from, extent);
-        said::<way::Backwards>(&self.patterns, ended)
+        let run = run_on::<way::Backwards, C>(&self.reverse, input, anchored, end, from, extent);
+        said::<way::Backwards>(&self.patterns, run.outcome)
     }
 
     ghost spends_nothing = { λ h a n. tt };

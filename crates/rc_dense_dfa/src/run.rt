@@ -1,4 +1,4 @@
-//! Search results: how a search by a table ends.
+//! Search results: how a search by a table ends, and how far it looks.
 
 use rc_table_search::run::Stand;
 
@@ -16,11 +16,20 @@ pub enum Outcome {
     Quit(u8, usize),
 }
 
+/// How a search by a table ended, and how far it looked.
+#[derive(Clone, Copy)]
+pub struct Reading {
+    /// How it ended.
+    pub outcome: Outcome,
+    /// Forwards it looked at no byte from this position on. Backwards this says nothing.
+    pub read: usize,
+}
+
 /// The outcome of a run over some bytes.
 #[derive(Clone, Copy)]
 pub(crate) enum Progress {
     /// It goes on after them.
     Through(Stand),
-    /// The search ended among them.
-    Over(Outcome),
+    /// The search ended among them. Forwards it looked at no byte from this position on.
+    Over(Outcome, usize),
 }

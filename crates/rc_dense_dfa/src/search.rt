@@ -12,14 +12,14 @@ ghost use Rattle.rc_dense_dfa.specs.Searches.{Request, Ends, InRow, IsLeg, MayEn
 
 use crate::exits::first_exit;
 use crate::look::{cell_of, exits_at, has_died, is_idle, met_at_end, noted_by, row_of, told};
-use crate::run::{Outcome, Progress};
+use crate::run::{Outcome, Progress, Reading};
 use crate::start::start as start_cell;
 use crate::table::{MET, QUIT, SKIP, Table};
 use rc_table_search::run::{Extent, Stand, Stops, run};
 use rc_table_search::sides::{byte_beside, offset, piece_on};
 use rc_table_search::way::{Way, byte, first, left, start, step_on};
 use rc_text::cursor::Cursor;
-use rc_text::input::Input;
+use rc_text::input::{Input, content_fits};
 use rc_text::types::Anchored;
 
 /// Returns where a run stops for a look.
@@ -51,20 +51,21 @@ fn step<W: Way>(table: &Table, byte: u8, at: usize, stand: Stand, extent: Extent
     requires fits { W.BACKWARDS ≡ false → at < usize.MAX }
     ensures { IsLeg table.now course (next_of W.BACKWARDS at) result }
 {
+    let after = step_on::<W>(at);
     let cell = cell_of(table, stand.row, byte);
     if cell == QUIT {
-        return Progress::Over(Outcome::Quit(byte, offset(at, W::BACKWARDS)));
+        return Progress::Over(Outcome::Quit(byte, offset(at, W::BACKWARDS)), after);
     }
     let noted = noted_by(cell, at, stand.noted);
     if has_died(cell) {
-        return Progress::Over(Outcome::Met(told(table, noted)));
+        return Progress::Over(Outcome::Met(told(table, noted)), after);
     }
     if extent.earliest && cell >= MET {
-        return Progress::Over(Outcome::Met(told(table, noted)));
+        return Progress::Over(Outcome::Met(told(table, noted)), after);
     }
     let row = row_of(cell);
     if extent.may_rest && at >= extent.rest_from && noted.is_none() && is_idle(table, row) {
-        return Progress::Over(Outcome::Idle(at + 1));
+        return Progress::Over(Outcome::Idle(after), after);
     }
     Progress::Through(Stand { row, noted })
 }
@@ -154,7 +155,7 @@ fn cross<W: Way, C: Cursor>(
                     stand = next;
                     at = step_on::<W>(at);
                 }
-                Progress::Over(ended) => return Progress::Over(ended),
+                Progress::Over(outcome, read) => return Progress::Over(outcome, read),
             }
         }
     }
@@ -181,12 +182,12 @@ fn begin<W: Way>(table: &Table, anchored: Anchored, beside: Option<u8>, from: us
     }
     if cell == QUIT {
         return match beside {
-            Some(byte) => Progress::Over(Outcome::Quit(byte, offset(from, !W::BACKWARDS))),
-            None => Progress::Over(Outcome::Met(None)),
+            Some(byte) => Progress::Over(Outcome::Quit(byte, offset(from, !W::BACKWARDS)), from),
+            None => Progress::Over(Outcome::Met(None), from),
         };
     }
     if has_died(cell) {
-        return Progress::Over(Outcome::Met(None));
+        return Progress::Over(Outcome::Met(None), from);
     }
     let row = row_of(cell);
     Progress::Through(Stand { row, noted: None })
@@ -210,7 +211,7 @@ fn finish<W: Way, C: Cursor>(
     requires high { end ≤ slice_end course.seen }
     requires end { end ≡ course.bound }
     ensures keeps { Keeps input.old input.new }
-    ensures ends { Ends table.now course result }
+    ensures ends { Ends table.now course (course.bound + 1) result }
     ensures byte { MayEnd course.seen.content course.extent.may_rest result }
 {
     match byte_beside(input, end, W::BACKWARDS) {
@@ -225,7 +226,8 @@ fn finish<W: Way, C: Cursor>(
     }
 }
 
-/// Searches from the position `from` up to `end`, or down to it.
+/// Searches from the position `from` up to `end`, or down to it. If a search forwards comes there,
+/// it looks at the byte there, or sees that none is.
 #[inline(always)]
 fn search<W: Way, C: Cursor>(
     table: &Table,
@@ -234,7 +236,7 @@ fn search<W: Way, C: Cursor>(
     from: usize,
     end: usize,
     extent: Extent,
-) -> Outcome
+) -> Reading
     ghost course: { Request }
     requires course { course ≡ record {
       backwards = W.BACKWARDS;
@@ -249,17 +251,22 @@ fn search<W: Way, C: Cursor>(
     requires high { (from ≤ slice_end input.old) × (end ≤ slice_end input.old) }
     requires rests { extent.may_rest ≡ true → W.BACKWARDS ≡ false }
     ensures keeps { Keeps input.old input.new }
-    ensures ends { Ends table.now course result }
-    ensures byte { MayEnd input.old.content extent.may_rest result }
+    ensures ends { Ends table.now course result.read result.outcome }
+    ensures byte { MayEnd input.old.content extent.may_rest result.outcome }
 {
+    content_fits(input);
     let beside = byte_beside(input, from, !W::BACKWARDS);
     let stand = match begin::<W>(table, anchored, beside, from) {
         Progress::Through(stand) => stand,
-        Progress::Over(ended) => return ended,
+        Progress::Over(outcome, read) => return Reading { outcome, read },
     };
     match cross::<W, C>(table, input, from, end, stand, extent) {
-        Progress::Through(last) => finish::<W, C>(table, input, end, last),
-        Progress::Over(ended) => ended,
+        Progress::Through(last) => {
+            let outcome = finish::<W, C>(table, input, end, last);
+            let read = end + 1;
+            Reading { outcome, read }
+        }
+        Progress::Over(outcome, read) => Reading { outcome, read },
     }
 }
 
@@ -268,7 +275,8 @@ fn search<W: Way, C: Cursor>(
 /// backwards the index of the first entry that is reached there. With `earliest`, it returns what
 /// was found first, and reads nothing beyond it. With `may_rest`, it may end after a byte, from
 /// `rest_from` on, if nothing was found and nothing is under way. A byte that may not be read ends
-/// the search. Nothing is copied or allocated.
+/// the search. How far a search forwards looked is told with how it ended. Nothing is copied or
+/// allocated.
 #[inline(always)]
 pub fn run_on<W: Way, C: Cursor>(
     table: &Table,
@@ -277,7 +285,7 @@ pub fn run_on<W: Way, C: Cursor>(
     from: usize,
     end: usize,
     extent: Extent,
-) -> Outcome
+) -> Reading
     requires low { (low input.old ≤ from) × (low input.old ≤ end) }
     requires ordered { IsOn W.BACKWARDS from end }
     requires high { (from ≤ high input.old) × (end ≤ high input.old) }
@@ -290,8 +298,8 @@ pub fn run_on<W: Way, C: Cursor>(
           bound = end;
           anchored = anchored;
           earliest = extent.earliest;
-        }) (run_end result) }
-    ensures byte { MayEnd input.old.content extent.may_rest result }
+        }) result.read (run_end result.outcome) }
+    ensures byte { MayEnd input.old.content extent.may_rest result.outcome }
 {
     search::<W, C>(table, input, anchored, from, end, extent)
 }

@@ -17,3 +17,4 @@ pub mod KeyLemmas
 pub mod NumberLemmas
 pub mod ListLemmas
 pub mod SideLemmas
+pub mod ReadLemmas

@@ -6,3 +6,4 @@ pub mod Automata
 pub mod Laws
 pub mod Ended
 pub mod Keys
+pub mod Reads

@@ -1,4 +1,5 @@
-//! Search results: how a DFA search ended. Positions are in bytes of the whole content.
+//! Search results: how a DFA search ended, and how far it looked. Positions are in bytes of the
+//! whole content.
 
 /// A pattern, and the position at which a DFA search found it.
 #[derive(Clone, Copy)]
@@ -22,4 +23,14 @@ pub enum Ended {
     Quit(u8, usize),
     /// It gave up at this position; the flag says whether it ran out of memory.
     GaveUp(usize, bool),
+}
+
+/// How a DFA search forwards ended, and how far it looked.
+#[derive(Clone, Copy)]
+pub struct Reading {
+    /// How it ended.
+    pub ended: Ended,
+    /// It looked at no byte from this position on. If it came to its upper bound, that is one more:
+    /// it looked at the byte there, or saw that none is.
+    pub read: usize,
 }

@@ -3,9 +3,10 @@ ghost use Rattle.std.specs.Prelude.{◌≡◌, ◌+◌, ◌-◌, ◌≤◌, ℕ,
 ghost use Rattle.rc_text.specs.Text.{Keeps, high, low, slice_end};
 ghost use Rattle.rc_program.specs.Sought.{text_of};
 ghost use Rattle.rc_dfa.specs.Machine.{Machine, IsAsked};
-ghost use Rattle.rc_dfa.specs.Ended.{HasEnded, HasEndedDown, gave_up};
+ghost use Rattle.rc_dfa.specs.Ended.{HasEndedDown, gave_up};
+ghost use Rattle.rc_dfa.specs.Reads.{HasEndedBelow};
 
-use crate::ended::Ended;
+use crate::ended::{Ended, Reading};
 use rc_text::cursor::Cursor;
 use rc_text::input::Input;
 use rc_text::types::Anchored;
@@ -30,7 +31,7 @@ pub trait Halves {
     /// the whole content. Returns what was found last. With `earliest`, it returns what was found
     /// first, and reads nothing beyond it. With `may_rest`, the search may return at a position
     /// where nothing is under way. `rest_from` is a hint: before that position it should read on
-    /// all the same.
+    /// all the same. How far it looked is told with how it ended.
     fn run_forwards<C: Cursor>(
         &self,
         cache: &mut Self::Cache,
@@ -40,17 +41,17 @@ pub trait Halves {
         earliest: bool,
         may_rest: bool,
         rest_from: usize,
-    ) -> Ended
+    ) -> Reading
         requires cache { IsCache self.now cache.old }
         requires low { low input.old ≤ from }
         requires high { from ≤ high input.old }
         ensures cache { IsCache self.now cache.new }
         ensures keeps { Keeps input.old input.new }
         ensures ended { (m n : Machine) → AreOf self.now m n → IsAsked m anchored
-            → HasEnded m (text_of m.setting.terminator input.old)
-            (high input.old) from anchored earliest may_rest result }
+            → HasEndedBelow m (text_of m.setting.terminator input.old)
+            (high input.old) from anchored earliest may_rest result.ended result.read }
         ensures spends { Spends self.now cache.old cache.new (high input.old - from + 2) }
-        ensures gives_up { (memory : Bool) → gave_up result ≡ Some memory
+        ensures gives_up { (memory : Bool) → gave_up result.ended ≡ Some memory
             → GivesUp self.now cache.old cache.new (high input.old - from + 2) memory };
 
     /// Searches backwards from the position `end` down to `from`, in bytes of the whole content.

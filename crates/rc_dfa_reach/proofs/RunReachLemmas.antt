@@ -1,5 +1,6 @@
 -- A run reads what stands before the position that it came to.
-use Rattle.std.proofs.Common.{◌≡◌, ℕ, ◌+◌, ◌<◌, ◌≤◌, Bool, Option, ⊎_elim, sym, subst, refl, arith}
+use Rattle.std.proofs.Common.{◌≡◌, ℕ, ◌+◌, ◌<◌, ◌≤◌, Bool, Option, Some, None, ⊎_elim, sym, subst, ap, refl, arith}
+use Rattle.std.proofs.lemmas.Option.{none-some, some_pair_parts}
 use Rattle.std.proofs.lemmas.Bool.{cases_lt}
 use Rattle.rc_text.specs.declared.types.Anchored.{Anchored}
 use Rattle.rc_program.specs.Text.{Text}
@@ -7,8 +8,10 @@ use Rattle.rc_determinize.specs.States.{State, best_at}
 use Rattle.rc_dfa.specs.Machine.{Machine, Leads, Begins}
 use Rattle.rc_dfa.specs.Runs
 use Rattle.rc_dfa.specs.Runs.{ahead_at, behind_at, MayRead, RunEnd, met_last}
-use Rattle.rc_dfa_reach.specs.RunReach
-use Rattle.rc_dfa_reach.specs.RunReach.{LookSame, EndsBelow, SearchEndsBelow, RunReachLaw}
+use Rattle.rc_dfa.specs.Reads
+use Rattle.rc_dfa.specs.Reads.{EndsBelow, SearchEndsBelow}
+use Rattle.rc_dfa.proofs.ReadLemmas.{search_ends}
+use Rattle.rc_dfa_reach.specs.RunReach.{LookSame, RunReachLaw}
 
 module _ (m : Machine) (t : Text) (hi from : ℕ) where
   run_low : (first : State) {i : ℕ} {s : State} {met : Option (ℕ × ℕ)} → Runs.Runs m t hi from first i s met → from ≤ i
@@ -29,6 +32,10 @@ module _ (m : Machine) (t : Text) (hi from : ℕ) where
     within i a b =
         ⊎_elim (λ short. let e = same.near short in omega (arith, e, b)) (λ long. let f = same.far long in omega (arith, f, a)) (cases_lt hi r)
 
+    on_bound : (i : ℕ) → i ≤ r → i ≤ hi → i ≤ other_hi
+    on_bound i a b =
+        ⊎_elim (λ short. let e = same.near short in omega (arith, e, b)) (λ long. let f = same.far long in omega (arith, f, a)) (cases_lt hi r)
+
     run_same : (first : State) {i : ℕ} {s : State} {met : Option (ℕ × ℕ)} → i ≤ r → Runs.Runs m t hi from first i s met → Runs.Runs m u other_hi from first i s met
     run_same first h Runs.begun = Runs.begun
     run_same first h (Runs.goes_on i s next run l read leads) =
@@ -41,42 +48,96 @@ module _ (m : Machine) (t : Text) (hi from : ℕ) where
         subst (λ k. Runs.EndsSo m u h from first earliest (met_last (best_at k next.matched met))) is (Runs.at_bound s next run read leads)
 
     ends_same : (first : State) (earliest : Bool) {e : RunEnd} {k : ℕ} → k ≡ r → EndsBelow m t hi from first earliest e k → Runs.EndsSo m u other_hi from first earliest e
-    ends_same first earliest is (RunReach.at_bound {met = met} s next run read leads) =
+    ends_same first earliest is (Reads.at_bound {met = met} s next run read leads) =
         let bound : other_hi ≡ hi = same.near (omega (arith, is)) in
         let ahead = sym (same.ahead hi (omega (arith, is))) in
         let here = run_same first (omega (arith, is)) run in
         subst (λ h. Runs.EndsSo m u h from first earliest (met_last (best_at hi next.matched met))) (sym bound)
         (at_end first earliest met s next hi refl (subst (λ h. Runs.Runs m u h from first hi s met) bound here) (subst (MayRead m) ahead read) (subst (λ b. Leads m s b next) ahead leads))
-    ends_same first earliest is (RunReach.dead i s run dead) = Runs.dead i s (run_same first (omega (arith, is)) run) dead
-    ends_same first earliest is (RunReach.early i s on run) = Runs.early i s on (run_same first (omega (arith, is)) run)
-    ends_same first earliest is (RunReach.rests i s run l idle) =
-        Runs.rests i s (run_same first (omega (arith, is)) run) (⊎_elim (λ short. let e = same.near short in omega (arith, e, l)) (λ long. let f = same.far long in omega (arith, f, is)) (cases_lt hi r)) idle
-
-  ends_so : (first : State) (earliest : Bool) {e : RunEnd} {k : ℕ} → EndsBelow m t hi from first earliest e k → Runs.EndsSo m t hi from first earliest e
-  ends_so first earliest (RunReach.at_bound s next run read leads) = Runs.at_bound s next run read leads
-  ends_so first earliest (RunReach.dead i s run dead) = Runs.dead i s run dead
-  ends_so first earliest (RunReach.early i s on run) = Runs.early i s on run
-  ends_so first earliest (RunReach.rests i s run l idle) = Runs.rests i s run l idle
+    ends_same first earliest is (Reads.dead i s run dead) = Runs.dead i s (run_same first (omega (arith, is)) run) dead
+    ends_same first earliest is (Reads.early i s on run) = Runs.early i s on (run_same first (omega (arith, is)) run)
+    ends_same first earliest is (Reads.quit i s run l unread) =
+        Runs.quit i s (run_same first (omega (arith, is)) run) (on_bound i (omega (arith, is)) l) (λ read. unread (subst (MayRead m) (same.ahead i (omega (arith, is))) read))
+    ends_same first earliest is (Reads.rests i s run l idle) =
+        Runs.rests i s (run_same first (omega (arith, is)) run) (on_bound i (omega (arith, is)) l) idle
 
   ends_within : (first : State) (earliest : Bool) {e : RunEnd} {k : ℕ} → from ≤ hi → EndsBelow m t hi from first earliest e k → (from ≤ k) × (k ≤ hi + 1)
-  ends_within first earliest below (RunReach.at_bound s next run read leads) = (omega (arith, below), omega arith)
-  ends_within first earliest below (RunReach.dead i s run dead) = let h = run_high first below run in (run_low first run, omega (arith, h))
-  ends_within first earliest below (RunReach.early i s on run) = let h = run_high first below run in (run_low first run, omega (arith, h))
-  ends_within first earliest below (RunReach.rests i s run l idle) = (run_low first run, omega (arith, l))
+  ends_within first earliest below (Reads.at_bound s next run read leads) = (omega (arith, below), omega arith)
+  ends_within first earliest below (Reads.dead i s run dead) = let h = run_high first below run in (run_low first run, omega (arith, h))
+  ends_within first earliest below (Reads.early i s on run) = let h = run_high first below run in (run_low first run, omega (arith, h))
+  ends_within first earliest below (Reads.quit i s run l unread) = let low = run_low first run in (omega (arith, low), omega (arith, l))
+  ends_within first earliest below (Reads.rests i s run l idle) = (run_low first run, omega (arith, l))
 
 pub search_same : (m : Machine) (t : Text) (hi from : ℕ) (anchored : Anchored) (earliest : Bool) (e : RunEnd) (r : ℕ) (u : Text) (other_hi : ℕ) →
     SearchEndsBelow m t hi from anchored earliest e r → from ≤ r → LookSame r t hi u other_hi → Runs.SearchEnds m u other_hi from anchored earliest e
-search_same m t hi from anchored earliest e r u other_hi (RunReach.ran first read begins ended) low same =
+search_same m t hi from anchored earliest e r u other_hi (Reads.ran first read begins ended) low same =
     let behind = sym (same.behind from low) in
     Runs.ran first (subst (MayRead m) behind read) (subst (λ b. Begins m anchored b first) behind begins) (ends_same m t hi from r u other_hi same first earliest refl ended)
-
-search_ends : (m : Machine) (t : Text) (hi from : ℕ) (anchored : Anchored) (earliest : Bool) (e : RunEnd) (r : ℕ) →
-    SearchEndsBelow m t hi from anchored earliest e r → Runs.SearchEnds m t hi from anchored earliest e
-search_ends m t hi from anchored earliest e r (RunReach.ran first read begins ended) = Runs.ran first read begins (ends_so m t hi from first earliest ended)
+search_same m t hi from anchored earliest e r u other_hi (Reads.unread p is unread) low same =
+    Runs.unread p is (λ read. unread (subst (MayRead m) (same.behind from low) read))
 
 pub search_within : (m : Machine) (t : Text) (hi from : ℕ) (anchored : Anchored) (earliest : Bool) (e : RunEnd) (r : ℕ) → from ≤ hi →
     SearchEndsBelow m t hi from anchored earliest e r → (from ≤ r) × (r ≤ hi + 1)
-search_within m t hi from anchored earliest e r below (RunReach.ran first read begins ended) = ends_within m t hi from first earliest below ended
+search_within m t hi from anchored earliest e r below (Reads.ran first read begins ended) = ends_within m t hi from first earliest below ended
+search_within m t hi from anchored earliest e r below (Reads.unread p is unread) = (omega arith, omega (arith, below))
+
+last_is : (a b : Option (ℕ × ℕ)) → met_last a ≡ met_last b → a ≡ b
+last_is a b e = cc e
+
+-- what was found last ends before the position that the run came to
+best_before : (i at : ℕ) (matched : Option ℕ) (met : Option (ℕ × ℕ)) (q e : ℕ) → best_at at matched met ≡ Some (q, e) →
+    ((p k : ℕ) → met ≡ Some (p, k) → k < i) → i ≤ at + 1 → at < i → e < i
+best_before i at None met q e is before le lt = before q e is
+best_before i at (Some k) met q e is before le lt = let same = (some_pair_parts k q at e is).1 in omega (arith, same, lt)
+
+run_before : (m : Machine) (t : Text) (hi from : ℕ) (first : State) (i : ℕ) (s : State) (met : Option (ℕ × ℕ)) → Runs.Runs m t hi from first i s met →
+    (q e : ℕ) → met ≡ Some (q, e) → e < i
+run_before m t hi from first i s met Runs.begun q e is = absurd (none-some (q, e) is)
+run_before m t hi from first i s met (Runs.goes_on {met = old} k before next run lt read leads) q e is =
+    best_before (k + 1) k next.matched old q e is (λ p n same. let l = run_before m t hi from first k before old run p n same in omega (arith, l)) (omega arith) (omega arith)
+
+ends_before : (m : Machine) (t : Text) (hi from : ℕ) (first : State) (earliest : Bool) (end : RunEnd) (r q e : ℕ) → end ≡ met_last (Some (q, e)) →
+    EndsBelow m t hi from first earliest end r → e < r
+ends_before m t hi from first earliest end r q e is (Reads.at_bound {met = old} s next run read leads) =
+    best_before (hi + 1) hi next.matched old q e (last_is _ _ is) (λ p n same. let l = run_before m t hi from first hi s old run p n same in omega (arith, l)) (omega arith) (omega arith)
+ends_before m t hi from first earliest end r q e is (Reads.dead {met = met} i s run dead) = run_before m t hi from first i s met run q e (last_is _ _ is)
+ends_before m t hi from first earliest end r q e is (Reads.early {met = met} i s on run) = run_before m t hi from first i s (Some met) run q e (last_is _ _ is)
+ends_before m t hi from first earliest end r q e is (Reads.quit i s run l unread) = cc is
+ends_before m t hi from first earliest end r q e is (Reads.rests i s run l idle) = cc is
+
+search_before : (m : Machine) (t : Text) (hi from : ℕ) (anchored : Anchored) (earliest : Bool) (end : RunEnd) (r q e : ℕ) → end ≡ met_last (Some (q, e)) →
+    SearchEndsBelow m t hi from anchored earliest end r → e < r
+search_before m t hi from anchored earliest end r q e is (Reads.ran first read begins ended) = ends_before m t hi from first earliest end r q e is ended
+search_before m t hi from anchored earliest end r q e is (Reads.unread p at unread) = cc is
+
+module _ (m : Machine) (t : Text) (hi lo end r : ℕ) (u : Text) (other_hi : ℕ) (same : LookSame r t hi u other_hi) (short : end < r) where
+  down_high : (first : State) {i : ℕ} {s : State} {least : Option (ℕ × ℕ)} → Runs.RunsDown m t lo end first i s least → i ≤ end
+  down_high first Runs.begun = omega arith
+  down_high first (Runs.goes_down i s next run l read leads) = let h = down_high first run in omega (arith, h)
+
+  down_same : (first : State) {i : ℕ} {s : State} {least : Option (ℕ × ℕ)} → Runs.RunsDown m t lo end first i s least → Runs.RunsDown m u lo end first i s least
+  down_same first Runs.begun = Runs.begun
+  down_same first (Runs.goes_down i s next run l read leads) =
+      let h = down_high first run in
+      let e = sym (same.behind (i + 1) (omega (arith, h, short))) in
+      Runs.goes_down i s next (down_same first run) l (subst (MayRead m) e read) (subst (λ b. Leads m s b next) e leads)
+
+  down_ends : (first : State) (earliest : Bool) {e : RunEnd} → Runs.EndsDown m t lo end first earliest e → Runs.EndsDown m u lo end first earliest e
+  down_ends first earliest (Runs.at_bound s next run read leads) =
+      let h = down_high first run in
+      let e = sym (same.behind lo (omega (arith, h, short))) in
+      Runs.at_bound s next (down_same first run) (subst (MayRead m) e read) (subst (λ b. Leads m s b next) e leads)
+  down_ends first earliest (Runs.dead i s run dead) = Runs.dead i s (down_same first run) dead
+  down_ends first earliest (Runs.early i s on run) = Runs.early i s on (down_same first run)
+  down_ends first earliest (Runs.quit p s run l unread) =
+      let h = down_high first run in
+      Runs.quit p s (down_same first run) l (λ read. unread (subst (MayRead m) (same.behind (p + 1) (omega (arith, h, short))) read))
+
+  search_down : (anchored : Anchored) (earliest : Bool) {e : RunEnd} → Runs.SearchEndsDown m t lo end anchored earliest e → Runs.SearchEndsDown m u lo end anchored earliest e
+  search_down anchored earliest (Runs.ran first read begins ended) =
+      let e = sym (same.ahead end short) in
+      Runs.ran first (subst (MayRead m) e read) (subst (λ b. Begins m anchored b first) e begins) (down_ends first earliest ended)
+  search_down anchored earliest (Runs.unread unread) = Runs.unread (λ read. unread (subst (MayRead m) (same.ahead end short) read))
 
 pub run_reach_law : RunReachLaw
 run_reach_law = record {
@@ -85,4 +146,6 @@ run_reach_law = record {
       search_same m t hi from anchored earliest e r u other_hi ended (search_within m t hi from anchored earliest e r below ended).0 same;
   onward = search_within;
   longer = λ m t hi from first i s met more h run. run_longer m t hi from more h first run;
+  met_before = λ m t hi from anchored earliest q e r ended. search_before m t hi from anchored earliest _ r q e refl ended;
+  down = λ m t hi lo end anchored earliest e r u other_hi short ended same. search_down m t hi lo end r u other_hi same short anchored earliest ended;
 }

@@ -1,11 +1,12 @@
--- Reading: how far a DFA search forwards looks at a text, whatever holds its states.
-use Rattle.std.specs.Prelude.{◌≡◌, ℕ, ◌+◌, ◌<◌, ◌≤◌, Bool, true, Option, Some, None}
+-- Reading: what a DFA search looks at of a text, whatever holds its states.
+use Rattle.std.specs.Prelude.{◌≡◌, ℕ, ◌+◌, ◌<◌, ◌≤◌, Bool, Option, Some}
 use Rattle.rc_text.specs.declared.types.Anchored.{Anchored}
 use Rattle.rc_program.specs.Answer.{Search}
 use Rattle.rc_program.specs.Text.{Text}
-use Rattle.rc_determinize.specs.States.{State, best_at}
-use Rattle.rc_dfa.specs.Machine.{Machine, Leads, Begins, is_dead, is_idle}
-use Rattle.rc_dfa.specs.Runs.{ahead_at, behind_at, MayRead, Runs, RunEnd, met_last, idle_at, SearchEnds}
+use Rattle.rc_determinize.specs.States.{State}
+use Rattle.rc_dfa.specs.Machine.{Machine}
+use Rattle.rc_dfa.specs.Reads.{SearchEndsBelow}
+use Rattle.rc_dfa.specs.Runs.{ahead_at, behind_at, Runs, RunEnd, met_last, SearchEnds, SearchEndsDown}
 use Rattle.rc_reach.specs.Settled.{AgreesBelow, IsInside}
 
 -- Runs see the same bytes before r in both texts, and so does their upper bound: if it is before r,
@@ -15,30 +16,6 @@ pub record LookSame (r : ℕ) (t : Text) (hi : ℕ) (u : Text) (other_hi : ℕ) 
   pub behind : (p : ℕ) → p ≤ r → behind_at u p ≡ behind_at t p
   pub far : r ≤ hi → r ≤ other_hi
   pub near : hi < r → other_hi ≡ hi
-
--- The run ended so, and looked at the bytes before r alone.
-pub data EndsBelow (m : Machine) (t : Text) (hi from : ℕ) (first : State) (earliest : Bool) : RunEnd →
-    ℕ → Type 0 where
-  -- At the upper bound it looked at the byte there.
-  at_bound : {met : Option (ℕ × ℕ)} (s next : State) → Runs m t hi from first hi s met →
-      MayRead m (ahead_at t hi) → Leads m s (ahead_at t hi) next →
-      EndsBelow m t hi from first earliest (met_last (best_at hi next.matched met)) (hi + 1)
-  -- Where nothing goes on it looked at the bytes before.
-  dead : {met : Option (ℕ × ℕ)} (i : ℕ) (s : State) → Runs m t hi from first i s met →
-      is_dead s ≡ true → EndsBelow m t hi from first earliest (met_last met) i
-  early : {met : ℕ × ℕ} (i : ℕ) (s : State) → earliest ≡ true →
-      Runs m t hi from first i s (Some met) →
-      EndsBelow m t hi from first earliest (met_last (Some met)) i
-  rests : (i : ℕ) (s : State) → Runs m t hi from first i s None → i ≤ hi → is_idle s ≡ true →
-      EndsBelow m t hi from first earliest (idle_at i) i
-
--- A whole search forwards. It also looks at the byte before its start.
-pub data SearchEndsBelow (m : Machine) (t : Text) (hi from : ℕ) (anchored : Anchored)
-    (earliest : Bool) : RunEnd → ℕ → Type 0 where
-  ran : {e : RunEnd} {r : ℕ} (first : State) → MayRead m (behind_at t from) →
-      Begins m anchored (behind_at t from) first →
-      EndsBelow m t hi from first earliest e r →
-      SearchEndsBelow m t hi from anchored earliest e r
 
 -- A search ends so in each text that has the bytes that it looked at.
 pub record RunReachLaw : Type 0 where
@@ -58,6 +35,15 @@ pub record RunReachLaw : Type 0 where
   pub longer : (m : Machine) (t : Text) (hi from : ℕ) (first : State) (i : ℕ) (s : State)
       (met : Option (ℕ × ℕ)) (more : ℕ) →
       hi ≤ more → Runs m t hi from first i s met → Runs m t more from first i s met
+  -- What it found ends before a byte at which it looked.
+  pub met_before : (m : Machine) (t : Text) (hi from : ℕ) (anchored : Anchored) (earliest : Bool)
+      (q e r : ℕ) →
+      SearchEndsBelow m t hi from anchored earliest (met_last (Some (q, e))) r → e < r
+  -- A search backwards looks at the byte where it begins, and at those before.
+  pub down : (m : Machine) (t : Text) (hi lo end : ℕ) (anchored : Anchored) (earliest : Bool)
+      (e : RunEnd) (r : ℕ) (u : Text) (other_hi : ℕ) →
+      end < r → SearchEndsDown m t lo end anchored earliest e → LookSame r t hi u other_hi →
+      SearchEndsDown m u lo end anchored earliest e
 
 -- The same of searches that agree as far as one looked.
 abbrev pub TableReachLaw : Type 0

@@ -13,10 +13,13 @@ use Rattle.rc_program.specs.Sought.{text_of}
 use Rattle.rc_determinize.specs.States.{IsInside}
 use Rattle.rc_dfa.specs.Machine.{Machine, IsAsked}
 use Rattle.rc_dfa.specs.Ended.{HasEnded, HasEndedDown, gave_up}
+use Rattle.rc_dfa.specs.Reads.{HasEndedBelow}
 use Rattle.rc_dfa.specs.Laws.{IsUnread}
 use Rattle.rc_dfa.specs.declared.ended.Met.{Met}
 use Rattle.rc_dfa.specs.declared.ended.Ended.{Ended}
+use Rattle.rc_dfa.specs.declared.ended.Reading.{Reading}
 use Rattle.rc_dfa.specs.declared.ended.Ended.TheVariants.{Found, Idle, Quit, GaveUp}
+use Rattle.rc_dfa.proofs.ReadLemmas.{has_ended}
 use Rattle.rc_dfa.proofs.RunLemmas.{run_law}
 use Rattle.rc_dfa_search.specs.declared.search.Aim.{Aim}
 use Rattle.rc_dfa_search.specs.Machines.{IsCase, entries_of}
@@ -72,6 +75,13 @@ kept_then a b c k l = record {
 }
 
 -- WHAT IS MET
+
+-- how far a run looked is more than how it ended
+pub ended_so : (AreOf : Machine → Machine → Type 0) (i : Searched) (anchored : Anchored) (from : ℕ) (earliest may_rest : Bool) (r : Reading) →
+    ((m n : Machine) → AreOf m n → IsAsked m anchored → HasEndedBelow m (text_of m.setting.terminator i) (high i) from anchored earliest may_rest r.ended r.read) →
+    (m n : Machine) → AreOf m n → IsAsked m anchored → HasEnded m (text_of m.setting.terminator i) (high i) from anchored earliest may_rest r.ended
+ended_so AreOf i anchored from earliest may_rest r ended m n of asked =
+    has_ended m (text_of m.setting.terminator i) (high i) from anchored earliest may_rest r.ended r.read (ended m n of asked)
 
 pub told_met : (m : Machine) (t : Text) (hi from : ℕ) (anchored : Anchored) (early : Bool) (e : Ended) → HasEnded m t hi from anchored early false e →
     IfOk (told_of e) (HasMet m t hi from anchored early)

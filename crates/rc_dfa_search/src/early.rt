@@ -91,11 +91,8 @@ fn run_leg<H: Halves, C: Cursor>(
         → IfOk result (Tells aim.kind of.ahead (search_for aim hs terminator input.old) from) }
     ensures on { IfOk result (ComesOn from bound) }
 {
-    hint_of(
-        halves.run_forwards(cache, input, Anchored::No, from, true, true, rest_from),
-        from,
-        bound,
-    )
+    let run = halves.run_forwards(cache, input, Anchored::No, from, true, true, rest_from);
+    hint_of(run.ended, from, bound)
 }
 
 /// Returns from where on a match is to be looked for: none begins earlier. Returns None if there is

@@ -187,8 +187,8 @@ fn find_here<H: Halves, C: Cursor>(
     ensures within { IfOk result (λ found. IfSome found
         (λ m. (m.start ≡ from) × (m.start ≤ m.end) × (m.end ≤ bound))) }
 {
-    let ended = halves.run_forwards(cache, input, Anchored::Yes, from, false, false, 0);
-    let Some(met) = told(ended)? else {
+    let run = halves.run_forwards(cache, input, Anchored::Yes, from, false, false, 0);
+    let Some(met) = told(run.ended)? else {
         return Ok(None);
     };
     let end = met.at.max(from).min(bound);

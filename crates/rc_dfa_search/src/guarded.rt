@@ -92,11 +92,8 @@ fn run_leg<H: Halves, C: Cursor>(
         (H.GivesUp halves.now cache.old cache.new (high input.old - from + 2))) }
     ensures spends { H.Spends halves.now cache.old cache.new (high input.old - from + 2) }
 {
-    leg_of(
-        halves.run_forwards(cache, input, Anchored::No, from, false, true, rest_from),
-        from,
-        bound,
-    )
+    let run = halves.run_forwards(cache, input, Anchored::No, from, false, true, rest_from);
+    leg_of(run.ended, from, bound)
 }
 
 /// Returns the end of the match of the least start. A run begins where a match with the next needle

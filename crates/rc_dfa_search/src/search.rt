@@ -137,7 +137,8 @@ pub(crate) fn run_forwards<H: Halves, C: Cursor>(
     ensures spends { H.Spends halves.now cache.old cache.new (high input.old - from + 2) }
 {
     let anchored = input.get_anchored();
-    told(halves.run_forwards(cache, input, anchored, from, is_early(aim), false, 0))
+    let run = halves.run_forwards(cache, input, anchored, from, is_early(aim), false, 0);
+    told(run.ended)
 }
 
 /// Runs backwards from `end` down to `from`, and returns what it found.

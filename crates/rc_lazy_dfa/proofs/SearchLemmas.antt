@@ -25,7 +25,7 @@ use Rattle.rc_lazy_dfa.proofs.CellLemmas.{cell_here, leads_to, marked}
 use Rattle.rc_lazy_dfa.proofs.NameLemmas.{is_read, died_or_not, row_going}
 use Rattle.rc_lazy_dfa.proofs.SpendLemmas.{over_done, says_by}
 
-abbrev Ends : Request → RunEnd → Type 0
+abbrev Ends : Request → ℕ → RunEnd → Type 0
 Ends q = EndsBy q.backwards q.frame.machine (text_in q) (course_of q)
 
 -- OVER A PIECE
@@ -147,9 +147,9 @@ module _ (q : Request) (h : Half) (i : ℕ) (stand : Stand) (beside : Option ℕ
   pub step_few : span q.backwards q.from i + 1 + 1 ≤ all_spent q
   step_few = few_spent q i x.on x.within
 
-  pub step_quits : cell ≡ quit → (q.backwards ≡ true → 0 < i) → Ends q (stopped_at (offset_of q.backwards i))
-  step_quits e some =
-      ways.quits q.frame.machine (text_in q) (course_of q) q.backwards i x.start stand.met x.standing x.within some
+  pub step_quits : (r : ℕ) → (q.backwards ≡ false → r ≡ i + 1) → cell ≡ quit → (q.backwards ≡ true → 0 < i) → Ends q r (stopped_at (offset_of q.backwards i))
+  step_quits r far e some =
+      ways.quits q.frame.machine (text_in q) (course_of q) q.backwards i r far x.start stand.met x.standing x.within some
       (subst (λ o. ¬ MayRead q.frame.machine o) (sym x.is)
       (⊎_elim (λ u. u.1) (λ n. let k = n.1 in absurd ((is_read q.frame h.store x.half.held cell k.0 k.2).0 e)) x.known))
 
@@ -175,13 +175,13 @@ module _ (q : Request) (h : Half) (i : ℕ) (stand : Stand) (beside : Option ℕ
     unfolding next
     names = (step_leads ne).1.2
 
-    pub step_bounded : i ≡ q.bound → Ends q (met_last met)
+    pub step_bounded : i ≡ q.bound → Ends q (q.bound + 1) (met_last met)
     step_bounded e =
         let l = step_leads ne in
         let t = l.1.0 in
         let B : ℕ → Type 0 = λ k. Stands q k x.start stand.met → MayRead q.frame.machine (beside_at q.backwards (text_in q) k) →
-        Leads q.frame.machine x.start (beside_at q.backwards (text_in q) k) t → Ends q (met_last (best_at k t.matched stand.met)) in
-        subst (λ m. Ends q (met_last m)) (sym (is t l.1.2))
+        Leads q.frame.machine x.start (beside_at q.backwards (text_in q) k) t → Ends q (q.bound + 1) (met_last (best_at k t.matched stand.met)) in
+        subst (λ m. Ends q (q.bound + 1) (met_last m)) (sym (is t l.1.2))
         (subst B (sym e) (ways.bounded q.frame.machine (text_in q) (course_of q) q.backwards x.start t stand.met) x.standing l.0 l.1.1)
 
     module _ (left : 0 < span q.backwards i q.bound) where
@@ -192,22 +192,22 @@ module _ (q : Request) (h : Half) (i : ℕ) (stand : Stand) (beside : Option ℕ
           subst (λ m. Stands q (next_of q.backwards i) l.1.0 m) (sym (is l.1.0 l.1.2))
           (ways.stands_on q.frame.machine (text_in q) (course_of q) q.backwards i x.start l.1.0 stand.met x.standing left l.0 l.1.1)
 
-      pub step_dies : has_died cell ≡ true → Ends q (met_last met)
+      pub step_dies : has_died cell ≡ true → Ends q (next_of q.backwards i) (met_last met)
       step_dies e =
           ways.dies q.frame.machine (text_in q) (course_of q) q.backwards (next_of q.backwards i) next met stands_on
           (sym (died_or_not q.frame h.store x.half.held cell next names) ∙ e)
 
-      pub step_early : q.extent.earliest ≡ true → is_some met ≡ true → Ends q (met_last met)
+      pub step_early : q.extent.earliest ≡ true → is_some met ≡ true → Ends q (next_of q.backwards i) (met_last met)
       step_early e some = ways.stops_early q.frame.machine (text_in q) (course_of q) q.backwards (next_of q.backwards i) next met stands_on e some
 
       pub step_row : (row : ℕ) → row ≡ row_of cell → has_died cell ≡ false → IsRow q.frame.width h.store.states row next
       step_row row e alive =
           subst (λ r. IsRow q.frame.width h.store.states r next) (sym e) (row_going q.frame h.store x.half.held cell next names alive)
 
-      pub step_rests : q.backwards ≡ false → is_some met ≡ false → is_idle next ≡ true → Ends q (idle_at (i + 1))
+      pub step_rests : q.backwards ≡ false → is_some met ≡ false → is_idle next ≡ true → Ends q (i + 1) (idle_at (i + 1))
       step_rests forwards none idle =
           let n = span_next q.backwards q.from i q.bound x.on left in
-          subst (λ k. Ends q (idle_at k)) (ap (λ way. next_of way i) forwards)
+          subst (λ k. Ends q k (idle_at k)) (ap (λ way. next_of way i) forwards)
           (ways.rests q.frame.machine (text_in q) (course_of q) q.backwards forwards (next_of q.backwards i) next met stands_on n.1 none idle)
 
       pub step_goes : (row : ℕ) → row ≡ row_of cell → has_died cell ≡ false → IsAt q h (next_of q.backwards i) (record { row = row; met = met })
@@ -225,10 +225,10 @@ module _ (q : Request) (h : Half) (i : ℕ) (stand : Stand) (beside : Option ℕ
 
 -- where it stands nothing was found, and nothing is under way
 pub rests_here : (q : Request) (h : Half) (i : ℕ) (stand : Stand) → IsAt q h i stand → IsOn q.backwards i q.bound → q.backwards ≡ false → q.extent.may_rest ≡ true →
-    is_some stand.met ≡ false → ((s : State) → IsRow q.frame.width h.store.states stand.row s → is_idle s ≡ true) → IsOver q h (Idle i)
+    is_some stand.met ≡ false → ((s : State) → IsRow q.frame.width h.store.states stand.row s → is_idle s ≡ true) → IsOver q h i (Idle i)
 rests_here q h i stand here within forwards may none idle =
     let few = few_spent q i here.on within in
-    over_done q h (span q.backwards q.from i + 1) (Idle i) here.half here.spends (omega (arith, few))
+    over_done q h (span q.backwards q.from i + 1) i (Idle i) here.half here.spends (omega (arith, few))
     (ways.idle_so q.frame.machine (text_in q) (course_of q) q.backwards q.extent.may_rest i forwards may
     (ways.rests q.frame.machine (text_in q) (course_of q) q.backwards forwards i here.stands.state stand.met here.stands.standing within none
     (idle here.stands.state here.stands.in_row))) refl
@@ -272,7 +272,7 @@ module _ (q : Request) (h : Half) (beside : Option ℕ) (cell : ℕ) (x : IsBegu
   unread : cell ≡ quit → ¬ MayRead q.frame.machine beside
   unread e = ⊎_elim (λ u. u.1) (λ n. let k = n.1 in absurd ((is_read q.frame h.store x.half.held cell k.0 k.2).0 e)) x.known
 
-  pub begin_quits : cell ≡ quit → (q.backwards ≡ false → 0 < q.from) → Ends q (stopped_at (offset_of (not q.backwards) q.from))
+  pub begin_quits : cell ≡ quit → (q.backwards ≡ false → 0 < q.from) → Ends q q.from (stopped_at (offset_of (not q.backwards) q.from))
   begin_quits e some =
       ways.never_begins q.frame.machine (text_in q) (course_of q) q.backwards some (subst (λ o. ¬ MayRead q.frame.machine o) (sym x.is) (unread e))
 
@@ -289,7 +289,7 @@ module _ (q : Request) (h : Half) (beside : Option ℕ) (cell : ℕ) (x : IsBegu
         ways.begins q.frame.machine (text_in q) (course_of q) q.backwards k.1.0 (subst (λ o. MayRead q.frame.machine o) (sym x.is) k.0)
         (subst (λ o. Begins q.frame.machine q.anchored o k.1.0) (sym x.is) k.1.1)
 
-    pub begin_dies : has_died cell ≡ true → Ends q (met_last None)
+    pub begin_dies : has_died cell ≡ true → Ends q q.from (met_last None)
     begin_dies e =
         let k = starts in
         ways.dies q.frame.machine (text_in q) (course_of q) q.backwards q.from k.1.0 None begin_stands
@@ -312,22 +312,22 @@ module _ (q : Request) (h : Half) (beside : Option ℕ) (cell : ℕ) (x : IsBegu
 -- HOW A SEARCH ENDS
 
 -- at a byte that may not be read
-pub over_quit : (q : Request) (h : Half) (n i b p : ℕ) (side : Bool) → IsHalf q.frame h → Spends q.frame q.begun h.store n → n ≤ all_spent q → p ≡ offset_of side i →
-    IsBeside side q.seen.content i b → Ends q (stopped_at (offset_of side i)) → IsOver q h (Quit b p)
-over_quit q h n i b p side half spends le is there ends =
-    over_done q h n (Quit b p) half spends le
-    (subst (λ k. HasEndedBy q.backwards q.frame.machine (text_in q) (course_of q) q.extent.may_rest (Quit b k)) (sym is)
-    (ways.quit_so q.frame.machine (text_in q) (course_of q) q.backwards q.extent.may_rest b (offset_of side i) (ways.there_of side q.seen.content i b there) ends)) refl
+pub over_quit : (q : Request) (h : Half) (n i b p r : ℕ) (side : Bool) → IsHalf q.frame h → Spends q.frame q.begun h.store n → n ≤ all_spent q → p ≡ offset_of side i →
+    IsBeside side q.seen.content i b → Ends q r (stopped_at (offset_of side i)) → IsOver q h r (Quit b p)
+over_quit q h n i b p r side half spends le is there ends =
+    over_done q h n r (Quit b p) half spends le
+    (subst (λ k. HasEndedBy q.backwards q.frame.machine (text_in q) (course_of q) q.extent.may_rest r (Quit b k)) (sym is)
+    (ways.quit_so q.frame.machine (text_in q) (course_of q) q.backwards q.extent.may_rest b (offset_of side i) r (ways.there_of side q.seen.content i b there) ends)) refl
 
 -- with what was found last
-pub over_says : (q : Request) (h : Half) (n : ℕ) (a : Automaton) (backwards : Bool) (met : Option (ℕ × ℕ)) (e : Ended) → q.backwards ≡ backwards →
+pub over_says : (q : Request) (h : Half) (n r : ℕ) (a : Automaton) (backwards : Bool) (met : Option (ℕ × ℕ)) (e : Ended) → q.backwards ≡ backwards →
     frame_of a (direction_of backwards) ≡ q.frame → Says backwards (machine_of a (direction_of backwards)) met e → IsHalf q.frame h →
-    Spends q.frame q.begun h.store n → n ≤ all_spent q → Ends q (met_last met) → IsOver q h e
-over_says q h n a backwards met e way same said half spends le ends =
+    Spends q.frame q.begun h.store n → n ≤ all_spent q → Ends q r (met_last met) → IsOver q h r e
+over_says q h n r a backwards met e way same said half spends le ends =
     let says = subst (λ side. Says side q.frame.machine met e) (sym way)
     (says_by backwards q.frame (frame_of a (direction_of backwards)) met e same said) in
-    over_done q h n e half spends le (says.says (text_in q) (course_of q) q.extent.may_rest ends) says.done
+    over_done q h n r e half spends le (says.says (text_in q) (course_of q) q.extent.may_rest r ends) says.done
 
-pub over_none : (q : Request) (h : Half) (n : ℕ) → IsHalf q.frame h → Spends q.frame q.begun h.store n → n ≤ all_spent q → Ends q (met_last None) → IsOver q h (Found None)
-over_none q h n half spends le ends =
-    over_done q h n (Found None) half spends le (ways.none_so q.frame.machine (text_in q) (course_of q) q.backwards q.extent.may_rest ends) refl
+pub over_none : (q : Request) (h : Half) (n r : ℕ) → IsHalf q.frame h → Spends q.frame q.begun h.store n → n ≤ all_spent q → Ends q r (met_last None) → IsOver q h r (Found None)
+over_none q h n r half spends le ends =
+    over_done q h n r (Found None) half spends le (ways.none_so q.frame.machine (text_in q) (course_of q) q.backwards q.extent.may_rest r ends) refl

@@ -22,22 +22,22 @@ refused_may f a b Short h = h
 
 -- HOW A SEARCH ENDS
 
-pub over_done : (q : Request) (h : Half) (n : ℕ) (e : Ended) → IsHalf q.frame h → Spends q.frame q.begun h.store n → n ≤ all_spent q →
-    HasEndedBy q.backwards q.frame.machine (text_in q) (course_of q) q.extent.may_rest e → gave_up e ≡ None → IsOver q h e
-over_done q h n e half spends le ended done = record {
+pub over_done : (q : Request) (h : Half) (n r : ℕ) (e : Ended) → IsHalf q.frame h → Spends q.frame q.begun h.store n → n ≤ all_spent q →
+    HasEndedBy q.backwards q.frame.machine (text_in q) (course_of q) q.extent.may_rest r e → gave_up e ≡ None → IsOver q h r e
+over_done q h n r e half spends le ended done = record {
   half = half;
   spends = spends_within q.frame q.begun h.store n (all_spent q) le spends;
   ended = ended;
   gives_up = λ memory k. absurd (none-some memory (sym done ∙ k));
 }
 
-pub over_refused : (q : Request) (h : Half) (b : Store) (n at : ℕ) (refusal : Refusal) (memory : Bool) → IsHalf q.frame h → Spends q.frame q.begun b n →
+pub over_refused : (q : Request) (h : Half) (b : Store) (n at r : ℕ) (refusal : Refusal) (memory : Bool) → IsHalf q.frame h → Spends q.frame q.begun b n →
     Spends q.frame b h.store 1 → IsRefused q.frame b h.store refusal → n + 1 ≤ all_spent q → IsOn q.backwards q.from at → IsOn q.backwards at q.bound → memory ≡ is_memory refusal →
-    IsOver q h (GaveUp at memory)
-over_refused q h b n at refusal memory half before spends refused le low high is = record {
+    IsOver q h r (GaveUp at memory)
+over_refused q h b n at r refusal memory half before spends refused le low high is = record {
   half = half;
   spends = spends_within q.frame q.begun h.store (n + 1) (all_spent q) le (spends_both q.frame q.begun b h.store n 1 before spends);
-  ended = gave_so q.frame.machine (text_in q) (course_of q) q.backwards q.extent.may_rest at memory low high;
+  ended = gave_so q.frame.machine (text_in q) (course_of q) q.backwards q.extent.may_rest at r memory low high;
   gives_up = λ m k.
       let same : memory ≡ m = same_Some memory m k in
       may_within q.frame q.begun h.store (n + 1) (all_spent q) m le

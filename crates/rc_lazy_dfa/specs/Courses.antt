@@ -85,17 +85,18 @@ pub record IsAt (q : Request) (h : Half) (i : ℕ) (stand : Stand) : Type 0 wher
   pub spends : Spends q.frame q.begun h.store (span q.backwards q.from i + 1)
   pub stands : StandsAt q h.store i stand
 
-pub record IsOver (q : Request) (h : Half) (e : Ended) : Type 0 where
+-- Forwards it looked at the bytes before r alone, unless it gave up.
+pub record IsOver (q : Request) (h : Half) (r : ℕ) (e : Ended) : Type 0 where
   pub half : IsHalf q.frame h
   pub spends : Spends q.frame q.begun h.store (all_spent q)
-  pub ended : HasEndedBy q.backwards q.frame.machine (text_in q) (course_of q) q.extent.may_rest e
+  pub ended : HasEndedBy q.backwards q.frame.machine (text_in q) (course_of q) q.extent.may_rest r e
   pub gives_up : (memory : Bool) → gave_up e ≡ Some memory → MayGiveUp q.frame q.begun h.store (all_spent q) memory
 
 abbrev pub IsLeg : Request → Half → ℕ → Progress → Type 0
 IsLeg q h i (Through s) = IsAt q h i s
-IsLeg q h i (Over e) = IsOver q h e
+IsLeg q h i (Over e r) = IsOver q h r e
 
 -- The result of a search that found this last.
 pub record Says (backwards : Bool) (m : Machine) (found : Option (ℕ × ℕ)) (e : Ended) : Type 0 where
   pub done : gave_up e ≡ None
-  pub says : (t : Text) (c : Course) (may_rest : Bool) → EndsBy backwards m t c (met_last found) → HasEndedBy backwards m t c may_rest e
+  pub says : (t : Text) (c : Course) (may_rest : Bool) (r : ℕ) → EndsBy backwards m t c r (met_last found) → HasEndedBy backwards m t c may_rest r e

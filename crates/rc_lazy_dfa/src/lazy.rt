@@ -10,7 +10,7 @@ use crate::half::{Half, starts_in};
 use crate::search;
 use crate::which::Ends;
 use rc_dfa::automaton::{Automaton, Direction};
-use rc_dfa::ended::Ended;
+use rc_dfa::ended::{Ended, Reading};
 use rc_dfa::halves::Halves;
 use rc_pattern_set::sets::PatternSet;
 use rc_text::cursor::Cursor;
@@ -239,10 +239,13 @@ impl Halves for Lazy {
         earliest: bool,
         may_rest: bool,
         rest_from: usize,
-    ) -> Ended {
+    ) -> Reading {
         let automaton = &self.automaton;
         if !is_asked(automaton, &anchored) {
-            return Ended::Found(None);
+            return Reading {
+                ended: Ended::Found(None),
+                read: from,
+            };
         }
         search::run_forwards(
             automaton,

@@ -25,8 +25,9 @@ pub(crate) struct Stand {
 pub(crate) enum Progress {
     /// It goes on after them.
     Through(Stand),
-    /// The search ended among them.
-    Over(Ended),
+    /// The search ended among them. Forwards it looked at no byte from this position on, unless it
+    /// gave up.
+    Over(Ended, usize),
 }
 
 /// Returns what was found on the way to the row of the cell.

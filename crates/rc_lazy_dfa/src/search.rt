@@ -9,7 +9,8 @@ ghost use Rattle.rc_table_search.specs.Walks.{first_of, next_of};
 ghost use Rattle.rc_table_search.specs.Ways.{IsBeside, IsBounded, IsNext, IsOn, LiesWithin, beside_at, span};
 ghost use Rattle.rc_lazy_dfa.specs.Stores.{Frame, Held, IsRow, Spends, frame_of};
 ghost use Rattle.rc_dfa.specs.Automata.{machine_of};
-ghost use Rattle.rc_dfa.specs.Ended.{HasEnded, HasEndedDown, gave_up};
+ghost use Rattle.rc_dfa.specs.Ended.{HasEndedDown, gave_up};
+ghost use Rattle.rc_dfa.specs.Reads.{HasEndedBelow};
 ghost use Rattle.rc_program.specs.Sought.{text_of};
 ghost use Rattle.rc_lazy_dfa.specs.Halves.{IsHalf};
 ghost use Rattle.rc_lazy_dfa.specs.Courses.{Request, IsAt, IsLeg, IsOver, MayGiveUp, direction_of};
@@ -19,13 +20,13 @@ use crate::half::Half;
 use crate::run::{Progress, Stand, found, met_by, told};
 use crate::store::Store;
 use rc_dfa::automaton::{Automaton, Direction};
-use rc_dfa::ended::Ended;
+use rc_dfa::ended::{Ended, Reading};
 use rc_table_search::run as table;
 use rc_table_search::run::{Extent, Stops, run};
 use rc_table_search::sides::{byte_beside, offset, piece_on};
 use rc_table_search::way::{Backwards, Forwards, Way, byte, first, left, start, step_on};
 use rc_text::cursor::Cursor;
-use rc_text::input::{Input, high};
+use rc_text::input::{Input, content_fits, high};
 use rc_text::types::Anchored;
 
 /// The number of bytes that a search that may rest reads before it checks whether it rests.
@@ -129,23 +130,24 @@ fn step<W: Way>(
     ensures { IsLeg course half.new (next_of W.BACKWARDS at) result }
 {
     half.serve(1);
+    let after = step_on::<W>(at);
     let cell = match half.next(automaton, direction::<W>(), stand.row, Some(byte)) {
         Ok(cell) => cell,
-        Err(refusal) => return Progress::Over(Ended::GaveUp(at, refusal.is_memory())),
+        Err(refusal) => return Progress::Over(Ended::GaveUp(at, refusal.is_memory()), at),
     };
     if cell == QUIT {
-        return Progress::Over(Ended::Quit(byte, offset(at, W::BACKWARDS)));
+        return Progress::Over(Ended::Quit(byte, offset(at, W::BACKWARDS)), after);
     }
     let met = met_by(&half.store, cell, at, stand.met);
     if has_died(cell) {
-        return Progress::Over(found::<W>(automaton, met));
+        return Progress::Over(found::<W>(automaton, met), after);
     }
     if extent.earliest && met.is_some() {
-        return Progress::Over(found::<W>(automaton, met));
+        return Progress::Over(found::<W>(automaton, met), after);
     }
     let row = row_of(cell);
     if extent.may_rest && at >= extent.rest_from && met.is_none() && half.store.idles_at(row) {
-        return Progress::Over(Ended::Idle(at + 1));
+        return Progress::Over(Ended::Idle(after), after);
     }
     Progress::Through(Stand { row, met })
 }
@@ -191,10 +193,10 @@ fn cross<W: Way, C: Cursor>(
                     stand = next;
                     at = step_on::<W>(at);
                 }
-                Progress::Over(ended) => return Progress::Over(ended),
+                Progress::Over(ended, read) => return Progress::Over(ended, read),
             }
         } else if extent.may_rest && at >= extent.rest_from && is_idle_at(half, stand) {
-            return Progress::Over(Ended::Idle(at));
+            return Progress::Over(Ended::Idle(at), at);
         }
     }
     Progress::Through(stand)
@@ -226,16 +228,16 @@ fn begin<W: Way>(
 {
     let cell = match half.begin(automaton, direction::<W>(), anchored, beside) {
         Ok(cell) => cell,
-        Err(refusal) => return Progress::Over(Ended::GaveUp(from, refusal.is_memory())),
+        Err(refusal) => return Progress::Over(Ended::GaveUp(from, refusal.is_memory()), from),
     };
     if cell == QUIT {
         return match beside {
-            Some(byte) => Progress::Over(Ended::Quit(byte, offset(from, !W::BACKWARDS))),
-            None => Progress::Over(Ended::Found(None)),
+            Some(byte) => Progress::Over(Ended::Quit(byte, offset(from, !W::BACKWARDS)), from),
+            None => Progress::Over(Ended::Found(None), from),
         };
     }
     if has_died(cell) {
-        return Progress::Over(Ended::Found(None));
+        return Progress::Over(Ended::Found(None), from);
     }
     let row = row_of(cell);
     Progress::Through(Stand { row, met: None })
@@ -260,7 +262,7 @@ fn finish<W: Way, C: Cursor>(
     requires high { end ≤ slice_end course.seen }
     requires end { end ≡ course.bound }
     ensures keeps { Keeps input.old input.new }
-    ensures over { IsOver course half.new result }
+    ensures over { IsOver course half.new (course.bound + 1) result }
 {
     let beside = byte_beside(input, end, W::BACKWARDS);
     let cell = match half.next(automaton, direction::<W>(), stand.row, beside) {
@@ -276,7 +278,8 @@ fn finish<W: Way, C: Cursor>(
     found::<W>(automaton, met_by(&half.store, cell, end, stand.met))
 }
 
-/// Searches from the position `from` up to `end`, or down to it.
+/// Searches from the position `from` up to `end`, or down to it. If a search forwards comes there,
+/// it looks at the byte there, or sees that none is.
 #[inline(always)]
 pub(crate) fn search<W: Way, C: Cursor>(
     automaton: &Automaton,
@@ -286,7 +289,7 @@ pub(crate) fn search<W: Way, C: Cursor>(
     from: usize,
     end: usize,
     extent: Extent,
-) -> Ended
+) -> Reading
     ghost course: { Request }
     requires course { course ≡ record {
       backwards = W.BACKWARDS;
@@ -305,16 +308,21 @@ pub(crate) fn search<W: Way, C: Cursor>(
     requires high { (from ≤ slice_end input.old) × (end ≤ slice_end input.old) }
     requires rests { extent.may_rest ≡ true → W.BACKWARDS ≡ false }
     ensures keeps { Keeps input.old input.new }
-    ensures over { IsOver course half.new result }
+    ensures over { IsOver course half.new result.read result.ended }
 {
+    content_fits(input);
     let beside = byte_beside(input, from, !W::BACKWARDS);
     let stand = match begin::<W>(automaton, half, anchored, beside, from) {
         Progress::Through(stand) => stand,
-        Progress::Over(ended) => return ended,
+        Progress::Over(ended, read) => return Reading { ended, read },
     };
     match cross::<W, C>(automaton, half, input, from, end, stand, extent) {
-        Progress::Through(last) => finish::<W, C>(automaton, half, input, end, last),
-        Progress::Over(ended) => ended,
+        Progress::Through(last) => {
+            let ended = finish::<W, C>(automaton, half, input, end, last);
+            let read = end + 1;
+            Reading { ended, read }
+        }
+        Progress::Over(ended, read) => Reading { ended, read },
     }
 }
 
@@ -329,7 +337,7 @@ pub(crate) fn run_forwards<C: Cursor>(
     earliest: bool,
     may_rest: bool,
     rest_from: usize,
-) -> Ended
+) -> Reading
     requires half { IsHalf (frame_of automaton.now direction.Forwards) half.old }
     requires asked { IsAsked (machine_of automaton.now direction.Forwards) anchored.now }
     requires low { low input.old ≤ from }
@@ -338,10 +346,10 @@ pub(crate) fn run_forwards<C: Cursor>(
     ensures half { IsHalf (frame_of automaton.now direction.Forwards) half.new }
     ensures spends { Spends (frame_of automaton.now direction.Forwards) half.old.store
         half.new.store (high input.old - from + 2) }
-    ensures ended { HasEnded (machine_of automaton.now direction.Forwards)
+    ensures ended { HasEndedBelow (machine_of automaton.now direction.Forwards)
         (text_of (machine_of automaton.now direction.Forwards).setting.terminator input.old)
-        (high input.old) from anchored.now earliest may_rest result }
-    ensures gives_up { (memory : Bool) → gave_up result ≡ Some memory
+        (high input.old) from anchored.now earliest may_rest result.ended result.read }
+    ensures gives_up { (memory : Bool) → gave_up result.ended ≡ Some memory
         → MayGiveUp (frame_of automaton.now direction.Forwards) half.old.store half.new.store
         (high input.old - from + 2) memory }
 {
@@ -386,5 +394,5 @@ pub(crate) fn run_backwards<C: Cursor>(
         may_rest: false,
         rest_from: 0,
     };
-    search::<Backwards, C>(automaton, half, input, anchored, end, from, extent)
+    search::<Backwards, C>(automaton, half, input, anchored, end, from, extent).ended
 }

@@ -6,8 +6,9 @@ use Rattle.rc_program.specs.Text.{Text}
 use Rattle.rc_program.specs.Sought.{text_of}
 use Rattle.rc_determinize.specs.States.{State}
 use Rattle.rc_dfa.specs.Machine.{Machine, Begins}
-use Rattle.rc_dfa.specs.Runs.{MayRead, ahead_at, behind_at, Runs, RunsDown, RunEnd, met_last, stopped_at, idle_at, SearchEnds, SearchEndsDown}
-use Rattle.rc_dfa.specs.Ended.{HasEnded, HasEndedDown}
+use Rattle.rc_dfa.specs.Runs.{MayRead, ahead_at, behind_at, Runs, RunsDown, RunEnd, met_last, stopped_at, idle_at, SearchEndsDown}
+use Rattle.rc_dfa.specs.Ended.{HasEndedDown}
+use Rattle.rc_dfa.specs.Reads.{HasEndedBelow, SearchEndsBelow}
 use Rattle.rc_dfa.specs.declared.ended.Ended.{Ended}
 
 -- The byte before the position, or the one at it, within what the search sees. A search reads the
@@ -58,13 +59,14 @@ abbrev pub RunsBy : Bool → Machine → Text → Course → State → ℕ → S
 RunsBy false m t c first i s found = Runs m t c.bound c.from first i s found
 RunsBy true m t c first i s found = RunsDown m t c.bound c.from first i s (swapped found)
 
-abbrev pub EndsBy : Bool → Machine → Text → Course → RunEnd → Type 0
-EndsBy false m t c e = SearchEnds m t c.bound c.from c.anchored c.earliest e
-EndsBy true m t c e = SearchEndsDown m t c.bound c.from c.anchored c.earliest (swapped_end e)
+-- It ended so, and forwards it looked at the bytes before r alone.
+abbrev pub EndsBy : Bool → Machine → Text → Course → ℕ → RunEnd → Type 0
+EndsBy false m t c r e = SearchEndsBelow m t c.bound c.from c.anchored c.earliest e r
+EndsBy true m t c r e = SearchEndsDown m t c.bound c.from c.anchored c.earliest (swapped_end e)
 
-abbrev pub HasEndedBy : Bool → Machine → Text → Course → Bool → Ended → Type 0
-HasEndedBy false m t c may_rest e = HasEnded m t c.bound c.from c.anchored c.earliest may_rest e
-HasEndedBy true m t c may_rest e = HasEndedDown m t c.bound c.from c.anchored c.earliest e
+abbrev pub HasEndedBy : Bool → Machine → Text → Course → Bool → ℕ → Ended → Type 0
+HasEndedBy false m t c may_rest r e = HasEndedBelow m t c.bound c.from c.anchored c.earliest may_rest e r
+HasEndedBy true m t c may_rest r e = HasEndedDown m t c.bound c.from c.anchored c.earliest e
 
 -- From a state in which the search begins, the bytes up to the position lead to this state, and
 -- this was found last.

@@ -4,7 +4,8 @@ use Rattle.rc_dfa.specs.Runs.{IsByte}
 use Rattle.rc_table_search.specs.Ways.{IsBeside, beside_at, offset_of}
 use Rattle.rc_table_search.proofs.WayLemmas.{some_before, there_of}
 use Rattle.rc_dense_dfa.specs.Tables.{start_at, column, mode_of}
-use Rattle.rc_dense_dfa.specs.Searches.{InRow, Stands}
+use Rattle.rc_dense_dfa.specs.Searches.{Ends, InRow, Stands}
+use Rattle.rc_dense_dfa.specs.declared.run.Outcome.TheVariants.{Met, Quit}
 use Rattle.rc_dense_dfa.proofs.MarkLemmas.{named_row, plain_row}
 use Rattle.rc_dense_dfa.proofs.SearchLemmas.{begins_here, begins_dead, begins_unread, begins_at_edge}
 use Rattle.rc_dense_dfa.proofs.search.begin.Goals as goal
@@ -38,20 +39,27 @@ returns-in-Some g c =
     (subst (λ o. IfSome o (IsBeside (not g.W.Way.BACKWARDS) q.seen.content c.args.from)) c.in-Some.is r.1.1.1.1.1) in
     let here = subst (λ i. IsBeside (not q.backwards) q.seen.content i c.in-Some.byte) r.1.1.0 there in
     let offset = c.offset.ensures ∙ ap (λ b. offset_of (not b) c.args.from) (c.BACKWARDS.ensures ∙ sym r.0) ∙ ap (offset_of (not q.backwards)) r.1.1.0 in (
-      begins_unread c.args.table.now q c.start-cell.result c.args.beside (small g d) (beside g d) (is g d) c.if-cell.true
-          (λ e. some_before (not q.backwards) q.seen.content q.from c.in-Some.byte here (not_so q.backwards e)) c.in-Some.byte c.offset.result offset,
+      subst (λ k. Ends c.args.table.now q k (Quit c.in-Some.byte c.offset.result)) (sym r.1.1.0)
+          (begins_unread c.args.table.now q c.start-cell.result c.args.beside (small g d) (beside g d) (is g d) c.if-cell.true
+          (λ e. some_before (not q.backwards) q.seen.content q.from c.in-Some.byte here (not_so q.backwards e)) c.in-Some.byte c.offset.result offset),
       subst (λ i. slice_get q.seen.content i ≡ Some c.in-Some.byte) (sym offset) (there_of (not q.backwards) q.seen.content q.from c.in-Some.byte here),
     )
 
 pub returns-in-None : goal.returns-in-None
 returns-in-None g c =
-    let d = (goal.at.returns-in-None g c).After-start-cell in
-    (begins_at_edge c.args.table.now g.course c.start-cell.result c.args.beside (small g d) (beside g d) (is g d) c.if-cell.true c.in-None.is, tt)
+    let d = (goal.at.returns-in-None g c).After-start-cell in (
+      subst (λ k. Ends c.args.table.now g.course k (Met None)) (sym c.requires.1.1.1.0)
+          (begins_at_edge c.args.table.now g.course c.start-cell.result c.args.beside (small g d) (beside g d) (is g d) c.if-cell.true c.in-None.is),
+      tt,
+    )
 
 pub returns-then-has_died : goal.returns-then-has_died
 returns-then-has_died g c =
-    let d = (goal.at.returns-then-has_died g c).After-start-cell in
-    (begins_dead c.args.table.now g.course c.start-cell.result c.args.beside (small g d) (beside g d) (is g d) c.if-cell.false (sym c.has_died.ensures ∙ c.if-has_died.true), tt)
+    let d = (goal.at.returns-then-has_died g c).After-start-cell in (
+      subst (λ k. Ends c.args.table.now g.course k (Met None)) (sym c.requires.1.1.1.0)
+          (begins_dead c.args.table.now g.course c.start-cell.result c.args.beside (small g d) (beside g d) (is g d) c.if-cell.false (sym c.has_died.ensures ∙ c.if-has_died.true)),
+      tt,
+    )
 
 pub returns-then-cell-lt-SKIP : goal.returns-then-cell-lt-SKIP
 returns-then-cell-lt-SKIP g c =

@@ -1,4 +1,4 @@
-use Rattle.std.proofs.Common.{◌≡◌, ◌∙◌, ◌/◌, slice_index_or, slice_get, Some, None, ap, sym, subst}
+use Rattle.std.proofs.Common.{◌≡◌, ◌∙◌, ◌+◌, ◌/◌, slice_index_or, slice_get, Some, None, ap, sym, subst}
 use Rattle.rc_program.specs.Sought.{text_of}
 use Rattle.rc_table_search.specs.Ways.{IsBeside, beside_at, offset_of}
 use Rattle.rc_table_search.proofs.SpanLemmas.{beside_kept}
@@ -51,10 +51,10 @@ returns-else-cell-clause-ends g c =
     let value = c.cell_of-cell.ensures.value in
     let met = bound_met d g.course c.args.stand.row c.args.stand.noted (stands g at.Start) c.in-Some.byte c.in-Some.ensures.small (beyond g at.In-Some)
     (λ e. c.if-cell.false (value ∙ e)) in
-    subst (λ o. Ends d g.course (Met o)) (sym c.told.ensures)
-    (subst (λ n. Ends d g.course (Met (told d n))) (sym c.noted_by.ensures)
-    (subst (λ i. Ends d g.course (Met (told d (noted_by c.cell_of-cell.result i c.args.stand.noted)))) (sym end)
-    (subst (λ x. Ends d g.course (Met (told d (noted_by x g.course.bound c.args.stand.noted)))) (sym value) met)))
+    subst (λ o. Ends d g.course (g.course.bound + 1) (Met o)) (sym c.told.ensures)
+    (subst (λ n. Ends d g.course (g.course.bound + 1) (Met (told d n))) (sym c.noted_by.ensures)
+    (subst (λ i. Ends d g.course (g.course.bound + 1) (Met (told d (noted_by c.cell_of-cell.result i c.args.stand.noted)))) (sym end)
+    (subst (λ x. Ends d g.course (g.course.bound + 1) (Met (told d (noted_by x g.course.bound c.args.stand.noted)))) (sym value) met)))
 
 pub returns-in-None-clause-ends : goal.returns-in-None-clause-ends
 returns-in-None-clause-ends g c =
@@ -64,6 +64,6 @@ returns-in-None-clause-ends g c =
     let is = c.in-None.ensures.value ∙ beside_kept c.BACKWARDS.result 0 g.course.seen c.args.input.now c.args.end r.1.1.1.0 in
     let beyond = subst (λ i. beside_at g.course.backwards (text_of 0 g.course.seen) i ≡ None) end
     (subst (λ b. beside_at b (text_of 0 g.course.seen) c.args.end ≡ None) (c.BACKWARDS.ensures ∙ sym r.0) (sym is)) in
-    subst (λ o. Ends d g.course (Met o)) (sym c.met_at_end.ensures)
-    (subst (λ i. Ends d g.course (Met (met_by (slice_index_or d.ends.items (c.args.stand.row / d.width) 0) i (told d c.args.stand.noted)))) (sym end)
+    subst (λ o. Ends d g.course (g.course.bound + 1) (Met o)) (sym c.met_at_end.ensures)
+    (subst (λ i. Ends d g.course (g.course.bound + 1) (Met (met_by (slice_index_or d.ends.items (c.args.stand.row / d.width) 0) i (told d c.args.stand.noted)))) (sym end)
     (end_met d g.course c.args.stand.row c.args.stand.noted (stands g (goal.at.returns-in-None-clause-ends g c).Start) beyond))

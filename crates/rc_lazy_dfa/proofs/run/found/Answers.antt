@@ -3,7 +3,8 @@ use Rattle.rc_program.specs.Program.{place_at}
 use Rattle.rc_program.specs.Answer.{pattern_at}
 use Rattle.rc_program.proofs.WayLemmas.{past_places}
 use Rattle.rc_dfa.specs.Automata.{machine_of}
-use Rattle.rc_dfa.specs.Runs.{SearchEnds, met_last}
+use Rattle.rc_dfa.specs.Reads.{SearchEndsBelow}
+use Rattle.rc_dfa.specs.Runs.{met_last}
 use Rattle.rc_dfa.specs.declared.ended.Ended.TheVariants.{Found}
 use Rattle.rc_dfa.specs.declared.automaton.Direction.TheVariants.{Forwards}
 use Rattle.rc_lazy_dfa.specs.Courses.{Says, direction_of}
@@ -19,7 +20,7 @@ returns-else-code-places_len g c =
     let e = Found (Some (record { pattern = 0; at = c.in-Some.at })) in
     let said : Says false m c.args.met e = record {
       done = refl;
-      says = λ t k may_rest h.
-          (c.in-Some.code, none, subst (λ o. SearchEnds m t k.bound k.from k.anchored k.earliest (met_last o)) c.in-Some.is h);
+      says = λ t k may_rest r h.
+          (c.in-Some.code, none, subst (λ o. SearchEndsBelow m t k.bound k.from k.anchored k.earliest (met_last o) r) c.in-Some.is h);
     } in
     subst (λ way. Says way (machine_of c.args.automaton.now (direction_of way)) c.args.met e) forwards said

@@ -1,7 +1,9 @@
-use Rattle.std.proofs.Common.{◌≡◌, ◌∙◌, IfSome, not, true, false, sym, subst, ap}
+use Rattle.std.proofs.Common.{◌≡◌, ◌∙◌, IfSome, None, not, true, false, sym, subst, ap}
 use Rattle.rc_table_search.specs.Ways.{IsBeside, offset_of}
 use Rattle.rc_table_search.proofs.SpanLemmas.{beside_same}
 use Rattle.rc_table_search.proofs.WayLemmas.{some_before}
+use Rattle.rc_dfa.specs.declared.ended.Ended.TheVariants.{Found, Quit}
+use Rattle.rc_lazy_dfa.specs.Courses.{IsOver}
 use Rattle.rc_lazy_dfa.proofs.SearchLemmas.{IsBegun, begin_dies, begin_few, begin_goes, begin_quits, begun_by, edge_is_read, over_none, over_quit}
 use Rattle.rc_lazy_dfa.proofs.search.begin.Goals as goal
 use Rattle.rc_lazy_dfa.proofs.search.begin.Goals.{In-Ok}
@@ -28,10 +30,11 @@ returns-in-Some g c =
     (subst (λ o. IfSome o (IsBeside (not g.W.Way.BACKWARDS) q.seen.content c.args.from)) c.in-Some.is more.1.1.1.1) in
     let is = c.offset.ensures ∙ ap (λ b. offset_of (not b) c.args.from) (c.BACKWARDS.ensures ∙ sym c.requires.1.0) in
     let here = subst (λ i. IsBeside (not q.backwards) q.seen.content i c.in-Some.byte) more.0 there in
-    over_quit q c.begin.new.self _ q.from c.in-Some.byte c.offset.result (not q.backwards) x.half x.spent
+    subst (λ r. IsOver q c.begin.new.self r (Quit c.in-Some.byte c.offset.result)) (sym more.0)
+    (over_quit q c.begin.new.self _ q.from c.in-Some.byte c.offset.result q.from (not q.backwards) x.half x.spent
     (begin_few q c.begin.new.self c.args.beside c.in-Ok.cell x) (is ∙ ap (offset_of (not q.backwards)) more.0) here
     (begin_quits q c.begin.new.self c.args.beside c.in-Ok.cell x c.if-cell.true
-    (λ e. some_before (not q.backwards) q.seen.content q.from c.in-Some.byte here (not_so q.backwards e)))
+    (λ e. some_before (not q.backwards) q.seen.content q.from c.in-Some.byte here (not_so q.backwards e))))
 
 pub returns-in-None : goal.returns-in-None
 returns-in-None g c =
@@ -41,8 +44,9 @@ returns-in-None g c =
 pub returns-then-has_died : goal.returns-then-has_died
 returns-then-has_died g c =
     let x = took g (goal.at.returns-then-has_died g c).In-Ok in
-    over_none g.course c.begin.new.self _ x.half x.spent (begin_few g.course c.begin.new.self c.args.beside c.in-Ok.cell x)
-    (begin_dies g.course c.begin.new.self c.args.beside c.in-Ok.cell x c.if-cell.false (sym c.has_died.ensures ∙ c.if-has_died.true))
+    subst (λ r. IsOver g.course c.begin.new.self r (Found None)) (sym c.requires.1.1.1.1.1.1.1.0)
+    (over_none g.course c.begin.new.self _ g.course.from x.half x.spent (begin_few g.course c.begin.new.self c.args.beside c.in-Ok.cell x)
+    (begin_dies g.course c.begin.new.self c.args.beside c.in-Ok.cell x c.if-cell.false (sym c.has_died.ensures ∙ c.if-has_died.true)))
 
 pub returns : goal.returns
 returns g c =

@@ -1,4 +1,4 @@
-use Rattle.std.proofs.Common.{◌≡◌, ◌∙◌, refl, sym, subst, ap}
+use Rattle.std.proofs.Common.{◌≡◌, ◌∙◌, ◌+◌, refl, sym, subst, ap}
 use Rattle.rc_table_search.specs.Ways.{IsBeside, IsOn, beside_at, offset_of}
 use Rattle.rc_table_search.proofs.SpanLemmas.{beside_kept, on_here}
 use Rattle.rc_table_search.proofs.WayLemmas.{some_before}
@@ -25,9 +25,9 @@ returns-in-Some-clause-over g c =
     let there = subst (λ b. IsBeside b q.seen.content c.args.end c.in-Some.byte) (c.BACKWARDS.ensures ∙ sym r.0)
     (subst (λ xs. IsBeside c.BACKWARDS.result xs c.args.end c.in-Some.byte) r.1.1.1.0.content c.in-Some.ensures.there) in
     let is = c.offset.ensures ∙ ap (λ b. offset_of b c.args.end) (c.BACKWARDS-in-Some.ensures ∙ sym r.0) in
-    over_quit q c.next.new.self _ c.args.end c.in-Some.byte c.offset.result q.backwards x.half x.spent
+    over_quit q c.next.new.self _ c.args.end c.in-Some.byte c.offset.result (q.bound + 1) q.backwards x.half x.spent
     (step_few q c.next.new.self c.args.end c.args.stand c.byte_beside-beside.result c.in-Ok.cell x) is there
-    (step_quits q c.next.new.self c.args.end c.args.stand c.byte_beside-beside.result c.in-Ok.cell x c.if-cell.true
+    (step_quits q c.next.new.self c.args.end c.args.stand c.byte_beside-beside.result c.in-Ok.cell x (q.bound + 1) (λ _. ap (λ k. k + 1) (sym r.1.1.1.1.1.1)) c.if-cell.true
     (some_before q.backwards q.seen.content c.args.end c.in-Some.byte there))
 
 pub returns-in-None-clause-over : goal.returns-in-None-clause-over
@@ -40,6 +40,6 @@ returns-clause-over g c =
     let q = g.course in
     let r = c.requires.1.1 in
     let x = took g (goal.at.returns-clause-over g c).In-Ok in
-    over_says q c.next.new.self _ c.args.automaton.now g.W.Way.BACKWARDS c.met_by.result c.found.result r.0 r.1.0 c.found.ensures x.half x.spent
+    over_says q c.next.new.self _ (q.bound + 1) c.args.automaton.now g.W.Way.BACKWARDS c.met_by.result c.found.result r.0 r.1.0 c.found.ensures x.half x.spent
     (step_few q c.next.new.self c.args.end c.args.stand c.byte_beside-beside.result c.in-Ok.cell x)
     (step_bounded q c.next.new.self c.args.end c.args.stand c.byte_beside-beside.result c.in-Ok.cell x c.if-cell.false c.met_by.result c.met_by.ensures r.1.1.1.1.1.1)

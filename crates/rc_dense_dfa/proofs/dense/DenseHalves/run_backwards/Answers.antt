@@ -6,4 +6,4 @@ pub returns-clause-ended : goal.returns-clause-ended
 returns-clause-ended g c = λ m n are asked.
     c.said.ensures.says.says n (text_of n.setting.terminator c.args.input.now)
     (record { from = c.args.end; bound = c.args.from; anchored = c.args.anchored; earliest = c.args.earliest }) false (λ never. absurd (true≢false never))
-    c.run_on-ended.ensures.byte (λ never. absurd (true≢false (sym never))) (c.run_on-ended.ensures.ends n are.behind n.setting.terminator are.is_behind asked)
+    c.run_on-run.ensures.byte (λ never. absurd (true≢false (sym never))) c.run_on-run.result.read (c.run_on-run.ensures.ends n are.behind n.setting.terminator are.is_behind asked)

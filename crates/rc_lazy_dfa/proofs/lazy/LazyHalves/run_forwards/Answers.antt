@@ -3,7 +3,7 @@ use Rattle.rc_text.specs.Text.{high}
 use Rattle.rc_program.specs.Sought.{text_of}
 use Rattle.rc_dfa.specs.declared.automaton.Direction.TheVariants.{Forwards}
 use Rattle.rc_dfa.specs.Machine.{Machine, IsAsked}
-use Rattle.rc_dfa.specs.Ended.{HasEnded}
+use Rattle.rc_dfa.specs.Reads.{HasEndedBelow}
 use Rattle.rc_lazy_dfa.proofs.lazy.LazyHalves.run_forwards.Goals as goal
 
 pub returns-then-not-is_asked-clause-ended : goal.returns-then-not-is_asked-clause-ended
@@ -16,5 +16,5 @@ run_forwards-requires-clause-asked g c = (c.is_asked.ensures Forwards).0 c.if-no
 
 pub returns-clause-ended : goal.returns-clause-ended
 returns-clause-ended g c = λ m n same asked.
-    subst (λ (k : Machine). HasEnded k (text_of k.setting.terminator c.args.input.now) (high c.args.input.now) c.args.from c.args.anchored c.args.earliest c.args.may_rest
-    c.run_forwards.result) same.0 c.run_forwards.ensures.ended
+    subst (λ (k : Machine). HasEndedBelow k (text_of k.setting.terminator c.args.input.now) (high c.args.input.now) c.args.from c.args.anchored c.args.earliest c.args.may_rest
+    c.run_forwards.result.ended c.run_forwards.result.read) same.0 c.run_forwards.ensures.ended
