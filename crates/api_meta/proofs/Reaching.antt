@@ -1,5 +1,5 @@
 -- How many bytes settle what a search finds.
-use Rattle.std.proofs.Common.{◌≡◌, ◌≢◌, ◌∙◌, ℕ, ◌+◌, ◌-◌, ◌^◌, ◌<◌, ◌≤◌, true, IsTrue, List, [], ◌∷◌, map, max, min, Option, Some, None, IfSome, ⊎_elim, ap, ap₂, subst, sym, refl, arith, true≢false}
+use Rattle.std.proofs.Common.{◌≡◌, ◌≢◌, ◌∙◌, ℕ, ◌+◌, ◌-◌, ◌^◌, ◌<◌, ◌≤◌, true, IsTrue, List, [], ◌∷◌, map, max, min, Option, Some, None, IfSome, inl, inr, ⊎_elim, ap, ap₂, subst, sym, refl, arith, true≢false}
 use Rattle.std.specs.Prelude.{All}
 use Rattle.std.proofs.Math.Logic.{∥∥₁_elim}
 use denote.Struct.Props.{props}
@@ -26,9 +26,14 @@ use Rattle.rc_program.specs.Longest.{longest_chosen}
 use Rattle.rc_program.specs.Sought.{Sought, anchoring_of, search_for}
 use Rattle.rc_pikevm_search.specs.Tells.{TellsBy, TellsOf, TellsSpan}
 use Rattle.rc_reach.specs.Laws.{greatest_len}
-use Rattle.rc_reach.specs.Settled.{IsInside, IsWalkSettled}
+use Rattle.rc_reach.specs.Settled.{IsInside, IsSettled, IsWalkSettled}
 use Rattle.rc_reach.proofs.BoundLemmas.{length_law}
 use Rattle.rc_reach.proofs.SliceLemmas.{slice_law}
+use Rattle.rc_pikevm_search.specs.Engine.{engine_search}
+use Rattle.rc_dfa_search.specs.Reaches.{IsAnswerBelow}
+use Rattle.rc_dfa_search.specs.declared.reach.Settled.{Settled}
+use Rattle.rc_dfa_search.proofs.ReachLemmas.{itself}
+use Rattle.rc_build.proofs.Fitted.{fits_search}
 use Rattle.api_meta.specs.Reached.{IsNear, TellsBelow}
 use Rattle.api_meta.specs.Reaching.{EndsSettled, anchored_start, last_start, longest_after, reach_after}
 use Rattle.api_meta.specs.Views.{regex_kind, regex_patterns, sought}
@@ -208,3 +213,42 @@ tells_below leftmost_first s r caps settled told =
     λ t inside agrees. subst (λ o. TellsOf t o caps) (sym (settled t inside agrees)) (tells_same s t (chosen s) caps agrees.places told)
 tells_below leftmost_longest s r caps settled told =
     λ t inside agrees. subst (λ o. TellsOf t o caps) (sym (settled t inside agrees)) (tells_same s t (longest_chosen s) caps agrees.places told)
+
+-- WHAT THE ENGINES TELL
+
+below : (r : Regex) (i : Searched) (o : Settled) → IsAnswerBelow r.engines.engine.kind (engine_search r.engines.engine i) o.reach o.found →
+    IsAnswerBelow (regex_kind r) (search_for (sought r) i) o.reach o.found
+below r i o h =
+    subst (λ k. IsAnswerBelow k (search_for (sought r) i) o.reach o.found) r.fits.kinded
+    (subst (λ s. IsAnswerBelow r.engines.engine.kind s o.reach o.found) (fits_search r.fits i) h)
+
+pub settled_answer : (r : Regex) (i : Searched) (o : Settled) → IsAnswerBelow r.engines.engine.kind (engine_search r.engines.engine i) o.reach o.found →
+    answer_by (regex_kind r) (search_for (sought r) i) ≡ o.found
+settled_answer r i o h = below r i o h (search_for (sought r) i) (search_inside (sought r) i) (itself (search_for (sought r) i) o.reach)
+
+-- the lesser of two counts that settle an answer settles it
+least : (kind : MatchKind) (s : Search) (m n : ℕ) → IsSettled kind m s → IsSettled kind n s → IsSettled kind (min m n) s
+least kind s m n x y = elim (cases_lt m n) [
+  | inl h ↦ let e : m ≡ min m n = omega (arith, h) in subst (λ k. IsSettled kind k s) e x
+  | inr h ↦ let e : n ≡ min m n = omega (arith, h) in subst (λ k. IsSettled kind k s) e y
+]
+
+pub least_settled : (r : Regex) (i : Searched) (o : Settled) (m : ℕ) → IsAnswerBelow r.engines.engine.kind (engine_search r.engines.engine i) o.reach o.found →
+    IsSettled (regex_kind r) m (search_for (sought r) i) → IsSettled (regex_kind r) (min m o.reach) (search_for (sought r) i)
+least_settled r i o m h x =
+    least (regex_kind r) (search_for (sought r) i) m o.reach x (λ t in2 agrees. below r i o h t in2 agrees ∙ sym (settled_answer r i o h))
+
+pub near_more : (hs : List Re) (kind : MatchKind) (o : Option Found) (m n : ℕ) → n ≤ m → IsNear kind hs o m → IsNear kind hs o n
+near_more hs kind None m n h near = λ other. tt
+near_more hs kind (Some f) m n h near = λ other k e. let l = near other k e in omega (arith, l, h)
+
+pub past_least : (o : Option Found) (m n : ℕ) → IfSome o (λ f. f.end ≤ m) → IfSome o (λ f. f.end ≤ n) → IfSome o (λ f. f.end ≤ min m n)
+past_least None m n x y = tt
+past_least (Some f) m n x y = omega (arith, x, y)
+
+pub same_slice : (i j : Searched) → Keeps i j → slice_end j ≡ slice_end i
+same_slice i j k = rw (k.content, k.slice) refl
+
+pub same_bounds : (i j : Searched) → Keeps i j → (o : Option Found) → IfSome o (IsWithinBounds i) → IfSome o (IsWithinBounds j)
+same_bounds i j k None w = tt
+same_bounds i j k (Some m) w = rw (k.content, k.span, k.slice) w

@@ -51,8 +51,10 @@ impl Regex {
     ///
     /// The reach is right, but needn't be the least. If no pattern matches more than n bytes, a
     /// match has a reach of at most n + 4 bytes from its start, except under `MatchKind::All`. So
-    /// does an anchored search from its own start, also without a match. Otherwise the reach goes
-    /// to the end of the slice, and one further.
+    /// does an anchored search from its own start, also without a match. If a DFA reads along the
+    /// text, and goes by no literals, the reach ends where it saw that no match goes on: one byte
+    /// after those that tell the match, at most. Otherwise the reach goes to the end of the slice,
+    /// and one further.
     pub fn search_reach_with<C: Cursor>(&self, cache: &mut Cache, input: &mut Input<C>) -> Reached
         requires made { IsCacheFor (regex_patterns self.now) (regex_settings self.now) cache.old }
         ensures cache { IsCacheFor (regex_patterns self.now) (regex_settings self.now) cache.new }
@@ -66,16 +68,19 @@ impl Regex {
         ensures near { IsNear (regex_kind self.now) (regex_patterns self.now)
             result.found result.reach }
     {
-        let earliest = input.get_earliest();
-        input.set_earliest(false);
-        let found = self.search_with(cache, input);
-        input.set_earliest(earliest);
-        self.reached(found, input)
+        let settled = self.engines.find_settled(&mut cache.inner, input);
+        let reached = self.reached(settled.found, input);
+        let reach = reached.reach.min(settled.reach);
+        Reached {
+            found: reached.found,
+            reach,
+        }
     }
 
     /// Writes the match that `captures` finds to captures that were made for this regex, in a cache
-    /// that was made for it. Returns how many bytes settle the match and its groups, as
-    /// `search_reach_with` does. It takes no memory.
+    /// that was made for it. Returns how many bytes settle the match and its groups. They are as
+    /// many as the lengths of the patterns tell, as `search_reach_with` says, else one more than up
+    /// to the end of the slice. It takes no memory.
     pub fn search_captures_reach_with<C: Cursor>(
         &self,
         cache: &mut Cache,

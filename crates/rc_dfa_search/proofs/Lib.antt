@@ -26,3 +26,4 @@ pub mod ReverseEndLemmas
 pub mod SameLemmas
 pub mod JumpLemmas
 pub mod BeginLemmas
+pub mod ReachLemmas

@@ -11,3 +11,4 @@ pub mod Rests
 pub mod Legs
 pub mod Firsts
 pub mod Jumps
+pub mod Reaches

@@ -7,4 +7,5 @@ pub mod first;
 pub mod guarded;
 pub mod laws;
 pub mod literals;
+pub mod reach;
 pub mod search;

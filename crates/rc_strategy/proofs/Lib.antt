@@ -15,3 +15,4 @@ pub mod FrontLemmas
 pub mod HeldLemmas
 pub mod StartLemmas
 pub mod OverlapLemmas
+pub mod ReachLemmas

@@ -1,5 +1,5 @@
 -- What is known of tables that an engine has.
-use Rattle.std.proofs.Common.{◌≡◌, ◌∙◌, ℕ, List, length, Option, Some, None, Result, Ok, Err, IfOk, Bool, true, false, not, true≢false, ap, ap₂, refl, sym, subst, arith}
+use Rattle.std.proofs.Common.{◌≡◌, ◌∙◌, ℕ, ◌≤◌, List, length, Option, Some, None, Result, Ok, Err, IfOk, IfSome, Bool, true, false, not, true≢false, ap, ap₂, refl, sym, subst, arith}
 use Rattle.std.specs.Prelude.{is_some}
 use Rattle.std.specs.Option.{option_map}
 use Rattle.std.proofs.lemmas.Option.{none-some}
@@ -24,8 +24,10 @@ use Rattle.rc_dfa.specs.Machine.{Machine}
 use Rattle.rc_dfa_search.specs.Aims.{AreHalvesOf, search_for}
 use Rattle.rc_dfa_search.specs.Halves.{IsForwardHalf}
 use Rattle.rc_dfa_search.specs.Leftmost.{IsLeftmost}
+use Rattle.rc_dfa_search.specs.Reaches.{IsAnswerBelow}
 use Rattle.rc_dfa_search.specs.Reverse.{IsMatchToEnd}
 use Rattle.rc_dfa_search.proofs.ReverseEndLemmas.{reverse_end_law}
+use Rattle.rc_dfa_search.specs.declared.reach.Settled.{Settled}
 use Rattle.rc_dfa_search.specs.declared.search.Aim.{Aim}
 use Rattle.rc_pikevm_search.specs.Engine.{engine_search}
 use Rattle.rc_pikevm_search.specs.declared.engine.Engine.{Engine}
@@ -117,6 +119,29 @@ module _ (e : Engine) (patterns : ℕ) {AreOf : Machine → Machine → Type 0} 
       told (hlevel props) (λ x hs. IsForwardHalf x.kind x.earliest (search_for x hs e.program.terminator s) found) tells
       (λ hs same h.
       half_told e.kind (leftmost_kind e.kind kind) (search_for (aim_of e patterns) hs e.program.terminator s) found h ∙ ap (option_map half_of) (same_answer hs same))
+
+  -- how many bytes settle what a search by them tells
+  pub tables_settle : (r : Result Settled MatchError) →
+      ((hs : List Re) → places_of e.program.places.items ≡ program hs → AreHalvesOf AreOf a hs e.program.terminator →
+      IfOk r (λ o. IsAnswerBelow a.kind (search_for a hs e.program.terminator s) o.reach o.found)) →
+      IfOk r (λ o. IsAnswerBelow e.kind (engine_search e s) o.reach o.found)
+  tables_settle (Err x) tells = tt
+  tables_settle (Ok o) tells =
+      told (hlevel props) (λ x hs. IsAnswerBelow x.kind (search_for x hs e.program.terminator s) o.reach o.found) tells
+      (λ hs same h. subst (λ places. IsAnswerBelow e.kind (search_over places e.program.terminator e.program.passes_over s) o.reach o.found) (sym same) h)
+
+  past_in : (found : Option Found) (reach : ℕ) →
+      ((hs : List Re) → places_of e.program.places.items ≡ program hs → AreHalvesOf AreOf a hs e.program.terminator → IfSome found (λ m. m.end ≤ reach)) →
+      IfSome found (λ m. m.end ≤ reach)
+  past_in None reach tells = tt
+  past_in (Some m) reach tells = told (hlevel props) (λ x hs. m.end ≤ reach) tells (λ hs same h. h)
+
+  pub tables_past : (r : Result Settled MatchError) →
+      ((hs : List Re) → places_of e.program.places.items ≡ program hs → AreHalvesOf AreOf a hs e.program.terminator →
+      IfOk r (λ o. IfSome o.found (λ m. m.end ≤ o.reach))) →
+      IfOk r (λ o. IfSome o.found (λ m. m.end ≤ o.reach))
+  tables_past (Err x) tells = tt
+  tables_past (Ok o) tells = past_in o.found o.reach tells
 
   -- one forwards that stops early tells whether there is a match
   pub tables_tell_any : (o : Option HalfFound) →

@@ -10,6 +10,7 @@ mod longest;
 mod overlap;
 mod pass;
 mod question;
+pub mod reach;
 mod route;
 mod search;
 mod slots;

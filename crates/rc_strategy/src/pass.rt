@@ -5,9 +5,12 @@ ghost use Rattle.rc_text.specs.Text.{Keeps, low, high};
 ghost use Rattle.rc_program.specs.Greatest.{IsSpelledIn};
 ghost use Rattle.rc_program.specs.Kinds.{IsAnswerBy, answer_by};
 ghost use Rattle.rc_pikevm_search.specs.Engine.{engine_search, IsEngineCache, IsSameCache};
+ghost use Rattle.rc_dfa_search.specs.Reaches.{IsAnswerBelow};
 ghost use Rattle.rc_strategy.specs.Questions.{IsReply};
 
 use crate::question::Question;
+use crate::reach::settled_at_end;
+use rc_dfa_search::reach::Settled;
 use rc_pikevm::cache::Cache;
 use rc_pikevm::early::first_end;
 use rc_pikevm_search::engine::Engine;
@@ -95,4 +98,22 @@ pub(crate) fn ask_pass<C: Cursor>(
         Question::Any => find_any(engine, cache, input),
         Question::Earliest => find_early(engine, cache, input),
     }
+}
+
+/// Returns the match, and how many bytes settle it.
+pub(crate) fn settle_by_pass<C: Cursor>(
+    engine: &Engine,
+    cache: &mut Cache,
+    input: &mut Input<C>,
+) -> Settled
+    requires made { IsEngineCache engine.now 0 cache.old }
+    ensures keeps { Keeps input.old input.new }
+    ensures settled { IsAnswerBelow engine.now.kind
+        (engine_search engine.now input.old) result.reach result.found }
+    ensures past { IfSome result.found (λ m. m.end ≤ result.reach) }
+    ensures within { IfSome result.found (IsWithinBounds input.old) }
+    ensures cache { IsSameCache cache.old cache.new }
+{
+    let found = engine.find(cache, input);
+    settled_at_end(input, found)
 }

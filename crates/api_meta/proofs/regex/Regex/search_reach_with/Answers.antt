@@ -1,17 +1,68 @@
-use Rattle.std.proofs.Common.{◌≡◌, ◌∙◌, ap, subst}
+use Rattle.std.proofs.Common.{◌≡◌, ◌∙◌, ◌+◌, ◌≤◌, IfSome, min, arith, ap, subst, sym}
+use Rattle.rc_text.specs.Bounds.{IsWithinBounds}
+use Rattle.rc_text.specs.Found.{Found}
+use Rattle.rc_text.specs.Text.{slice_end}
+use Rattle.rc_program.specs.Kinds.{answer_by}
 use Rattle.rc_program.specs.Sought.{search_for}
-use Rattle.rc_reach.specs.Settled.{IsWalkSettled}
+use Rattle.rc_reach.specs.Settled.{IsSettled, IsWalkSettled}
 use Rattle.rc_reach.proofs.LawLemmas.{reach_law}
-use Rattle.api_meta.specs.Views.{regex_kind, sought}
-use Rattle.api_meta.proofs.Reaching.{kept}
+use Rattle.api_meta.specs.Reached.{IsNear}
+use Rattle.api_meta.specs.Views.{regex_kind, regex_patterns, sought}
+use Rattle.api_meta.proofs.Cached.{stays_for}
+use Rattle.api_meta.proofs.Reaching.{kept, least_settled, near_more, past_least, same_bounds, same_slice, settled_answer}
+use Rattle.api_meta.proofs.regex.Regex.search_reach_with.Given.{Over}
 use Rattle.api_meta.proofs.regex.Regex.search_reach_with.Goals as goal
+use Rattle.api_meta.proofs.regex.Regex.search_reach_with.Goals.{After-find_settled-settled}
+
+answers : (g : Over) (c : After-find_settled-settled g) →
+    answer_by (regex_kind c.args.self.now) (search_for (sought c.args.self.now) c.args.input.now) ≡ c.find_settled-settled.result.found
+answers g c = settled_answer c.args.self.now c.args.input.now c.find_settled-settled.result c.find_settled-settled.ensures.settled
+
+pub reached-reached-requires-clause-answer : goal.reached-reached-requires-clause-answer
+reached-reached-requires-clause-answer g c =
+    let r = c.args.self.now in
+    let same = kept (sought r) c.args.input.now c.find_settled-settled.new.input c.find_settled-settled.ensures.keeps in
+    sym (ap (answer_by (regex_kind r)) same ∙ answers g (goal.at.reached-reached-requires-clause-answer g c).After-find_settled-settled)
+
+pub reached-reached-requires-clause-bounds : goal.reached-reached-requires-clause-bounds
+reached-reached-requires-clause-bounds g c =
+    same_bounds c.args.input.now c.find_settled-settled.new.input c.find_settled-settled.ensures.keeps c.find_settled-settled.result.found c.find_settled-settled.ensures.within
+
+pub returns-clause-found : goal.returns-clause-found
+returns-clause-found g c =
+    c.reached-reached.ensures.found ∙ sym (answers g (goal.at.returns-clause-found g c).After-find_settled-settled)
 
 pub returns-clause-settled : goal.returns-clause-settled
 returns-clause-settled g c =
-    let q = sought c.args.self.now in
-    let kind = regex_kind c.args.self.now in
-    let reach = c.reached.result.reach in
-    let same : search_for q c.set_earliest-2.new.self ≡ search_for q c.args.input.now =
-    ap (search_for q) c.set_earliest-2.ensures ∙ kept q c.set_earliest.new.self c.search_with-found.new.input c.search_with-found.ensures.keeps
-    ∙ ap (search_for q) c.set_earliest.ensures in
-    reach_law.match kind (search_for q c.args.input.now) reach (subst (IsWalkSettled kind reach) same c.reached.ensures.settled.settled)
+    let r = c.args.self.now in
+    let q = sought r in
+    let kind = regex_kind r in
+    let i = c.args.input.now in
+    let m = c.reached-reached.result.reach in
+    let same = kept q i c.find_settled-settled.new.input c.find_settled-settled.ensures.keeps in
+    let length = reach_law.match kind (search_for q i) m (subst (IsWalkSettled kind m) same c.reached-reached.ensures.settled.settled) in
+    subst (λ k. IsSettled kind k (search_for q i)) (sym c.min-reach.ensures)
+    (least_settled r i c.find_settled-settled.result m c.find_settled-settled.ensures.settled length)
+
+pub returns-clause-within : goal.returns-clause-within
+returns-clause-within g c =
+    let o = c.find_settled-settled.result in
+    let past = past_least o.found c.reached-reached.result.reach o.reach c.reached-reached.ensures.settled.past c.find_settled-settled.ensures.past in
+    let slice = same_slice c.args.input.now c.find_settled-settled.new.input c.find_settled-settled.ensures.keeps in
+    let most = c.reached-reached.ensures.within in (
+      subst (λ k. IfSome c.reached-reached.result.found (λ (f : Found). f.end ≤ k)) (sym c.min-reach.ensures)
+          (subst (λ x. IfSome x (λ (f : Found). f.end ≤ min c.reached-reached.result.reach o.reach)) (sym c.reached-reached.ensures.found) past),
+      omega (arith, c.min-reach.ensures, most, slice),
+    )
+
+pub returns-clause-near : goal.returns-clause-near
+returns-clause-near g c =
+    let r = c.args.self.now in
+    let o = c.find_settled-settled.result in
+    subst (λ x. IsNear (regex_kind r) (regex_patterns r) x c.min-reach.result) (sym c.reached-reached.ensures.found)
+    (near_more (regex_patterns r) (regex_kind r) o.found c.reached-reached.result.reach c.min-reach.result (omega (arith, c.min-reach.ensures))
+    c.reached-reached.ensures.near)
+
+pub returns-clause-cache : goal.returns-clause-cache
+returns-clause-cache g c =
+    stays_for c.args.self.now c.args.cache.now.inner c.find_settled-settled.new.cache c.requires.made c.find_settled-settled.ensures.cache

@@ -1,0 +1,117 @@
+//! Reaches: DFA searches that tell how many bytes settle what they find. Positions are in bytes of
+//! the whole content.
+ghost use Rattle.std.specs.Prelude.{◌≡◌, ◌↔◌, ◌≤◌, ℕ, List, IfOk, IfSome, IsTrue};
+ghost use Rattle.std.specs.Option.{option_map};
+ghost use Rattle.rc_text.specs.Bounds.{IsWithinBounds};
+ghost use Rattle.rc_text.specs.Text.{Keeps, low, high};
+ghost use Rattle.rc_pattern.specs.Re.{Re};
+ghost use Rattle.rc_program.specs.Sought.{text_of};
+ghost use Rattle.rc_dfa_search.specs.Aims.{AreHalvesOf, search_for};
+ghost use Rattle.rc_dfa_search.specs.Ends.{Asks};
+ghost use Rattle.rc_dfa_search.specs.Reaches.{BeginsBy, IsAnswerBelow, TellsReach};
+
+use crate::search::{Aim, Bounds, bounds_of, id_of, run_backwards, told};
+use rc_dfa::halves::Halves;
+use rc_text::cursor::Cursor;
+use rc_text::input::{Input, content_fits};
+use rc_text::types::{Match, MatchError, MatchKind, Span};
+
+/// The match of a search, if there is one, and how many bytes of the content settle it.
+#[derive(Clone, Copy)]
+pub struct Settled {
+    /// The match.
+    pub found: Option<Match>,
+    /// The count of bytes. `usize::MAX` says that the end of the slice may have been looked at.
+    pub reach: usize,
+}
+
+/// Whether a search tells its reach: it must be leftmost, any match must not be enough, and none
+/// may be passed over.
+#[inline(always)]
+pub fn tells_reach(aim: Aim) -> bool
+    ensures { IsTrue result ↔ TellsReach aim }
+{
+    match aim.kind {
+        MatchKind::All => false,
+        MatchKind::LeftmostFirst | MatchKind::LeftmostLongest => {
+            !aim.earliest && !aim.passes_over
+        }
+    }
+}
+
+/// Returns where the match with this end begins: where the search does, if it is anchored, else
+/// where a run backwards leads.
+#[inline(always)]
+fn start_of<H: Halves, C: Cursor>(
+    halves: &H,
+    cache: &mut H::Cache,
+    input: &mut Input<C>,
+    aim: Aim,
+    from: usize,
+    end: usize,
+) -> Result<Option<usize>, MatchError>
+    requires cache { H.IsCache halves.now cache.old }
+    requires low { low input.old ≤ from }
+    requires ordered { from ≤ end }
+    requires high { end ≤ high input.old }
+    requires asked { Asks aim.patterns input.old.anchored }
+    requires tells { TellsReach aim }
+    ensures cache { H.IsCache halves.now cache.new }
+    ensures keeps { Keeps input.old input.new }
+    ensures start { (hs : List Re) (terminator : ℕ)
+        (of : AreHalvesOf (H.AreOf halves.now) aim hs terminator)
+        → IfOk result (BeginsBy of.back (text_of terminator input.old) from end input.old.anchored) }
+{
+    if input.get_anchored().is_anchored() {
+        return Ok(Some(from));
+    }
+    let Some(met) = run_backwards(halves, cache, input, aim, from, end)? else {
+        return Ok(None);
+    };
+    Ok(Some(met.at))
+}
+
+/// Returns the match that `find` returns, and how many bytes settle it: those at which the run
+/// forwards looked.
+#[inline(always)]
+pub fn find_settled<H: Halves, C: Cursor>(
+    halves: &H,
+    cache: &mut H::Cache,
+    input: &mut Input<C>,
+    aim: Aim,
+) -> Result<Settled, MatchError>
+    requires cache { H.IsCache halves.now cache.old }
+    requires tells { TellsReach aim }
+    ensures cache { H.IsCache halves.now cache.new }
+    ensures keeps { Keeps input.old input.new }
+    ensures settled { (hs : List Re) (terminator : ℕ)
+        → AreHalvesOf (H.AreOf halves.now) aim hs terminator
+        → IfOk result (λ o. IsAnswerBelow aim.kind
+        (search_for aim hs terminator input.old) o.reach o.found) }
+    ensures past { (hs : List Re) (terminator : ℕ)
+        → AreHalvesOf (H.AreOf halves.now) aim hs terminator
+        → IfOk result (λ o. IfSome o.found (λ m. m.end ≤ o.reach)) }
+    ensures within { IfOk result (λ o. IfSome o.found (IsWithinBounds input.old)) }
+{
+    content_fits(input);
+    let Some(Bounds { low, high }) = bounds_of(input, aim) else {
+        return Ok(Settled {
+            found: None,
+            reach: usize::MAX,
+        });
+    };
+    let anchored = input.get_anchored();
+    let run = halves.run_forwards(cache, input, anchored, low, false, false, 0);
+    let reach = run.read;
+    let Some(met) = told(run.ended)? else {
+        return Ok(Settled { found: None, reach });
+    };
+    let end = met.at.max(low).min(high);
+    let Some(least) = start_of(halves, cache, input, aim, low, end)? else {
+        return Ok(Settled { found: None, reach });
+    };
+    let start = least.max(low).min(end);
+    let pattern = id_of(met.pattern, end)?;
+    let found = Some(Match::new(pattern, Span { start, end }));
+    Ok(Settled { found, reach })
+}

@@ -1,0 +1,151 @@
+//! Reaches: searches that tell how many bytes settle what they find.
+ghost use Rattle.std.specs.Prelude.{◌≡◌, ◌+◌, ◌≤◌};
+ghost use Rattle.rc_text.specs.Text.{slice_end};
+
+use crate::cache::Cache;
+use crate::engines::Engines;
+use crate::pass::settle_by_pass;
+use crate::route::{Route, TableChoice};
+use rc_dense_dfa::dense::NoCache;
+use rc_dfa::halves::Halves;
+use rc_dfa_search::reach::{Settled, find_settled, tells_reach};
+use rc_lazy_dfa::lazy;
+use rc_pikevm_search::literals::guards_of;
+use rc_text::cursor::Cursor;
+use rc_text::input::{Input, content_fits};
+use rc_text::types::{Match, MatchError};
+
+/// A search that may have looked at the end of the slice and the byte there.
+#[inline(always)]
+pub(crate) fn settled_at_end<C: Cursor>(input: &Input<C>, found: Option<Match>) -> Settled
+    ensures found { result.found ≡ found }
+    ensures far { slice_end input.now + 1 ≤ result.reach }
+{
+    content_fits(input);
+    Settled {
+        found,
+        reach: usize::MAX,
+    }
+}
+
+impl Engines {
+    ghost use Rattle.std.specs.Prelude.{◌≡◌, ◌≤◌, IfOk, IfSome, IsTrue};
+    ghost use Rattle.rc_text.specs.Bounds.{IsWithinBounds};
+    ghost use Rattle.rc_text.specs.Text.{Keeps};
+    ghost use Rattle.rc_pikevm_search.specs.Engine.{engine_search};
+    ghost use Rattle.rc_dfa_search.specs.Reaches.{IsAnswerBelow, TellsReach};
+    ghost use Rattle.rc_strategy.specs.Caches.{IsCacheIn, IsCacheOfBoth, IsSameCacheIn, KeepsStates};
+    ghost use Rattle.rc_strategy.specs.Tables.{AreHalvesFor, aim_of};
+
+    /// Whether a DFA search of this input goes along the text from its start on, and so tells its
+    /// reach: it is anchored, or goes by no literals.
+    #[inline(always)]
+    fn goes_along<C: Cursor>(&self, input: &Input<C>) -> bool
+        ensures { IsTrue result → TellsReach (aim_of self.now.engine self.now.patterns) }
+    {
+        if !tells_reach(self.aim()) {
+            return false;
+        }
+        match self.route(input) {
+            Route::Along => {
+                let is_free = self.guard().is_none() && guards_of(&self.engine.literals).is_none();
+                is_free || input.get_anchored().is_anchored()
+            }
+            _ => false,
+        }
+    }
+
+    /// Returns the match by a DFA search, and how many bytes settle it. An `Err` says why the DFA
+    /// has no answer.
+    #[inline(always)]
+    fn settle<H: Halves, C: Cursor>(
+        &self,
+        halves: &H,
+        cache: &mut H::Cache,
+        input: &mut Input<C>,
+    ) -> Result<Settled, MatchError>
+        requires own { ∥ AreHalvesFor self.now.engine self.now.patterns (H.AreOf halves.now) ∥₁ }
+        requires cache { H.IsCache halves.now cache.old }
+        requires tells { TellsReach (aim_of self.now.engine self.now.patterns) }
+        ensures cache { H.IsCache halves.now cache.new }
+        ensures keeps { Keeps input.old input.new }
+        ensures settled { IfOk result (λ o. IsAnswerBelow self.now.engine.kind
+            (engine_search self.now.engine input.old) o.reach o.found) }
+        ensures past { IfOk result (λ o. IfSome o.found (λ m. m.end ≤ o.reach)) }
+        ensures within { IfOk result (λ o. IfSome o.found (IsWithinBounds input.old)) }
+    {
+        let aim = self.aim();
+        find_settled(halves, cache, input, aim)
+    }
+
+    /// Returns the match by the DFA, or else by the lazy DFA if the cache has its states, and how
+    /// many bytes settle it. Returns None if there is neither, or it has no answer.
+    fn settle_along<C: Cursor>(
+        &self,
+        cache: &mut Option<lazy::Cache>,
+        input: &mut Input<C>,
+    ) -> Option<Settled>
+        requires made { IsCacheOfBoth self.now.lazy cache.old }
+        requires tells { TellsReach (aim_of self.now.engine self.now.patterns) }
+        ensures keeps { Keeps input.old input.new }
+        ensures settled { IfSome result (λ o. IsAnswerBelow self.now.engine.kind
+            (engine_search self.now.engine input.old) o.reach o.found) }
+        ensures past { IfSome result (λ o. IfSome o.found (λ m. m.end ≤ o.reach)) }
+        ensures within { IfSome result (λ o. IfSome o.found (IsWithinBounds input.old)) }
+        ensures cache { KeepsStates self.now.lazy cache.old cache.new }
+    {
+        match self.table_choice(cache.is_some()) {
+            TableChoice::AllStates(tables) => self.settle(tables, &mut NoCache, input).ok(),
+            TableChoice::MetStates(tables) => {
+                let Some(states) = cache else {
+                    return None;
+                };
+                self.settle(tables, states, input).ok()
+            }
+            TableChoice::NoTables => None,
+        }
+    }
+
+    /// Returns the match by a DFA, and how many bytes settle it: those at which the run forwards
+    /// looked, if the search goes along the text. Returns None if there is no DFA, or it has no
+    /// answer.
+    fn settle_by_tables<C: Cursor>(
+        &self,
+        cache: &mut Option<lazy::Cache>,
+        input: &mut Input<C>,
+    ) -> Option<Settled>
+        requires made { IsCacheOfBoth self.now.lazy cache.old }
+        ensures keeps { Keeps input.old input.new }
+        ensures settled { IfSome result (λ o. IsAnswerBelow self.now.engine.kind
+            (engine_search self.now.engine input.old) o.reach o.found) }
+        ensures past { IfSome result (λ o. IfSome o.found (λ m. m.end ≤ o.reach)) }
+        ensures within { IfSome result (λ o. IfSome o.found (IsWithinBounds input.old)) }
+        ensures cache { KeepsStates self.now.lazy cache.old cache.new }
+    {
+        if self.goes_along(input) {
+            return self.settle_along(cache, input);
+        }
+        let found = self.find_in(cache, input)?;
+        Some(settled_at_end(input, found))
+    }
+
+    /// Returns the match that `find` returns, and how many bytes settle it. It allocates nothing
+    /// but states that the lazy DFA reaches for the first time, within the cache's capacity.
+    pub fn find_settled<C: Cursor>(&self, cache: &mut Cache, input: &mut Input<C>) -> Settled
+        requires made { IsCacheIn self.now 0 cache.old }
+        ensures keeps { Keeps input.old input.new }
+        ensures settled { IsAnswerBelow self.now.engine.kind
+            (engine_search self.now.engine input.old) result.reach result.found }
+        ensures past { IfSome result.found (λ m. m.end ≤ result.reach) }
+        ensures within { IfSome result.found (IsWithinBounds input.old) }
+        ensures cache { IsSameCacheIn self.now cache.old cache.new }
+    {
+        if self.spans.leave_none(input) {
+            return settled_at_end(input, None);
+        }
+        if let Some(settled) = self.settle_by_tables(&mut cache.lazy, input) {
+            return settled;
+        }
+        settle_by_pass(&self.engine, &mut cache.pass, input)
+    }
+}
