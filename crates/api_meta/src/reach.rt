@@ -52,9 +52,8 @@ impl Regex {
     /// The reach is right, but needn't be the least. If no pattern matches more than n bytes, a
     /// match has a reach of at most n + 4 bytes from its start, except under `MatchKind::All`. So
     /// does an anchored search from its own start, also without a match. If a DFA reads along the
-    /// text, and goes by no literals, the reach ends where it saw that no match goes on: one byte
-    /// after those that tell the match, at most. Otherwise the reach goes to the end of the slice,
-    /// and one further.
+    /// text by no literals, and no match is passed over, the reach ends where it saw that nothing
+    /// goes on. Otherwise the reach goes to the end of the slice, and one further.
     pub fn search_reach_with<C: Cursor>(&self, cache: &mut Cache, input: &mut Input<C>) -> Reached
         requires made { IsCacheFor (regex_patterns self.now) (regex_settings self.now) cache.old }
         ensures cache { IsCacheFor (regex_patterns self.now) (regex_settings self.now) cache.new }
