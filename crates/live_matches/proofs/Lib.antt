@@ -1,0 +1,8 @@
+mod Gaps
+mod Moves
+mod Listed
+mod Nexts
+mod Updates
+mod Searches
+mod Lives
+mod Had

@@ -1,0 +1,7 @@
+//! Live matches: the list of a text's matches, kept under edits.
+#![tactic(auto)]
+
+pub mod entries;
+pub mod entry;
+pub mod live;
+pub mod search;

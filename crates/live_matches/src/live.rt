@@ -1,0 +1,134 @@
+//! Live matches: the list, and the edits of its text.
+
+use crate::entries::Entries;
+use crate::entry::{Changed, Edit};
+use crate::search::{search_on, update};
+use rc_text::input::{content_fits, high};
+use regex_cursor::engines::meta::{Cache, Regex};
+use regex_cursor::{Cursor, Input};
+use std::alloc::{AllocError, Global};
+use std::marker::Model;
+
+/// The list of the matches of a regex in a text, kept under edits of the text.
+///
+/// It is the list of `Regex::find_iter` over the whole text. Contracts see it as its entries: each
+/// match, with how many bytes settle it.
+#[derive(Drop)]
+pub struct LiveMatches {
+    entries: Entries,
+    is_stale: bool,
+}
+
+impl Model for LiveMatches {
+    ghost use Rattle.std.specs.Prelude.{◌≡◌, [], true};
+    ghost use Rattle.live_matches.specs.Entries.{all_of};
+    ghost use Rattle.live_matches.specs.Live.{Listed};
+
+    ghost Value = { Listed };
+
+    ghost view = { λ l. record {
+      entries = all_of l.entries;
+      len = l.entries.len;
+      is_stale = l.is_stale;
+    } };
+
+    ghost invariant = { λ l. l.is_stale ≡ true → all_of l.entries ≡ [] };
+}
+
+impl LiveMatches {
+    ghost use Rattle.std.specs.Prelude.{◌≡◌, IfErr, IfOk, length};
+    ghost use Rattle.rc_text.specs.Text.{Keeps};
+    ghost use Rattle.live_matches.specs.Lists.{IsChanged};
+    ghost use Rattle.live_matches.specs.Live.{IsCacheOf, IsLive, IsStale, IsWhole, WasLive};
+
+    /// Returns the list of the matches in the content of the input, in a cache that was made for
+    /// the regex. The input has to be a new one, over the whole text. An `Err` means out of memory.
+    pub fn new<C: Cursor>(
+        alloc: Global,
+        regex: &Regex,
+        cache: &mut Cache,
+        input: &mut Input<C>,
+    ) -> Result<LiveMatches, AllocError>
+        requires made { IsCacheOf regex.now cache.old }
+        requires whole { IsWhole input.old }
+        ensures cache { IsCacheOf regex.now cache.new }
+        ensures keeps { Keeps input.old input.new }
+        ensures live { IfOk result (IsLive regex.now input.old.content) }
+    {
+        let mut live = LiveMatches {
+            entries: Entries::new(alloc, 0),
+            is_stale: true,
+        };
+        live.rebuild(regex, cache, input)?;
+        Ok(live)
+    }
+
+    /// Makes the list anew, as `new` does, also if it is stale. An `Err` means out of memory, and
+    /// leaves it stale.
+    pub fn rebuild<C: Cursor>(
+        &mut self,
+        regex: &Regex,
+        cache: &mut Cache,
+        input: &mut Input<C>,
+    ) -> Result<(), AllocError>
+        requires made { IsCacheOf regex.now cache.old }
+        requires whole { IsWhole input.old }
+        ensures cache { IsCacheOf regex.now cache.new }
+        ensures keeps { Keeps input.old input.new }
+        ensures live { IfOk result (λ _. IsLive regex.now input.old.content self.new) }
+        ensures stale { IfErr result (λ _. IsStale self.new) }
+    {
+        content_fits(input);
+        self.entries.clear(high(input));
+        self.is_stale = false;
+        let done = search_on(&mut self.entries, None, regex, cache, input);
+        input.set_start(0);
+        if done.is_err() {
+            self.make_stale();
+        }
+        done
+    }
+
+    /// Keeps the list under an edit of its text: some bytes were replaced by others. The input is
+    /// over the text as it is now, whole, and the list has to be that of the text as it was. An
+    /// `Err` means out of memory: the list is stale then, gives no matches, and `rebuild` mends it.
+    pub fn edit<C: Cursor>(
+        &mut self,
+        regex: &Regex,
+        cache: &mut Cache,
+        edit: Edit,
+        input: &mut Input<C>,
+    ) -> Result<Changed, AllocError>
+        requires made { IsCacheOf regex.now cache.old }
+        requires whole { IsWhole input.old }
+        requires was { WasLive regex.now edit input.old.content self.old }
+        ensures cache { IsCacheOf regex.now cache.new }
+        ensures keeps { Keeps input.old input.new }
+        ensures live { IfOk result (λ _. IsLive regex.now input.old.content self.new) }
+        ensures changed { IfOk result (IsChanged edit self.old.entries self.new.entries) }
+        ensures stale { IfErr result (λ _. IsStale self.new) }
+    {
+        content_fits(input);
+        let changed = update(&mut self.entries, regex, cache, edit, input);
+        input.set_start(0);
+        if changed.is_err() {
+            self.make_stale();
+        }
+        changed
+    }
+
+    /// Drops the matches, since they may not be those of the text.
+    fn make_stale(&mut self)
+        ensures { IsStale self.new }
+    {
+        self.entries.clear(0);
+        self.is_stale = true;
+    }
+
+    /// Whether the list is stale: out of memory, an edit left it so. It has no matches then.
+    pub fn is_stale(&self) -> bool
+        ensures { result ≡ self.now.is_stale }
+    {
+        self.is_stale
+    }
+}
