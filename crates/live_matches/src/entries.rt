@@ -40,8 +40,8 @@ impl Model for Entries {
 }
 
 impl Entries {
-    ghost use Rattle.std.specs.Prelude.{◌≡◌, ◌+◌, ◌-◌, ◌++◌, ◌<◌, ◌≤◌, ◌^◌, ◌∷◌, [], All, IfOk, IfSome, MatchOption, length, map};
-    ghost use Rattle.live_matches.specs.Entries.{AreBehind, AreBelow, FitsEdit, IsSettledTo, IsSkipped, last_end, len_after, moved_with};
+    ghost use Rattle.std.specs.Prelude.{◌≡◌, ◌+◌, ◌-◌, ◌++◌, ◌<◌, ◌≤◌, ◌^◌, ◌∷◌, [], All, IfOk, IfSome, MatchOption, length, map, slice_get};
+    ghost use Rattle.live_matches.specs.Entries.{AreBehind, AreBelow, FitsEdit, IsSettledTo, IsSkipped, all_of, last_end, len_after, moved_with};
 
     /// Returns an empty list for a text of `len` bytes. It takes no memory yet.
     pub fn new(alloc: Global, len: usize) -> Entries
@@ -63,6 +63,13 @@ impl Entries {
         self.len = len;
     }
 
+    /// The number of bytes of the text.
+    pub fn text_len(&self) -> usize
+        ensures { result ≡ self.now.len }
+    {
+        self.len // of the text
+    }
+
     /// The number of entries before the gap.
     pub fn count_before(&self) -> usize
         ensures { result ≡ length self.now.before }
@@ -75,6 +82,28 @@ impl Entries {
         ensures { result ≡ length self.now.after }
     {
         self.after.len()
+    }
+
+    /// The number of entries.
+    pub fn len(&self) -> usize
+        ensures { result ≡ length (all_of self.now) }
+    {
+        self.before.len() + self.after.len()
+    }
+
+    /// The entry with this index, in order, or `None` if there are no more.
+    pub fn get(&self, index: usize) -> Option<Entry>
+        ensures { result ≡ slice_get (all_of self.now) index }
+    {
+        if index < self.before.len() {
+            return Some(self.before[index].entry);
+        }
+        let index = index - self.before.len();
+        if index < self.after.len() {
+            Some(self.after[self.after.len() - 1 - index].mirrored(self.len))
+        } else {
+            None
+        }
     }
 
     /// Drops the entries after the gap.

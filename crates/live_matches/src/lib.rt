@@ -5,3 +5,6 @@ pub mod entries;
 pub mod entry;
 pub mod live;
 pub mod search;
+
+pub use entry::{Changed, Edit};
+pub use live::LiveMatches;

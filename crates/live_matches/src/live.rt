@@ -5,6 +5,7 @@ use crate::entry::{Changed, Edit};
 use crate::search::{search_on, update};
 use rc_text::input::{content_fits, high};
 use regex_cursor::engines::meta::{Cache, Regex};
+use regex_cursor::types::Match;
 use regex_cursor::{Cursor, Input};
 use std::alloc::{AllocError, Global};
 use std::marker::Model;
@@ -36,10 +37,10 @@ impl Model for LiveMatches {
 }
 
 impl LiveMatches {
-    ghost use Rattle.std.specs.Prelude.{◌≡◌, IfErr, IfOk, length};
+    ghost use Rattle.std.specs.Prelude.{◌≡◌, IfErr, IfOk, length, nat_eq, slice_get};
     ghost use Rattle.rc_text.specs.Text.{Keeps};
     ghost use Rattle.live_matches.specs.Lists.{IsChanged};
-    ghost use Rattle.live_matches.specs.Live.{IsCacheOf, IsLive, IsStale, IsWhole, WasLive};
+    ghost use Rattle.live_matches.specs.Live.{IsCacheOf, IsLive, IsStale, IsWhole, WasLive, listed};
 
     /// Returns the list of the matches in the content of the input, in a cache that was made for
     /// the regex. The input has to be a new one, over the whole text. An `Err` means out of memory.
@@ -125,10 +126,41 @@ impl LiveMatches {
         self.is_stale = true;
     }
 
+    /// The number of matches.
+    pub fn len(&self) -> usize
+        ensures { result ≡ length (listed self.now) }
+    {
+        self.entries.len()
+    }
+
+    /// Whether there is no match.
+    pub fn is_empty(&self) -> bool
+        ensures { result ≡ nat_eq (length (listed self.now)) 0 }
+    {
+        self.len() == 0
+    }
+
+    /// Returns the match with this index, in order and from 0 on, or `None` if there are no more.
+    pub fn get(&self, index: usize) -> Option<Match>
+        ensures { result ≡ slice_get (listed self.now) index }
+    {
+        match self.entries.get(index) {
+            Some(entry) => Some(entry.found),
+            None => None,
+        }
+    }
+
+    /// The number of bytes of the text.
+    pub fn text_len(&self) -> usize
+        ensures { result ≡ self.now.len }
+    {
+        self.entries.text_len()
+    }
+
     /// Whether the list is stale: out of memory, an edit left it so. It has no matches then.
     pub fn is_stale(&self) -> bool
         ensures { result ≡ self.now.is_stale }
     {
-        self.is_stale
+        self.is_stale // since an edit ran out of memory
     }
 }
