@@ -6,3 +6,4 @@ mod Updates
 mod Searches
 mod Lives
 mod Had
+mod Cuts

@@ -1,4 +1,6 @@
 //! Live matches: the list, and the edits of its text.
+ghost use Rattle.std.specs.Prelude.{◌≡◌};
+ghost use Rattle.live_matches.specs.Reading.{begins_before};
 
 use crate::entries::Entries;
 use crate::entry::{Changed, Edit};
@@ -37,7 +39,9 @@ impl Model for LiveMatches {
 }
 
 impl LiveMatches {
-    ghost use Rattle.std.specs.Prelude.{◌≡◌, IfErr, IfOk, length, nat_eq, slice_get};
+    ghost use Rattle.std.specs.Prelude.{◌≡◌, ℕ, IfErr, IfOk, length, nat_eq, slice_get};
+    ghost use Rattle.rc_program.specs.Matches.{AreInOrder, begin_of, end_of};
+    ghost use Rattle.live_matches.specs.Reading.{IsCut, IsLastBefore, IsNextFrom};
     ghost use Rattle.rc_text.specs.Text.{Keeps};
     ghost use Rattle.live_matches.specs.Lists.{IsChanged};
     ghost use Rattle.live_matches.specs.Live.{IsCacheOf, IsLive, IsStale, IsWhole, WasLive, listed};
@@ -150,6 +154,46 @@ impl LiveMatches {
         }
     }
 
+    /// The number of matches that begin before a place, in bytes of the text. So `get` of it is the
+    /// first match that begins there or later, and `get` of one less is the last one before.
+    pub fn index_from(&self, place: usize) -> usize
+        ensures { (hi : ℕ) → AreInOrder begin_of end_of hi (listed self.now)
+            → IsCut place (listed self.now) result }
+    {
+        let mut low = 0;
+        let mut high = self.len();
+        'halves: while low < high {
+            let middle = low + (high - low) / 2;
+            if begins_before(self.get(middle), place) {
+                low = middle + 1;
+            } else {
+                high = middle;
+            }
+        }
+        low
+    }
+
+    /// Returns the first match that begins at a place or later.
+    pub fn next_from(&self, place: usize) -> Option<Match>
+        ensures { (hi : ℕ) → AreInOrder begin_of end_of hi (listed self.now)
+            → IsNextFrom place (listed self.now) result }
+    {
+        let index = self.index_from(place);
+        self.get(index)
+    }
+
+    /// Returns the last match that begins before a place.
+    pub fn previous_from(&self, place: usize) -> Option<Match>
+        ensures { (hi : ℕ) → AreInOrder begin_of end_of hi (listed self.now)
+            → IsLastBefore place (listed self.now) result }
+    {
+        let index = self.index_from(place);
+        if index == 0 {
+            return None;
+        }
+        self.get(index - 1)
+    }
+
     /// The number of bytes of the text.
     pub fn text_len(&self) -> usize
         ensures { result ≡ self.now.len }
@@ -162,5 +206,15 @@ impl LiveMatches {
         ensures { result ≡ self.now.is_stale }
     {
         self.is_stale // since an edit ran out of memory
+    }
+}
+
+/// Whether the match is there, and begins before a place.
+fn begins_before(found: Option<Match>, place: usize) -> bool
+    ensures { result ≡ begins_before place found }
+{
+    match found {
+        Some(found) => found.start() < place,
+        None => false,
     }
 }
