@@ -1,11 +1,11 @@
 -- Matches in order: where those before a place end.
-use Rattle.std.proofs.Common.{◌≡◌, ℕ, zero, suc, ◌+◌, ◌<◌, ◌≤◌, true, false, List, [], ◌∷◌, length, nat_lt, Option, Some, None, refl, sym, ap, subst, ◌∙◌, arith, ⊎_elim}
+use Rattle.std.proofs.Common.{◌≡◌, ℕ, zero, suc, ◌+◌, ◌<◌, ◌≤◌, true, false, List, [], ◌∷◌, length, nat_lt, Some, refl, sym, ap, ◌∙◌, arith, ⊎_elim}
 use Rattle.std.specs.List.{slice_get}
 use Rattle.std.proofs.lemmas.Bool.{cases_lt, le-ltb, lt-ltb, true≢false}
 use Rattle.std.proofs.lemmas.Option.{none-some, same_Some}
 use Rattle.rc_text.specs.Found.{Found}
 use Rattle.rc_program.specs.Matches.{AreInOrder, begin_of, end_of}
-use Rattle.live_matches.specs.Reading.{IsCut, begins_before}
+use Rattle.live_matches.specs.Reading.{begins_before}
 
 later : (hi : ℕ) (x : Found) (ms : List Found) (j : ℕ) (n : Found) → AreInOrder begin_of end_of hi (x ∷ ms) → slice_get ms j ≡ Some n → x.start ≤ n.start
 later hi x [] j n o b = absurd (none-some n b)

@@ -1,6 +1,5 @@
 -- Lists of entries, before and after an edit.
 use Rattle.std.proofs.Common.{◌≡◌, ℕ, ◌+◌, ◌-◌, ◌<◌, ◌≤◌, List, [], ◌∷◌, ◌++◌, length, map, take, drop, Option, Some, None, sym, ap, subst, ◌∙◌, refl, arith, take-take}
-use Rattle.rc_text.specs.Found.{Found}
 use Rattle.rc_text.specs.declared.types.MatchKind.{MatchKind}
 use Rattle.rc_program.specs.Answer.{Search}
 use Rattle.rc_program.specs.Matches
@@ -10,7 +9,7 @@ use Rattle.rc_reach.specs.Live.{found_by, list_by, over_content}
 use Rattle.live_matches.specs.declared.entry.Entry.{Entry}
 use Rattle.live_matches.specs.Entries.{AreBelow, AreBehind, last_end, moved_by, reach_of}
 use Rattle.live_matches.specs.Lists.{AreEntries, AreFirst, IsEntry, IsNextFixed, founds, next_after, place_of}
-use Rattle.live_matches.proofs.Moves.{IsMoved, fixed_moved, lies, next_moved, none_moved}
+use Rattle.live_matches.proofs.Moves.{fixed_moved, lies, next_moved, none_moved}
 
 module _ (kind : MatchKind) (s : Search) where
   -- the first of them, and the others

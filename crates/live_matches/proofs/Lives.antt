@@ -3,7 +3,7 @@ use Rattle.std.proofs.Common.{◌≡◌, ℕ, ◌+◌, ◌<◌, true, false, Lis
 use Rattle.rc_text.specs.Text.{Searched, high}
 use Rattle.rc_program.specs.Answer.{Search}
 use Rattle.rc_program.specs.Kinds.{matches_by_kind}
-use Rattle.rc_program.specs.Sought.{Sought, search_for}
+use Rattle.rc_program.specs.Sought.{Sought}
 use Rattle.api_meta.specs.Views.{regex_kind, sought}
 use Rattle.api_meta.specs.declared.regex.Regex.{Regex}
 use Rattle.live_matches.specs.Lists.{AreEntries}

@@ -1,5 +1,5 @@
 -- Entries before an edit stay, and those after it move with the text.
-use Rattle.std.proofs.Common.{◌≡◌, ℕ, ◌+◌, ◌-◌, ◌<◌, ◌≤◌, List, [], ◌∷◌, ◌++◌, length, map, take, drop, Option, Some, None, sym, ap, ap₂, subst, ◌∙◌, refl, arith, take-take, take-add, length-take, length-append}
+use Rattle.std.proofs.Common.{◌≡◌, ℕ, ◌+◌, ◌-◌, ◌≤◌, List, ◌++◌, length, take, drop, Option, Some, None, sym, ap, ◌∙◌, refl, arith, take-add, length-take, length-append}
 use Rattle.std.specs.Option.{option_map}
 use Rattle.std.proofs.Math.Seq.{drop-append_seam, take-append-add}
 use Rattle.std.proofs.lemmas.List.{drop-take, length-take-le}
@@ -7,16 +7,14 @@ use Rattle.std.proofs.lemmas.Option.{none-some, same_Some}
 use Rattle.rc_text.specs.Found.{Found}
 use Rattle.rc_text.specs.declared.types.MatchKind.{MatchKind}
 use Rattle.rc_program.specs.Answer.{Search}
-use Rattle.rc_program.specs.Matches.{begin_of, end_of, next_match}
+use Rattle.rc_program.specs.Matches.{begin_of, end_of}
 use Rattle.rc_program.proofs.KindLemmas.{kinds_law}
 use Rattle.rc_program.proofs.MatchLemmas.{IsAfterLast, LiesFrom, EndsAfter, next_lies}
-use Rattle.rc_reach.specs.Edits.{IsFurther, match_further}
+use Rattle.rc_reach.specs.Edits.{match_further}
 use Rattle.rc_reach.specs.Live.{found_by, over_content}
 use Rattle.rc_reach.proofs.LiveLemmas.{further_by, moves}
 use Rattle.rc_reach.proofs.EditLemmas as edits
-use Rattle.live_matches.specs.declared.entry.Entry.{Entry}
-use Rattle.live_matches.specs.Entries.{AreBelow, last_end, moved_by, reach_of}
-use Rattle.live_matches.specs.Lists.{AreEntries, AreFirst, IsEntry, IsNextFixed, next_after, place_of}
+use Rattle.live_matches.specs.Lists.{IsNextFixed, next_after, place_of}
 
 -- ---- moved matches
 

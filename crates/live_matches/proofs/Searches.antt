@@ -1,5 +1,5 @@
 -- The search of a content from a place on, as a search of an input.
-use Rattle.std.proofs.Common.{◌≡◌, ℕ, ◌+◌, ◌<◌, List, [], length, max, min, take, refl, sym, ap, ap₂, subst, ◌∙◌, arith}
+use Rattle.std.proofs.Common.{◌≡◌, ℕ, ◌+◌, ◌<◌, List, [], length, min, take, refl, sym, ap, ap₂, ◌∙◌, arith}
 use Rattle.std.proofs.Math.Seq.{take-length}
 use Rattle.rc_text.specs.Text.{KeepsText, Searched}
 use Rattle.rc_text.specs.declared.types.MatchKind.{MatchKind}

@@ -1,5 +1,5 @@
-use Rattle.std.proofs.Common.{◌≡◌, ◌≤◌, ◌∙◌, ◌++◌, ◌∷◌, [], sym, ap, subst, arith}
-use Rattle.live_matches.specs.Entries.{AreBelow, Rise, counted_back, entries_of, mirror, most_of, reach_of}
+use Rattle.std.proofs.Common.{◌≡◌, ◌∙◌, ◌++◌, ◌∷◌, [], sym, ap, subst, arith}
+use Rattle.live_matches.specs.Entries.{AreBelow, Rise, counted_back, entries_of, mirror, reach_of}
 use Rattle.live_matches.specs.declared.entry.Entry.{Entry}
 use Rattle.live_matches.proofs.Gaps.{below, most_push, moved_on, rise_push}
 use Rattle.live_matches.proofs.entries.move_on.Goals as goal

@@ -1,9 +1,8 @@
-use Rattle.std.proofs.Common.{◌≡◌, ◌+◌, ◌∙◌, true, Some, sym, ap, subst}
+use Rattle.std.proofs.Common.{◌≡◌, ◌+◌, ◌∙◌, true, sym, ap, subst}
 use Rattle.rc_program.specs.Matches.{begin_of, end_of, is_again}
 use Rattle.rc_reach.specs.Fixed.{IsFixed}
 use Rattle.rc_reach.specs.Live.{found_by}
 use Rattle.api_meta.specs.Views.{regex_kind}
-use Rattle.live_matches.specs.Lists.{place_of}
 use Rattle.live_matches.specs.Live.{seeks}
 use Rattle.live_matches.proofs.Nexts.{again}
 use Rattle.live_matches.proofs.search.next_entry.Goals as goal

@@ -1,7 +1,7 @@
-use Rattle.std.proofs.Common.{◌≡◌, ◌≤◌, ◌<◌, ◌-◌, ◌∙◌, [], Some, None, length, refl, sym, ap, subst, arith}
+use Rattle.std.proofs.Common.{◌-◌, ◌∙◌, [], Some, None, refl, sym, ap, subst, arith}
 use Rattle.std.proofs.lemmas.List.{append-nil}
 use Rattle.api_meta.specs.Views.{regex_kind}
-use Rattle.live_matches.specs.Lists.{IsEntry, place_of}
+use Rattle.live_matches.specs.Lists.{IsEntry}
 use Rattle.live_matches.specs.Live.{seeks}
 use Rattle.live_matches.proofs.Nexts.{ends_inside, left_falls, none_on, one_all, one_first, one_last, one_on, one_rest}
 use Rattle.live_matches.proofs.search.search_on.Goals as goal

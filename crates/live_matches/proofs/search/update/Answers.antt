@@ -1,4 +1,4 @@
-use Rattle.std.proofs.Common.{◌≡◌, ◌+◌, ◌≤◌, ◌∙◌, None, length, sym, ap, ap₂, ◌-◌, subst, arith}
+use Rattle.std.proofs.Common.{◌+◌, ◌∙◌, ap₂, ◌-◌, subst, arith}
 use Rattle.api_meta.specs.Views.{regex_kind}
 use Rattle.live_matches.specs.Entries.{IsSkipped}
 use Rattle.live_matches.specs.Live.{seeks}

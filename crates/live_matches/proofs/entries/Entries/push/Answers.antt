@@ -1,4 +1,4 @@
-use Rattle.std.proofs.Common.{◌≤◌, sym, ap, subst, arith}
+use Rattle.std.proofs.Common.{sym, ap, subst, arith}
 use Rattle.live_matches.specs.Entries.{Gapped, Rise}
 use Rattle.live_matches.proofs.Gaps.{rise_push}
 use Rattle.live_matches.proofs.entries.Entries.push.Goals as goal

@@ -1,5 +1,5 @@
-use Rattle.std.proofs.Common.{◌≡◌, ◌++◌, ◌∷◌, [], ◌∙◌, Some, sym, ap, append_assoc}
-use Rattle.live_matches.specs.Entries.{Gapped, last_end}
+use Rattle.std.proofs.Common.{◌++◌, ◌∷◌, [], ◌∙◌, Some, sym, ap, append_assoc}
+use Rattle.live_matches.specs.Entries.{Gapped}
 use Rattle.live_matches.proofs.Gaps.{end_push}
 use Rattle.live_matches.proofs.entries.Entries.skip_to.Goals as goal
 

@@ -1,4 +1,4 @@
-use Rattle.std.proofs.Common.{◌≡◌, ◌+◌, ◌-◌, ◌/◌, ◌<◌, ◌≤◌, ◌∙◌, true, false, length, sym, ap, arith}
+use Rattle.std.proofs.Common.{◌≡◌, ◌+◌, ◌-◌, ◌/◌, ◌<◌, ◌∙◌, true, false, sym, ap, arith}
 use Rattle.live_matches.specs.Live.{listed}
 use Rattle.live_matches.specs.Reading.{begins_before}
 use Rattle.live_matches.proofs.Cuts.{lower_left, upper_left}

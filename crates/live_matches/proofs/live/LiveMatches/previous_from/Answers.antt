@@ -1,7 +1,6 @@
-use Rattle.std.proofs.Common.{◌≡◌, ◌-◌, ◌∙◌, true, false, Option, None, if◌then◌else◌, nat_eq, ⊎_elim, refl, sym, ap, arith, eqb-true, eq-eqb}
+use Rattle.std.proofs.Common.{◌≡◌, ◌-◌, ◌∙◌, true, false, None, if◌then◌else◌, nat_eq, ⊎_elim, sym, ap, arith, eqb-true, eq-eqb}
 use Rattle.std.specs.List.{slice_get}
 use Rattle.std.proofs.lemmas.Bool.{cases_Bool}
-use Rattle.rc_text.specs.Found.{Found}
 use Rattle.live_matches.specs.Live.{listed}
 use Rattle.live_matches.proofs.live.LiveMatches.previous_from.Goals as goal
 

@@ -1,8 +1,8 @@
-use Rattle.std.proofs.Common.{◌≡◌, ◌∙◌, false, None, length, refl, sym, ap, subst}
+use Rattle.std.proofs.Common.{◌∙◌, false, None, length, refl, sym, ap, subst}
 use Rattle.api_meta.specs.Views.{regex_kind}
 use Rattle.live_matches.specs.Entries.{Gapped, all_of}
 use Rattle.live_matches.specs.Lists.{AreEntries, IsSearchedOn}
-use Rattle.live_matches.specs.Live.{IsLive, seeks}
+use Rattle.live_matches.specs.Live.{seeks}
 use Rattle.live_matches.proofs.Had.{both_ok}
 use Rattle.live_matches.proofs.Lives.{high_is, is_live}
 use Rattle.live_matches.proofs.live.LiveMatches.rebuild.Goals as goal
