@@ -11,7 +11,11 @@ reach_of e = e.found.end + e.ahead
 -- The entry, its places counted from the other end of a text of so many bytes.
 abbrev pub mirror : ℕ → Entry → Entry
 mirror len e = record {
-  found = record { pattern = e.found.pattern; start = len - e.found.end; end = len - e.found.start };
+  found = record {
+    pattern = e.found.pattern;
+    start = len - e.found.end;
+    end = len - e.found.start;
+  };
   ahead = e.ahead;
 }
 

@@ -19,4 +19,5 @@ IsNextFrom at ms r = (k : ℕ) × IsCut at ms k × (r ≡ slice_get ms k)
 
 -- The last match that begins before the place.
 abbrev pub IsLastBefore : ℕ → List Found → Option Found → Type 0
-IsLastBefore at ms r = (k : ℕ) × IsCut at ms k × (r ≡ (if nat_eq k 0 then None else slice_get ms (k - 1)))
+IsLastBefore at ms r = (k : ℕ) × IsCut at ms k
+    × (r ≡ (if nat_eq k 0 then None else slice_get ms (k - 1)))
