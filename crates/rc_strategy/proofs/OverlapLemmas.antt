@@ -1,17 +1,16 @@
 -- Overlapping search by states: the patterns that it meets are those of which a walk is spelled.
-use Rattle.std.proofs.Common.{◌≡◌, ◌≢◌, ◌∙◌, ℕ, ◌+◌, ◌<◌, ◌≤◌, ◌⊎◌, ◌↔◌, zero, suc, Bool, true, false, true≢false, IsTrue, List, length, Option, Some, None, inl, inr, ⊎_elim, ap, sym, subst, refl, arith, slice_get}
+use Rattle.std.proofs.Common.{◌≡◌, ◌≢◌, ◌∙◌, ℕ, ◌+◌, ◌<◌, ◌≤◌, ◌⊎◌, ◌↔◌, zero, suc, Bool, true, true≢false, List, Option, Some, None, inl, inr, ⊎_elim, ap, sym, subst, refl, arith}
 use Rattle.std.proofs.lemmas.Bool.{cases_Bool, cases_eq, cases_lt}
 use Rattle.std.proofs.lemmas.Option.{slice_get_within}
 use Rattle.std.proofs.Math.Logic.{∥∥₁_elim}
 use denote.Struct.Props.{props}
 use Rattle.rc_text.specs.Found.{Found}
-use Rattle.rc_text.specs.Text.{Searched, Keeps, high, low}
+use Rattle.rc_text.specs.Text.{Searched, high, low}
 use Rattle.rc_text.specs.declared.types.Anchored.{Anchored}
 use Rattle.rc_text.specs.declared.types.Anchored.TheVariants.{No, Yes, Pattern}
 use Rattle.rc_pattern_set.specs.Sets.{Has}
-use Rattle.rc_pattern.specs.Re.{Re}
 use Rattle.rc_program.specs.Answer.{Search, IsStart, is_anchored, only}
-use Rattle.rc_program.specs.Greatest.{AllowsPattern, IsSpelledIn, greatest}
+use Rattle.rc_program.specs.Greatest.{IsSpelledIn, greatest}
 use Rattle.rc_program.specs.Program.{accept, is_match_place}
 use Rattle.rc_program.specs.Places.{places_of}
 use Rattle.rc_program.specs.Sought.{text_of}

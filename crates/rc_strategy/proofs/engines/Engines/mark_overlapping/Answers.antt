@@ -1,13 +1,11 @@
-use Rattle.std.proofs.Common.{◌≡◌, ℕ, IfSome, sym, subst}
+use Rattle.std.proofs.Common.{ℕ, IfSome, subst}
 use Rattle.rc_program.specs.Sought.{text_of}
 use Rattle.rc_text.specs.Text.{high}
-use Rattle.rc_text.specs.declared.types.Anchored.TheVariants.{Pattern}
 use Rattle.rc_dfa.specs.Automata.{machine_of}
 use Rattle.rc_dfa.specs.declared.automaton.Direction.TheVariants.{Overlapping}
 use Rattle.rc_dfa_search.specs.Ends.{Asks}
 use Rattle.rc_lazy_dfa.specs.Caches.{AreHalves}
 use Rattle.rc_lazy_dfa.specs.Overlaps.{AddsOnly, HasEach, IsMet}
-use Rattle.rc_pikevm_search.specs.Engine.{engine_search}
 use Rattle.rc_strategy.specs.Tables.{AreHalvesFor}
 use Rattle.rc_strategy.proofs.HeldLemmas.{adds_held, keeps_held}
 use Rattle.rc_strategy.proofs.OverlapLemmas.{free_asks, held_asks, held_ordered, met_all, met_some, some_held, states_so}
