@@ -53,7 +53,9 @@ impl Regex {
     /// match has a reach of at most n + 4 bytes from its start, except under `MatchKind::All`. So
     /// does an anchored search from its own start, also without a match. If a DFA reads along the
     /// text by no literals, and no match is passed over, the reach ends where it saw that nothing
-    /// goes on. Otherwise the reach goes to the end of the slice, and one further.
+    /// goes on. If the Pike VM does, for a leftmost-first match, it ends at most four bytes after
+    /// those that its walks read. Otherwise the reach goes to the end of the slice, and one
+    /// further.
     pub fn search_reach_with<C: Cursor>(&self, cache: &mut Cache, input: &mut Input<C>) -> Reached
         requires made { IsCacheFor (regex_patterns self.now) (regex_settings self.now) cache.old }
         ensures cache { IsCacheFor (regex_patterns self.now) (regex_settings self.now) cache.new }

@@ -1,3 +1,4 @@
+-- Only proofs use this file.
 -- Overlapping search: which patterns are met, and what is known of them at a position.
 use Rattle.std.specs.Prelude.{◌≡◌, ◌⊎◌, ℕ, ◌+◌, ◌*◌, ◌<◌, ◌≤◌, Bool, true, false, List, length, Option, Some, slice_get}
 use Rattle.rc_text.specs.declared.types.Anchored.{Anchored}

@@ -100,7 +100,8 @@ pub(crate) fn ask_pass<C: Cursor>(
     }
 }
 
-/// Returns the match, and how many bytes settle it.
+/// Returns the match, and how many bytes settle it. If prefix literals guard the search, those are
+/// all bytes up to the end of the slice, and one more.
 pub(crate) fn settle_by_pass<C: Cursor>(
     engine: &Engine,
     cache: &mut Cache,
@@ -114,6 +115,13 @@ pub(crate) fn settle_by_pass<C: Cursor>(
     ensures within { IfSome result.found (IsWithinBounds input.old) }
     ensures cache { IsSameCache cache.old cache.new }
 {
+    if guards_of(&engine.literals).is_none() {
+        let told = engine.find_reach(cache, input);
+        return Settled {
+            found: told.found,
+            reach: told.reach,
+        };
+    }
     let found = engine.find(cache, input);
     settled_at_end(input, found)
 }
