@@ -1,10 +1,10 @@
 //! Live matches: the list of a text's matches, kept under edits.
 #![tactic(auto)]
 
-pub mod entries;
+mod entries;
 pub mod entry;
 pub mod live;
-pub mod search;
+mod search;
 
 pub use entry::{Changed, Edit};
 pub use live::LiveMatches;
