@@ -2,7 +2,9 @@
 #![tactic(auto)]
 
 mod glob;
+mod identity;
 mod walk;
 
 pub use glob::fits;
+pub use identity::Identity;
 pub use walk::{Choice, FoundFile, Walk, WalkError};

@@ -75,13 +75,15 @@ pub fn put_help<W: Write>(out: &mut W, program: &Program, options: &[Entry]) -> 
     let notes = program.notes;
     writeln!(out, "{about}\n\nUsage: {usage}")?;
     for section in SECTIONS.iter() {
-        put_section(out, options, *section)?;
+        if options.iter().any(|entry| entry.section == *section) {
+            put_section(out, options, *section)?;
+        }
     }
     writeln!(out, "\n{notes}")
 }
 
 /// Writes the options as items of a man page.
-pub fn put_manual<W: Write>(out: &mut W, options: &[Entry]) -> io::Result<()> {
+fn put_manual<W: Write>(out: &mut W, options: &[Entry]) -> io::Result<()> {
     for entry in options {
         let name = entry.name;
         match entry.letter {
@@ -154,7 +156,8 @@ fn put_zsh<W: Write>(out: &mut W, program: &Program, options: &[Entry]) -> io::R
     for entry in options {
         put_zsh_option(out, entry)?;
     }
-    out.write_all(b"  '(-e -f)1:pattern:' \\\n  '*:file:_files'\n")
+    let operands = program.operands;
+    writeln!(out, "  {operands}")
 }
 
 /// Writes the completions for fish.
@@ -176,14 +179,16 @@ fn put_fish<W: Write>(out: &mut W, program: &Program, options: &[Entry]) -> io::
     Ok(())
 }
 
-/// Writes completions for a shell: `bash`, `zsh` or `fish`. Returns whether there are any for it.
-pub fn put_completions<W: Write>(
+/// Writes a text that is made of the options: completions for a shell, `bash`, `zsh` or `fish`, or
+/// `man`, the options as items of a man page. Returns whether there is one of this kind.
+pub fn put_text<W: Write>(
     out: &mut W,
     program: &Program,
     options: &[Entry],
-    shell: &str,
+    kind: &str,
 ) -> io::Result<bool> {
-    match shell {
+    match kind {
+        "man" => put_manual(out, options)?,
         "bash" => put_bash(out, program, options)?,
         "zsh" => put_zsh(out, program, options)?,
         "fish" => put_fish(out, program, options)?,

@@ -270,4 +270,5 @@ pub static RCGREP: Program = Program {
     about: "Print the lines of files in which a pattern matches.",
     notes: "If no file is named, or its name is -, the standard input is read.\n\
 The status is 0 if a line was selected, 1 if none was, and 2 at a fault.",
+    operands: "'(-e -f)1:pattern:' '*:file:_files'",
 };

@@ -94,4 +94,6 @@ pub struct Program {
     pub about: &'static str,
     /// What stands behind the options in the help text.
     pub notes: &'static str,
+    /// What zsh completes for the words that are no options, as arguments of `_arguments`.
+    pub operands: &'static str,
 }

@@ -3,7 +3,6 @@
 #![tactic(auto)]
 
 mod faults;
-mod identity;
 mod line_regex;
 mod options;
 mod output;
@@ -17,7 +16,7 @@ use crate::patterns::{MAX_PATTERNS, Patterns, Unread, all_fitted, build, read_pa
 use crate::search::search_all;
 use crate::texts::{all_escaped, all_texts, has_newline, have_capital, read_files};
 use grep_options::{
-    Given, OPTIONS, RCGREP, WordsError, nearest, put_completions, put_help, put_manual, read_words,
+    Given, OPTIONS, RCGREP, put_help, put_text, put_usage, put_words_fault, read_words,
 };
 use regex_cursor::hir::Hir;
 use regex_cursor::syntax::Config;
@@ -141,26 +140,13 @@ fn status_of(rt: &HostRuntime, written: io::Result<()>) -> u8 {
 
 /// Reports a fault of the command line, and the usage.
 fn report_usage(rt: &HostRuntime, fault: &str, word: &str) -> u8 {
-    let usage = RCGREP.usage;
-    let _ = writeln!(rt.stderr(), "rcgrep: {fault} {word}\nUsage: {usage}");
+    let _ = put_usage(&mut rt.stderr(), &RCGREP, fault, word);
     FAULT
 }
 
-/// Reports a word that isn't an option, and the option that is nearest to it.
-fn report_unknown(rt: &HostRuntime, word: &str) -> u8 {
-    if let Ok(Some(name)) = nearest(rt.alloc(), &OPTIONS, word) {
-        let _ = writeln!(rt.stderr(), "rcgrep: the nearest option is --{name}");
-    }
-    report_usage(rt, "no option", word)
-}
-
-/// Writes a text that is made of the options: the man page's, or completions.
+/// Writes a text that is made of the options.
 fn generate(rt: &HostRuntime, kind: &str) -> u8 {
-    let mut out = rt.stdout();
-    if kind == "man" {
-        return status_of(rt, put_manual(&mut out, &OPTIONS));
-    }
-    match put_completions(&mut out, &RCGREP, &OPTIONS, kind) {
+    match put_text(&mut rt.stdout(), &RCGREP, &OPTIONS, kind) {
         Ok(true) => 0,
         Ok(false) => report_usage(rt, "no such text:", kind),
         Err(fault) => report_output(rt, &fault),
@@ -187,10 +173,10 @@ fn run_given(rt: &HostRuntime, given: &Given<'_>) -> u8 {
 fn run_with(rt: &HostRuntime, words: &[&str]) -> u8 {
     match read_words(rt.alloc(), &OPTIONS, words) {
         Ok(given) => run_given(rt, &given),
-        Err(WordsError::Unknown(word)) => report_unknown(rt, word),
-        Err(WordsError::NoValue(word)) => report_usage(rt, "a value is missing behind", word),
-        Err(WordsError::Unneeded(word)) => report_usage(rt, "no value belongs to", word),
-        Err(WordsError::Memory) => report(rt, "out of memory"),
+        Err(fault) => {
+            let _ = put_words_fault(rt.alloc(), &mut rt.stderr(), &RCGREP, &OPTIONS, fault);
+            FAULT
+        }
     }
 }
 

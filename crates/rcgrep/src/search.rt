@@ -1,11 +1,10 @@
 //! File search: the files, or the standard input, line by line.
 
-use crate::identity::Identity;
 use crate::line_regex::LineRegex;
 use crate::options::{Options, Report};
 use crate::output::{Output, Printer, Style, put_count};
 use crate::patterns::Patterns;
-use grep_files::{Choice, FoundFile, Walk};
+use grep_files::{Choice, FoundFile, Identity, Walk};
 use grep_lines::{Extent, LinePrinter, PrintError, next_selected, print_selected};
 use memchr::memchr;
 use std::alloc::Global;

@@ -1,5 +1,6 @@
 //! Pattern texts: those of the command line, and the lines of files.
 
+use grep_options::escaped;
 use std::alloc::{AllocError, Global};
 use std::{fs, io};
 
@@ -54,26 +55,6 @@ pub fn all_texts<'t, 'w: 't>(
         }
     }
     Ok(texts)
-}
-
-/// Whether a byte has a meaning of its own in a pattern.
-fn is_special(letter: char) -> bool {
-    matches!(
-        letter,
-        '\\' | '.' | '+' | '*' | '?' | '(' | ')' | '|' | '[' | ']' | '{' | '}' | '^' | '$'
-    )
-}
-
-/// A pattern that matches this text alone.
-fn escaped(alloc: Global, text: &str) -> Result<String, AllocError> {
-    let mut pattern = String::new(alloc);
-    for letter in text.chars() {
-        if is_special(letter) {
-            pattern.push('\\')?;
-        }
-        pattern.push(letter)?;
-    }
-    Ok(pattern)
 }
 
 /// Patterns that match these texts alone.

@@ -1,0 +1,56 @@
+//! Command-line faults: what is told of words that give nothing.
+
+use crate::read::{WordsError, nearest};
+use crate::table::{Entry, Program};
+use std::alloc::Global;
+use std::io;
+use std::io::Write;
+
+/// Writes a fault of the command line, the word at fault if it isn't empty, and the usage.
+pub fn put_usage<W: Write>(
+    err: &mut W,
+    program: &Program,
+    fault: &str,
+    word: &str,
+) -> io::Result<()> {
+    let name = program.name;
+    let usage = program.usage;
+    if word.is_empty() {
+        return writeln!(err, "{name}: {fault}\nUsage: {usage}");
+    }
+    writeln!(err, "{name}: {fault} {word}\nUsage: {usage}")
+}
+
+/// Writes that a word is no option, and the option that is nearest to it.
+fn put_unknown<W: Write>(
+    alloc: Global,
+    err: &mut W,
+    program: &Program,
+    options: &[Entry],
+    word: &str,
+) -> io::Result<()> {
+    if let Ok(Some(option)) = nearest(alloc, options, word) {
+        let name = program.name;
+        writeln!(err, "{name}: the nearest option is --{option}")?;
+    }
+    put_usage(err, program, "no option", word)
+}
+
+/// Writes why words give nothing.
+pub fn put_words_fault<W: Write>(
+    alloc: Global,
+    err: &mut W,
+    program: &Program,
+    options: &[Entry],
+    fault: WordsError<'_>,
+) -> io::Result<()> {
+    match fault {
+        WordsError::Unknown(word) => put_unknown(alloc, err, program, options, word),
+        WordsError::NoValue(word) => put_usage(err, program, "a value is missing behind", word),
+        WordsError::Unneeded(word) => put_usage(err, program, "no value belongs to", word),
+        WordsError::Memory => {
+            let name = program.name;
+            writeln!(err, "{name}: out of memory")
+        }
+    }
+}
