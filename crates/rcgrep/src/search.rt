@@ -184,7 +184,6 @@ impl Job<'_, '_> {
             Report::Count => put_count(out, shown, count),
             Report::NameIfAny if count > 0 => writeln!(out, "{name}"),
             Report::NameIfNone if count == 0 => writeln!(out, "{name}"),
-            Report::Binary if count > 0 => writeln!(out, "rcgrep: {name}: binary file matches"),
             _ => Ok(()),
         };
         match written {
@@ -194,9 +193,11 @@ impl Job<'_, '_> {
     }
 
     /// Searches one reader, in pages, and returns whether a line was selected. A binary file is
-    /// passed over in a folder, and else its lines aren't printed.
+    /// passed over in a folder, and else its lines aren't printed: that one is selected is told on
+    /// the standard error.
     fn search<R: Read + Drop, W: Write + Drop>(
         &self,
+        rt: &HostRuntime,
         selector: &mut LineRegex<'_>,
         inner: R,
         out: &mut Output<W>,
@@ -219,7 +220,11 @@ impl Job<'_, '_> {
                 report = Report::Binary;
             }
         }
-        self.put_report(selector, &mut reader, out, name, report)
+        let is_any = self.put_report(selector, &mut reader, out, name, report)?;
+        if is_any && report == Report::Binary {
+            let _ = writeln!(rt.stderr(), "rcgrep: {name}: binary file matches");
+        }
+        Ok(is_any)
     }
 
     /// Whether the lines of this file would be written to the file itself.
@@ -240,7 +245,7 @@ impl Job<'_, '_> {
             if self.is_output(Identity::of_stdin(rt)) {
                 return Err(Fault::IsOutput);
             }
-            return self.search(selector, rt.stdin(), out, STDIN, false);
+            return self.search(rt, selector, rt.stdin(), out, STDIN, false);
         }
         let opened = match File::open(rt, path) {
             Ok(opened) => opened,
@@ -249,7 +254,7 @@ impl Job<'_, '_> {
         if self.is_output(Identity::of_file(&opened)) {
             return Err(Fault::IsOutput);
         }
-        self.search(selector, opened, out, path, file.is_in_folder)
+        self.search(rt, selector, opened, out, path, file.is_in_folder)
     }
 
     /// Reports a file that couldn't be searched, unless messages are off.
