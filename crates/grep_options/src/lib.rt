@@ -6,6 +6,7 @@ mod faults;
 mod fixed;
 mod help;
 mod rcgrep;
+mod rcsub;
 mod read;
 mod table;
 
@@ -13,5 +14,6 @@ pub use faults::{put_usage, put_words_fault};
 pub use fixed::escaped;
 pub use help::{put_help, put_text};
 pub use rcgrep::{OPTIONS, RCGREP};
+pub use rcsub::{RCSUB, SUB_OPTIONS};
 pub use read::{Given, WordsError, nearest, read_words};
 pub use table::{Entry, Id, Program, Section, Takes};

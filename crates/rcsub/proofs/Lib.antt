@@ -1,1 +1,3 @@
-mod Done
+mod Regexes
+mod ByLine
+mod Kept

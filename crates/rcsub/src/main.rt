@@ -1,23 +1,27 @@
-//! Command line `rcsub`: replaces each match of a pattern in the standard input, read in chunks of
-//! a given length, by a template.
+//! Command line `rcsub`: replaces each match of a pattern in files, or in the standard input, by a
+//! template.
 #![tactic(auto)]
 
-ghost use Rattle.std.specs.Prelude.{◌≢◌, nat_eq, IfOk};
-ghost use Rattle.std.specs.Io.KnownBytes.{Keeps};
-ghost use Rattle.chunk_replace.specs.Words.{HasWords, IsDone};
+mod diff;
+mod faults;
+mod files;
+mod options;
+mod pattern;
+mod print;
+mod replacer;
+mod rewrite;
 
-use buffered_sink::BufferedSink;
-use chunk_replace::program;
+use crate::faults::{FAULT, report, report_output};
+use crate::options::{Options, Refusal};
+use crate::pattern::{pattern_of, replacer_of};
+use crate::print::replace_files;
+use grep_options::{
+    Given, RCSUB, SUB_OPTIONS, put_help, put_text, put_usage, put_words_fault, read_words,
+};
 use std::alloc::{AllocError, Global};
 use std::io;
-use std::io::{Read, Write};
+use std::io::Write;
 use std::process::ExitCode;
-
-/// The status if something was replaced.
-const REPLACED: u8 = 0;
-
-/// The status of an error.
-const FAULT: u8 = 2;
 
 /// The arguments of the program. An error means out of memory, or an argument that isn't text.
 fn words_of(rt: &HostRuntime) -> io::Result<Vec<String>> {
@@ -30,68 +34,85 @@ fn lent(alloc: Global, words: &[String]) -> Result<Vec<&str>, AllocError> {
     words.iter().map(|word| word.as_str()).collect(alloc)
 }
 
-/// Writes the line of an error, and returns its status. An error of the writer is ignored.
-fn report<E: Write>(err: &mut E, line: &str) -> u8 {
-    let _ = writeln!(err, "{line}");
+/// The status after a text was written to the standard output, or not.
+fn status_of(rt: &HostRuntime, written: io::Result<()>) -> u8 {
+    match written {
+        Ok(()) => 0,
+        Err(fault) => report_output(rt, &fault),
+    }
+}
+
+/// Reports a fault of the command line, and the usage.
+fn report_usage(rt: &HostRuntime, fault: &str, word: &str) -> u8 {
+    let _ = put_usage(&mut rt.stderr(), &RCSUB, fault, word);
     FAULT
 }
 
-/// Runs the program with these arguments over a writer, which gets the text in long pieces. It
-/// returns the status, and the writer once all was written. An `Err` is the status of an error, of
-/// which a line was written to `err`: out of memory, or the writer failed at last.
-fn run_over<R: Read, W: Write + Drop, E: Write>(
-    alloc: Global,
-    words: &[&str],
-    input: &mut R,
-    out: W,
-    err: &mut E,
-) -> Result<(u8, W), u8>
-    ensures done { IfOk result (λ r. r.0 ≢ FAULT
-        → IsDone words.now (R.remaining input.old) (W.contents out) (W.contents r.1)
-        (nat_eq r.0 REPLACED)) }
-    ensures nothing_put { IfOk result (λ r. ¬ HasWords words.now
-        → Keeps (W.contents out) (W.contents r.1)) }
-    ensures unread { ¬ HasWords words.now → Keeps (R.remaining input.old) (R.remaining input.new) }
-{
-    let Ok(mut sink) = BufferedSink::new(alloc, out) else {
-        return Err(report(err, "out of memory"));
+/// Writes a text that is made of the options.
+fn generate(rt: &HostRuntime, kind: &str) -> u8 {
+    match put_text(&mut rt.stdout(), &RCSUB, &SUB_OPTIONS, kind) {
+        Ok(true) => 0,
+        Ok(false) => report_usage(rt, "no such text:", kind),
+        Err(fault) => report_output(rt, &fault),
+    }
+}
+
+/// Replaces, by these options.
+fn run(rt: &HostRuntime, options: &Options<'_>) -> u8 {
+    let hir = match pattern_of(rt, options) {
+        Ok(hir) => hir,
+        Err(status) => return status,
     };
-    let status = program(alloc, words, input, &mut sink, err);
-    match sink.into_inner() {
-        Ok(out) => Ok((status, out)),
-        Err(_) if status == FAULT => Err(FAULT),
-        Err(_) => Err(report(err, "write failed")),
+    match replacer_of(rt, &hir, options.template) {
+        Ok(replacer) => replace_files(rt, &replacer, options),
+        Err(status) => status,
+    }
+}
+
+/// Writes what is asked for in place of replaced text, or reports what is wrong.
+fn refuse(rt: &HostRuntime, refusal: Refusal<'_>) -> u8 {
+    match refusal {
+        Refusal::Help => status_of(rt, put_help(&mut rt.stdout(), &RCSUB, &SUB_OPTIONS)),
+        Refusal::Version => {
+            let version = RCSUB.version;
+            status_of(rt, writeln!(rt.stdout(), "rcsub {version}"))
+        }
+        Refusal::Generate(kind) => generate(rt, kind),
+        Refusal::NoPattern => report_usage(rt, "no pattern", ""),
+        Refusal::NoTemplate => report_usage(rt, "no template", ""),
+        Refusal::NoFile => report_usage(rt, "no file to change in place", ""),
+        Refusal::BadSuffix(suffix) => report_usage(rt, "no suffix:", suffix),
+        Refusal::Memory => report(rt, "out of memory"),
+    }
+}
+
+/// Runs the program with these options, or writes what is asked for in its place.
+fn run_given(rt: &HostRuntime, given: &Given<'_>) -> u8 {
+    match Options::of(rt.alloc(), given) {
+        Ok(options) => run(rt, &options),
+        Err(refusal) => refuse(rt, refusal),
     }
 }
 
 /// Runs the program with these arguments.
 fn run_with(rt: &HostRuntime, words: &[&str]) -> u8 {
-    let ran = run_over(
-        rt.alloc(),
-        words,
-        &mut rt.stdin(),
-        rt.stdout(),
-        &mut rt.stderr(),
-    );
-    match ran {
-        Ok((status, _)) => status,
-        Err(status) => status,
+    match read_words(rt.alloc(), &SUB_OPTIONS, words) {
+        Ok(given) => run_given(rt, &given),
+        Err(fault) => {
+            let _ = put_words_fault(rt.alloc(), &mut rt.stderr(), &RCSUB, &SUB_OPTIONS, fault);
+            FAULT
+        }
     }
-}
-
-/// Reports that memory ran out.
-fn out_of_memory(rt: &HostRuntime) -> u8 {
-    report(&mut rt.stderr(), "out of memory")
 }
 
 fn main(rt: HostRuntime) -> ExitCode {
     let status = match words_of(&rt) {
         Ok(words) => match lent(rt.alloc(), &words) {
             Ok(words) => run_with(&rt, &words),
-            Err(_) => out_of_memory(&rt),
+            Err(_) => report(&rt, "out of memory"),
         },
-        Err(fault) if fault.kind() == io::ErrorKind::OutOfMemory => out_of_memory(&rt),
-        Err(_) => run_with(&rt, &[]),
+        Err(fault) if fault.kind() == io::ErrorKind::OutOfMemory => report(&rt, "out of memory"),
+        Err(_) => report(&rt, "a word is no text"),
     };
     ExitCode::from(status)
 }
