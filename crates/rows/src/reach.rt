@@ -3,7 +3,7 @@
 use crate::engines::Engines;
 use crate::faults::Fault;
 use crate::inputs::input;
-use crate::row::{Pair, Row};
+use crate::row::Row;
 use crate::slots::Asker;
 use api_meta::regex::Regex;
 use rc_text::cursor::Cursor;
@@ -14,39 +14,48 @@ pub fn reaches<C: Cursor + Copy + Drop>(
     asker: &mut Asker,
     engines: &Engines,
     row: &Row,
-    found: Option<Match>,
+    found: &Option<Match>,
     cursor: C,
 ) {
-    let Some(reach) = row.reach else {
-        return;
-    };
-    let is_told = tells(asker, &engines.regex, row, found, reach, cursor);
-    asker.verdict.expect(is_told, Fault::Reach);
-    let is_told = tells(asker, &engines.unfiltered, row, found, reach, cursor);
-    asker.verdict.expect(is_told, Fault::ReachUnfiltered);
-    let is_told = tells(asker, &engines.tabled, row, found, reach, cursor);
-    asker.verdict.expect(is_told, Fault::ReachByTables);
+    reach(asker, &engines.regex, Fault::Reach, row, found, cursor);
+    reach(
+        asker,
+        &engines.unfiltered,
+        Fault::ReachUnfiltered,
+        row,
+        found,
+        cursor,
+    );
+    reach(
+        asker,
+        &engines.tabled,
+        Fault::ReachByTables,
+        row,
+        found,
+        cursor,
+    );
 }
 
-/// The regex finds this match, and tells a reach from the first number up to the second.
-fn tells<C: Cursor + Drop>(
+/// Where the row tells of a reach, the regex finds this match, and tells a reach within the row's.
+fn reach<C: Cursor + Drop>(
     asker: &mut Asker,
     regex: &Regex,
+    fault: Fault,
     row: &Row,
-    found: Option<Match>,
-    reach: Pair,
+    found: &Option<Match>,
     mut cursor: C,
-) -> bool {
+) {
+    let Some((least, most)) = row.reach else {
+        return;
+    };
     match regex.create_cache(asker.alloc) {
         Ok(mut cache) => {
             let mut input = input(row, &mut cursor);
             let told = regex.search_reach_with(&mut cache, &mut input);
             drop(cache);
-            told.found == found && reach.0 <= told.reach && told.reach <= reach.1
+            let is_told = told.found == *found && least <= told.reach && told.reach <= most;
+            asker.verdict.expect(is_told, fault);
         }
-        Err(_) => {
-            asker.verdict.note(Fault::Memory);
-            true
-        }
+        Err(_) => asker.verdict.note(Fault::Memory),
     }
 }

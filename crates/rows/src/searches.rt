@@ -40,7 +40,7 @@ pub fn first<C: Cursor + Copy + Drop>(
     };
     let is_wanted = is_wanted(row, &wanted.found);
     asker.verdict.expect(is_wanted, Fault::InACache);
-    reaches(asker, engines, row, wanted.found, cursor);
+    reaches(asker, engines, row, &wanted.found, cursor);
     by_calls(asker, engines, &wanted, cursor);
     early(asker, &engines.regex, row, cursor);
     early(asker, &engines.unfiltered, row, cursor);
