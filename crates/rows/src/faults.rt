@@ -72,6 +72,10 @@ pub enum Fault {
     SplitByTables,
     /// The pieces over a cursor that isn't lent.
     SplitByValue,
+    /// Which patterns have a match, by a regex.
+    Which,
+    WhichUnfiltered,
+    WhichByTables,
 }
 
 /// Which search by tables isn't answered as wanted.

@@ -9,7 +9,7 @@ use crate::faults::{Fault, Verdict};
 use crate::inputs::input;
 use crate::row::{Quits, Row, Want, is_refused};
 use crate::slots::Asker;
-use crate::{parses, searches};
+use crate::{parses, searches, which};
 use rc_settings::error::BuildError;
 use rc_text::chunks::ChunkCursor;
 use rc_text::cursor::Cursor;
@@ -164,6 +164,7 @@ fn over<C: Cursor + Copy + Drop>(asker: &mut Asker, engines: &mut Engines, row: 
         Want::Groups => searches::groups(asker, engines, row, cursor),
         Want::Captured => searches::captured(asker, engines, row, cursor),
         Want::Pieces => searches::pieces(asker, engines, row, cursor),
+        Want::Which => which::which(asker, engines, row, cursor),
         Want::Refused(word) => asker.verdict.expect(word == "no", Fault::Refusal),
         Want::Nothing | Want::Alike => asker.verdict.note(Fault::UnreadWant),
     }

@@ -17,6 +17,7 @@ mod settings;
 mod slots;
 mod tables;
 mod told;
+mod which;
 
 use crate::faults::Fault;
 use crate::judge::judge;

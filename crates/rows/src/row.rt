@@ -24,6 +24,8 @@ pub enum Want<'a> {
     Captured,
     /// The pieces between matches.
     Pieces,
+    /// Which patterns have a match.
+    Which,
     /// That the patterns are refused so, or by `no` that they aren't.
     Refused(&'a str),
     /// That all engines answer alike, whatever they answer.
@@ -62,6 +64,8 @@ pub struct Row<'a> {
     pub number: Option<usize>,
     /// The spans that are wanted. `None` is a group that took no part.
     pub spans: Vec<Option<Pair>>,
+    /// The numbers of the patterns that are to have a match.
+    pub members: Vec<usize>,
     /// Where searches by tables may quit.
     pub quits: Quits,
     /// The least and the greatest number of bytes that may settle the first match.
@@ -100,6 +104,7 @@ impl<'a> Row<'a> {
             want: Want::Nothing,
             number: None,
             spans: Vec::new(alloc),
+            members: Vec::new(alloc),
             quits: Quits::Nowhere,
             reach: None,
             escaped: "",
@@ -132,6 +137,10 @@ impl<'a> Row<'a> {
             "all" => self.wants(Want::All, value, verdict),
             "groups" => self.wants(Want::Groups, value, verdict),
             "pieces" => self.wants(Want::Pieces, value, verdict),
+            "which" => {
+                self.wants(Want::Which, "none", verdict);
+                put_numbers(value, &mut self.members, verdict);
+            }
             "refused" => self.wants(Want::Refused(value), "none", verdict),
             "alike" => self.wants(Want::Alike, "none", verdict),
             "parities" => self.parities = number(value, verdict),
@@ -204,6 +213,17 @@ fn put_spans(text: &str, spans: &mut Vec<Option<Pair>>, verdict: &mut Verdict) {
     for word in text.split(' ') {
         let span = span(word, verdict);
         verdict.push(spans, span);
+    }
+}
+
+/// Adds numbers between blanks, or `none`.
+fn put_numbers(text: &str, numbers: &mut Vec<usize>, verdict: &mut Verdict) {
+    if text == "none" {
+        return;
+    }
+    for word in text.split(' ') {
+        let number = number(word, verdict);
+        verdict.push(numbers, number);
     }
 }
 

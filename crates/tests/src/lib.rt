@@ -24,8 +24,6 @@ mod searchers;
 #[cfg(test)]
 mod searches;
 #[cfg(test)]
-mod sets;
-#[cfg(test)]
 mod shown;
 #[cfg(test)]
 mod states;

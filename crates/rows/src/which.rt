@@ -1,0 +1,67 @@
+//! Pattern sets: which patterns have a match, as each regex tells.
+
+use crate::engines::Engines;
+use crate::faults::Fault;
+use crate::inputs::input;
+use crate::row::Row;
+use crate::slots::Asker;
+use api_meta::regex::Regex;
+use rc_pattern_set::sets::PatternSet;
+use rc_text::cursor::Cursor;
+use rc_text::input::Input;
+use rc_text::types::PatternID;
+use std::alloc::{AllocError, Global};
+
+/// Each regex tells of the row's patterns alone that they have a match.
+pub fn which<C: Cursor + Copy + Drop>(asker: &mut Asker, engines: &Engines, row: &Row, cursor: C) {
+    which_by(asker, &engines.regex, Fault::Which, row, cursor);
+    which_by(
+        asker,
+        &engines.unfiltered,
+        Fault::WhichUnfiltered,
+        row,
+        cursor,
+    );
+    which_by(asker, &engines.tabled, Fault::WhichByTables, row, cursor);
+}
+
+/// The regex tells of the row's patterns alone that they have a match.
+fn which_by<C: Cursor + Drop>(
+    asker: &mut Asker,
+    regex: &Regex,
+    fault: Fault,
+    row: &Row,
+    mut cursor: C,
+) {
+    let mut input = input(row, &mut cursor);
+    match set_of(asker.alloc, regex, &mut input) {
+        Ok(set) => asker.verdict.expect(has_just(&set, &row.members), fault),
+        Err(_) => asker.verdict.note(Fault::Memory),
+    }
+}
+
+/// The patterns that have a match. `Err` means out of memory.
+fn set_of<C: Cursor>(
+    alloc: Global,
+    regex: &Regex,
+    input: &mut Input<C>,
+) -> Result<PatternSet, AllocError> {
+    let mut set = PatternSet::new(alloc, regex.pattern_len())?;
+    let mut cache = regex.create_cache(alloc)?;
+    regex.which_patterns_with(&mut cache, input, &mut set);
+    drop(cache);
+    Ok(set)
+}
+
+/// Whether these are the members of the set, none of them twice.
+fn has_just(set: &PatternSet, members: &[usize]) -> bool {
+    set.len() == members.len() && members.iter().all(|member| contains(set, *member))
+}
+
+/// Whether the set contains the pattern of this number.
+fn contains(set: &PatternSet, number: usize) -> bool {
+    match PatternID::new(number) {
+        Some(pattern) => set.contains(pattern),
+        None => false,
+    }
+}
