@@ -94,7 +94,7 @@ last_passed [] l = refl
 last_passed (c ∷ line) l =
     let parts = and_parts (not (c == 10)) (is_line line) l in line_step c line parts.0 ∙ last_passed line parts.1
 
-ends_there : (t u : Characters) → Gaps t u → u ≡ behind_gaps false t
+pub ends_there : (t u : Characters) → Gaps t u → u ≡ behind_gaps false t
 ends_there _ _ (none t solid) = solid_stays t solid
 ends_there _ _ (blank c t u w rest) = ends_there t u rest ∙ blank_passed c t w
 ends_there _ _ (comment line t u l rest) = ends_there t u rest ∙ sym (line_passed line t l)

@@ -1,1 +1,3 @@
 pub mod GapLemmas
+pub mod FlagLemmas
+pub mod CountLemmas
