@@ -1,0 +1,2 @@
+pub mod OctalLemmas
+pub mod EscapeLemmas

@@ -1,0 +1,4 @@
+//! Escapes of the full grammar, with properties of Unicode and octal numbers.
+#![tactic(auto)]
+
+pub mod escapes;
