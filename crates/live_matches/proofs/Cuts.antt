@@ -23,7 +23,12 @@ rise hi (x ∷ []) (suc i) j m n o a b le = absurd (none-some m a)
 rise hi (x ∷ y ∷ ms) (suc i) zero m n o a b le = absurd (omega (arith, le))
 rise hi (x ∷ y ∷ ms) (suc i) (suc j) m n o a b le = rise hi (y ∷ ms) i j m n o.3 a b (omega (arith, le))
 
-there_is : (ms : List Found) (k : ℕ) → k < length ms → (x : Found) × (slice_get ms k ≡ Some x)
+pub within : (ms : List Found) (i : ℕ) (m : Found) → slice_get ms i ≡ Some m → i < length ms
+within [] i m e = absurd (none-some m e)
+within (x ∷ ms) zero m e = omega arith
+within (x ∷ ms) (suc i) m e = let h = within ms i m e in omega (arith, h)
+
+pub there_is : (ms : List Found) (k : ℕ) → k < length ms → (x : Found) × (slice_get ms k ≡ Some x)
 there_is [] k h = absurd (omega (arith, h))
 there_is (x ∷ ms) zero h = (x, refl)
 there_is (x ∷ ms) (suc k) h = there_is ms k (omega (arith, h))
@@ -41,11 +46,6 @@ all_left at ms = record {
   before = λ i m e h. absurd (omega (arith, h));
   after = λ i m e h. absurd (let w = within ms i m e in omega (arith, w, h));
 }
-  where
-    within : (ms : List Found) (i : ℕ) (m : Found) → slice_get ms i ≡ Some m → i < length ms
-    within [] i m e = absurd (none-some m e)
-    within (x ∷ ms) zero m e = omega arith
-    within (x ∷ ms) (suc i) m e = let h = within ms i m e in omega (arith, h)
 
 pub lower_left : (hi at : ℕ) (ms : List Found) (low high k : ℕ) → AreInOrder begin_of end_of hi ms → k < length ms →
     begins_before at (slice_get ms k) ≡ true → AreLeft at ms low high → AreLeft at ms (k + 1) high

@@ -7,3 +7,4 @@ mod Searches
 mod Lives
 mod Had
 mod Cuts
+mod Windows

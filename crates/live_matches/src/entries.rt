@@ -91,6 +91,13 @@ impl Entries {
         self.before.len() + self.after.len()
     }
 
+    /// Roughly the number of bytes that the list has allocated.
+    pub fn memory_usage(&self) -> usize {
+        let before = self.before.capacity().saturating_mul(size_of::<Kept>());
+        let after = self.after.capacity().saturating_mul(size_of::<Entry>());
+        before.saturating_add(after)
+    }
+
     /// The entry with this index, in order, or `None` if there are no more.
     pub fn get(&self, index: usize) -> Option<Entry>
         ensures { result ≡ slice_get (all_of self.now) index }

@@ -3,8 +3,10 @@
 
 mod entries;
 pub mod entry;
+pub mod iter;
 pub mod live;
 mod search;
 
 pub use entry::{Changed, Edit};
+pub use iter::LiveMatchesIter;
 pub use live::LiveMatches;

@@ -1,13 +1,14 @@
 //! Live matches: the list, and the edits of its text.
 ghost use Rattle.std.specs.Prelude.{◌≡◌};
-ghost use Rattle.live_matches.specs.Reading.{begins_before};
+ghost use Rattle.live_matches.specs.Reading.{begins_before, ends_by};
 
 use crate::entries::Entries;
 use crate::entry::{Changed, Edit};
+use crate::iter::LiveMatchesIter;
 use crate::search::{search_on, update};
 use rc_text::input::{content_fits, high};
 use regex_cursor::engines::meta::{Cache, Regex};
-use regex_cursor::types::Match;
+use regex_cursor::types::{Match, Span};
 use regex_cursor::{Cursor, Input};
 use std::alloc::{AllocError, Global};
 use std::marker::Model;
@@ -39,9 +40,9 @@ impl Model for LiveMatches {
 }
 
 impl LiveMatches {
-    ghost use Rattle.std.specs.Prelude.{◌≡◌, ℕ, IfErr, IfOk, length, nat_eq, slice_get};
+    ghost use Rattle.std.specs.Prelude.{◌≡◌, ℕ, IfErr, IfOk, filter, length, nat_eq, slice_get};
     ghost use Rattle.rc_program.specs.Matches.{AreInOrder, begin_of, end_of};
-    ghost use Rattle.live_matches.specs.Reading.{IsCut, IsLastBefore, IsNextFrom};
+    ghost use Rattle.live_matches.specs.Reading.{IsAbove, IsCut, IsDownTo, IsLastBefore, IsNextFrom, matches_left, touches};
     ghost use Rattle.rc_text.specs.Text.{Keeps};
     ghost use Rattle.live_matches.specs.Lists.{IsChanged};
     ghost use Rattle.live_matches.specs.Live.{IsCacheOf, IsLive, IsStale, IsWhole, WasLive, listed};
@@ -194,11 +195,59 @@ impl LiveMatches {
         self.get(index - 1)
     }
 
+    /// Returns an iterator over the matches, in order.
+    pub fn iter(&self) -> LiveMatchesIter<'_>
+        ensures { matches_left result ≡ listed self.now }
+    {
+        LiveMatchesIter::new(self, 0, self.len())
+    }
+
+    /// Returns an iterator over the matches that touch a window, in order: those with a byte in it,
+    /// also one that begins above the window, and empty ones that lie in it or at one of its ends.
+    pub fn matches_in(&self, window: Span) -> LiveMatchesIter<'_>
+        ensures { (hi : ℕ) → AreInOrder begin_of end_of hi (listed self.now)
+            → matches_left result ≡ filter (touches window) (listed self.now) }
+    {
+        let first = self.count_above(window.start);
+        let end = self.count_down_to(window.end);
+        LiveMatchesIter::new(self, first, end)
+    }
+
+    /// The number of matches that end before a window that begins at a place.
+    fn count_above(&self, place: usize) -> usize
+        ensures { (hi : ℕ) → AreInOrder begin_of end_of hi (listed self.now)
+            → IsAbove place (listed self.now) result }
+    {
+        let index = self.index_from(place);
+        if index == 0 || ends_by(self.get(index - 1), place) {
+            return index;
+        }
+        index - 1
+    }
+
+    /// The number of matches that begin before the end of a window that ends at a place, or are
+    /// empty and lie there.
+    fn count_down_to(&self, place: usize) -> usize
+        ensures { (hi : ℕ) → AreInOrder begin_of end_of hi (listed self.now)
+            → IsDownTo place (listed self.now) result }
+    {
+        let index = self.index_from(place);
+        if index < self.len() && ends_by(self.get(index), place) {
+            return index + 1;
+        }
+        index
+    }
+
     /// The number of bytes of the text.
     pub fn text_len(&self) -> usize
         ensures { result ≡ self.now.len }
     {
         self.entries.text_len()
+    }
+
+    /// Roughly the number of bytes that the list has allocated.
+    pub fn memory_usage(&self) -> usize {
+        self.entries.memory_usage()
     }
 
     /// Whether the list is stale: out of memory, an edit left it so. It has no matches then.
@@ -215,6 +264,16 @@ fn begins_before(found: Option<Match>, place: usize) -> bool
 {
     match found {
         Some(found) => found.start() < place,
+        None => false,
+    }
+}
+
+/// Whether the match is there, and ends at a place or before.
+fn ends_by(found: Option<Match>, place: usize) -> bool
+    ensures { result ≡ ends_by place found }
+{
+    match found {
+        Some(found) => found.end() <= place,
         None => false,
     }
 }
