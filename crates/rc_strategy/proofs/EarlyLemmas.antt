@@ -61,11 +61,6 @@ none_may kind earliest s b told none early =
     let off = none_passed earliest s.passes_over early in
     (kinds_law.missing kind earliest s off).1 ((greatest_law.same_none s off).0 (nothing (greatest s) (sym told ∙ none)))
 
--- the half of an answer
-pub half_may : (kind : MatchKind) (earliest : Bool) (s : Search) (o : Option Found) (half : Option HalfFound) → IsAnswerBy kind earliest s o → half ≡ option_map half_of o →
-    IsHalfBy kind earliest s half
-half_may kind earliest s o half h e = (o, h, e)
-
--- that of the match of the kind
+-- the half of the match of the kind
 pub half_may_by : (kind : MatchKind) (earliest : Bool) (s : Search) (half : Option HalfFound) → half ≡ option_map half_of (answer_by kind s) → IsHalfBy kind earliest s half
 half_may_by kind earliest s half e = (answer_by kind s, kinds_law.best kind earliest s, e)

@@ -189,7 +189,8 @@ impl Engines {
     }
 
     /// Inserts each pattern, of `patterns` that there are, that has a match within the bounds, as
-    /// far as the set can hold it. The set keeps what it has. It allocates only what `find` does.
+    /// far as the set can hold it. The set keeps what it has. Memory grows only in the cache of the
+    /// lazy DFA, within its capacity; if it can't, a pass answers.
     ///
     /// If the set has each pattern that it can hold, or the lengths and anchors of the patterns
     /// rule a match out between the bounds, nothing is searched. If literals alone decide each
