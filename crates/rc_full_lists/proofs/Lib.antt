@@ -1,2 +1,3 @@
 pub mod ShapeLemmas
 pub mod PartLemmas
+pub mod SideLemmas

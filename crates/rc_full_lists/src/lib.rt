@@ -1,5 +1,6 @@
-//! Lists in brackets of the full grammar: their parts, and the classes of items.
+//! Lists in brackets of the full grammar: their parts, the classes of items, and operators.
 #![tactic(auto)]
 
 pub mod items;
 pub mod parts;
+pub mod sides;
