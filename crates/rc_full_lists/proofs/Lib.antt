@@ -1,3 +1,4 @@
 pub mod ShapeLemmas
 pub mod PartLemmas
 pub mod SideLemmas
+pub mod OpeningLemmas

@@ -2,3 +2,4 @@ pub mod Items
 pub mod Parts
 pub mod Read
 pub mod Sides
+pub mod Openings
