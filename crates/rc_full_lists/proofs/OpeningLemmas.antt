@@ -1,5 +1,5 @@
 -- What comes first in a list, and that it is so in one way.
-use Rattle.std.proofs.Common.{◌≡◌, ℕ, ◌≤◌, ◌<◌, Bool, true, false, ◌||◌, ◌==◌, [], ◌∷◌, Option, Some, None, length, drop, refl, ap, sym, subst, ◌∙◌, arith, true≢false, if◌then◌else◌}
+use Rattle.std.proofs.Common.{◌≡◌, ℕ, ◌≤◌, ◌<◌, Bool, true, false, ◌==◌, [], ◌∷◌, Option, Some, None, length, drop, refl, ap, sym, subst, ◌∙◌, arith, true≢false, if◌then◌else◌}
 use Rattle.unicode.specs.Binary.{is_white_space}
 use Rattle.rc_tokens.specs.Text.{Characters, is_at}
 use Rattle.rc_tokens.proofs.StepLemmas.{at_splits}

@@ -1,5 +1,5 @@
 -- The reader of parts finds exactly the parts.
-use Rattle.std.proofs.Common.{◌≡◌, ℕ, ◌≤◌, ◌⊎◌, inl, inr, ⊎_elim, Bool, true, false, not, ◌&&◌, ◌||◌, ◌==◌, nat_le, [], ◌∷◌, ◌++◌, Option, Some, None, is_none, drop, refl, ap, sym, subst, ◌∙◌, arith, true≢false, eqb-true, if◌then◌else◌}
+use Rattle.std.proofs.Common.{◌≡◌, ℕ, Bool, true, false, not, ◌&&◌, ◌||◌, ◌==◌, nat_le, [], ◌∷◌, ◌++◌, Option, Some, None, is_none, drop, refl, ap, sym, subst, ◌∙◌, true≢false, eqb-true, if◌then◌else◌}
 use Rattle.std.proofs.lemmas.Option.{none-some, same_Some}
 use Rattle.std.proofs.lemmas.Bool.{and_parts}
 use Rattle.rc_tokens.specs.Text.{Characters, ◌>>=◌, ◌>>◌, is_at, each}
@@ -12,11 +12,8 @@ use Rattle.rc_class_sets.proofs.SetLemmas.{le_yes}
 use Rattle.rc_class_names.specs.Posix.{posix_named}
 use Rattle.rc_class_names.specs.declared.posix.Posix.{Posix}
 use Rattle.rc_full_tokens.specs.Front.{is_not}
-use Rattle.rc_full_tokens.specs.Gaps.{Gaps}
-use Rattle.rc_full_tokens.specs.Skips.{behind_gaps}
 use Rattle.rc_full_tokens.proofs.GapLemmas.{gaps_end, ends_there}
 use Rattle.rc_full_tokens.proofs.CountLemmas.{each_run, run_ends, after_ends}
-use Rattle.rc_full_escapes.specs.Escapes.{IsEscape}
 use Rattle.rc_full_escapes.specs.Escaped.{read_escape}
 use Rattle.rc_full_escapes.specs.declared.escapes.FullEscape.{FullEscape}
 use Rattle.rc_full_escapes.proofs.EscapeLemmas.{all_sound, all_again}
@@ -27,9 +24,8 @@ use Rattle.rc_full_lists.specs.declared.parts.Part.{Part}
 use Rattle.rc_full_lists.specs.declared.parts.Part.TheVariants as part
 use Rattle.rc_full_lists.specs.declared.parts.Operation.{Operation}
 use Rattle.rc_full_lists.specs.declared.items.Item.{Item}
-use Rattle.rc_full_lists.specs.declared.items.Item.TheVariants as item
 use Rattle.rc_full_lists.specs.Parts.{Passes, operator_at, begins_atom, atom_of, posix_item, IsPosix, posix, IsNoPosix, IsAtom, plain, escaped, GoesOn, StandsAlone, IsPart, closes, operates, names, opens, range, single, set}
-use Rattle.rc_full_lists.specs.Read.{passed, posix_then, posix_name, read_posix, atom_at, read_atom, high_at, goes_on, Found, codes, ends_range, ranged, alone, atom_then, bracket_at, plain_at, read_part}
+use Rattle.rc_full_lists.specs.Read.{passed, posix_then, posix_name, read_posix, read_atom, high_at, goes_on, codes, ends_range, ranged, alone, atom_then, bracket_at, plain_at, read_part}
 
 -- ---- gaps
 

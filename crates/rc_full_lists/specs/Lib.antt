@@ -3,3 +3,4 @@ pub mod Parts
 pub mod Read
 pub mod Sides
 pub mod Openings
+pub mod Laws

@@ -1,8 +1,7 @@
 -- The parts of which the text between brackets is made, from left to right.
-use Rattle.std.specs.Prelude.{◌≡◌, ℕ, ◌≤◌, Bool, true, false, not, ◌&&◌, ◌||◌, ◌==◌, [], ◌∷◌, ◌++◌, drop, Option, Some, None, is_none, if◌then◌else◌}
+use Rattle.std.specs.Prelude.{◌≡◌, ℕ, ◌≤◌, Bool, true, false, not, ◌&&◌, ◌||◌, ◌==◌, ◌∷◌, ◌++◌, drop, Option, Some, None, is_none, if◌then◌else◌}
 use Rattle.rc_tokens.specs.Text.{Characters, ◌>>=◌, ◌>>◌, is_at, each}
 use Rattle.rc_tokens.specs.Classes.{code_of}
-use Rattle.rc_tokens.specs.Marks.{escaped_member}
 use Rattle.rc_tokens.specs.declared.tokens.Escape.TheVariants as says
 use Rattle.rc_tokens.specs.declared.tokens.Member.TheVariants as member
 use Rattle.rc_class_names.specs.Posix.{posix_named}

@@ -1,6 +1,6 @@
 -- Only proofs use this file.
 -- The first part of the text between brackets, in the order in which its reader tests.
-use Rattle.std.specs.Prelude.{◌≡◌, ℕ, Bool, true, false, not, ◌&&◌, ◌||◌, ◌==◌, nat_le, List, [], ◌∷◌, drop, Option, Some, None, MatchOption, if◌then◌else◌}
+use Rattle.std.specs.Prelude.{◌≡◌, ℕ, Bool, true, false, ◌&&◌, ◌||◌, ◌==◌, nat_le, List, [], ◌∷◌, drop, Option, Some, None, MatchOption, if◌then◌else◌}
 use Rattle.std.specs.Borrow.{Bor}
 use Rattle.rc_tokens.specs.Text.{Characters, ◌>>=◌, ◌>>◌, is_at}
 use Rattle.rc_tokens.specs.Classes.{code_of}

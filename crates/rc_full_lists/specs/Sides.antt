@@ -1,5 +1,5 @@
 -- How far a list is read: the operator under way, what stands to its left, and the items behind it.
-use Rattle.std.specs.Prelude.{◌≡◌, ℕ, Bool, false, Option, Some, None}
+use Rattle.std.specs.Prelude.{◌≡◌, Bool, false, Option, Some, None}
 use Rattle.rc_tokens.specs.ClassView.{pairs}
 use Rattle.rc_class_sets.specs.Sets.{CodeSet, AreRangesOf, union, intersection, difference, symmetric_difference}
 use Rattle.rc_full_lists.specs.declared.parts.Operation.{Operation}

@@ -7,6 +7,7 @@ ghost use Rattle.rc_tokens.specs.View.{IsResultOf};
 ghost use Rattle.rc_tokens.specs.declared.tokens.Member.TheVariants.{Character};
 ghost use Rattle.rc_full_lists.specs.declared.parts.Settings.{Settings};
 ghost use Rattle.rc_full_lists.specs.declared.parts.Part.{Part};
+ghost use Rattle.rc_full_lists.specs.Laws.{CodesLaw};
 ghost use Rattle.rc_full_lists.specs.Parts.{twice, operator_at, atom_of, IsPart};
 ghost use Rattle.rc_full_lists.specs.Read.{passed, posix_then, posix_name, read_posix, atom_at, read_atom, high_at, goes_on, codes, ranged, atom_then, plain_at, read_part, Reads};
 
@@ -304,4 +305,9 @@ pub fn first_part(
 pub fn gives_the_part()
     ensures { (s : Settings) (t : Characters) (p : Part) (u : Characters)
         → (read_part s t ≡ Some (p, u)) ↔ IsPart s t p u }
+{}
+
+/// An item that is read is one of characters, or without the flag `u` of bytes.
+pub fn items_have_codes()
+    ensures { CodesLaw }
 {}
