@@ -1,41 +1,66 @@
 //! Globs: patterns of file names.
+ghost use Rattle.std.specs.Prelude.{◌≡◌, ◌<◌, ◌+◌, ◌==◌, ◌&&◌, ◌||◌, [], IfOk, drop, if◌then◌else◌, length};
+ghost use Rattle.grep_files.specs.Globs.{fits};
+ghost use Rattle.grep_files.specs.Marks.{marks};
 
 use std::alloc::{AllocError, Global};
 
-/// Marks the places of a name from which it fits a glob that begins with `*`, of those from which
-/// it fits the rest.
-fn mark_any(marks: &mut [bool]) {
-    let mut fits_behind = false;
-    for mark in marks.iter_mut().rev() {
-        fits_behind = fits_behind || *mark;
-        *mark = fits_behind;
+/// Of each end of a name, the shortest first, whether the empty glob fits it.
+fn marked_by_none(alloc: Global, name: &[u8]) -> Result<Vec<bool>, AllocError>
+    ensures { IfOk result (λ v. v.items ≡ marks [] name.now) }
+{
+    let mut marks = Vec::new(alloc);
+    marks.push(true)?;
+    for _place in (0..name.len()).rev() {
+        marks.push(false)?;
+    }
+    Ok(marks)
+}
+
+/// Whether a glob that begins with this byte fits a name that begins with this letter. `whole` and
+/// `rest` say whether the glob behind the byte fits the name, and the name behind the letter, and
+/// `shorter` whether the glob fits the name behind the letter.
+fn fits_longer(byte: u8, letter: u8, whole: bool, rest: bool, shorter: bool) -> bool
+    ensures { result ≡ (if byte == 42 then whole || shorter
+        else rest && (byte == 63 || byte == letter)) }
+{
+    if byte == b'*' {
+        whole || shorter
+    } else {
+        rest && (byte == b'?' || byte == letter)
     }
 }
 
-/// Marks the places of a name from which it fits a glob that begins with this byte, `?` for any, of
-/// those from which it fits the rest.
-fn mark_one(marks: &mut [bool], name: &[u8], byte: u8) {
-    for place in 0..marks.len() {
-        let fits_behind = place + 1 < marks.len() && marks[place + 1];
-        let is_byte = place < name.len() && (byte == b'?' || name[place] == byte);
-        marks[place] = is_byte && fits_behind;
+/// Of each end of a name, the shortest first, whether a glob fits it, of those whether the glob
+/// behind its first byte does.
+fn marked(alloc: Global, glob: &[u8], name: &[u8], behind: &[bool]) -> Result<Vec<bool>, AllocError>
+    requires some { 0 < length glob.now }
+    requires long { length behind.now ≡ length name.now + 1 }
+    requires behind { behind.now ≡ marks (drop 1 glob.now) name.now }
+    ensures { IfOk result (λ v. v.items ≡ marks glob.now name.now) }
+{
+    let byte = glob[0];
+    let mut marks = Vec::new(alloc);
+    let mut is_fit = byte == b'*' && behind[0];
+    marks.push(is_fit)?;
+    for place in (0..name.len()).rev() {
+        let size = name.len() - place;
+        is_fit = fits_longer(byte, name[place], behind[size], behind[size - 1], is_fit);
+        marks.push(is_fit)?;
     }
+    Ok(marks)
 }
 
 /// Whether a name fits a glob, in which `*` stands for any bytes, `?` for one, and each other byte
 /// for itself. An `Err` means out of memory.
-pub fn fits(alloc: Global, glob: &str, name: &str) -> Result<bool, AllocError> {
-    let mut marks = Vec::new(alloc);
-    for _ in 0..name.len() {
-        marks.push(false)?;
+pub fn fits(alloc: Global, glob: &str, name: &str) -> Result<bool, AllocError>
+    ensures { IfOk result (λ b. b ≡ fits glob.now name.now) }
+{
+    let glob = glob.as_bytes();
+    let name = name.as_bytes();
+    let mut marks = marked_by_none(alloc, name)?;
+    for place in (0..glob.len()).rev() {
+        marks = marked(alloc, &glob[place..], name, &marks)?;
     }
-    marks.push(true)?;
-    for byte in glob.as_bytes().iter().rev() {
-        if *byte == b'*' {
-            mark_any(&mut marks);
-        } else {
-            mark_one(&mut marks, name.as_bytes(), *byte);
-        }
-    }
-    Ok(marks.first().copied().unwrap_or(false))
+    Ok(marks[name.len()])
 }
