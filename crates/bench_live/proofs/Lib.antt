@@ -1,0 +1,2 @@
+mod Replaced
+mod Whole

@@ -1,0 +1,9 @@
+use Rattle.live_matches.specs.Live.{IsCacheOf, IsLive}
+use Rattle.bench_live.proofs.run_edits.Given as goal
+
+-- the list is that of the text
+abbrev pub invariant-edits : goal.invariant-edits
+invariant-edits l = record {
+  made : IsCacheOf l.regex l.cache;
+  live : IsLive l.regex l.text.content l.live;
+}

@@ -1,0 +1,228 @@
+//! Benchmark of live matches: edits a text at random, keeps the list of its matches, and times what
+//! the list takes.
+//!
+//! The arguments are the pattern, a file with the text, the number of edits, a seed, where the
+//! edits are (`near` a caret that moves, or `anywhere`), and maybe `check`. An edit deletes up to
+//! 40 bytes, and inserts up to 40 of the file.
+//!
+//! It prints the number of matches after the edits, the median and the 99th percentile of the time
+//! that an edit of the list takes, and the number of bytes of the list. With `check` it prints, in
+//! place of times and bytes, how many matches differ: after each edit, the list is compared with
+//! that of `Regex::find_iter`.
+//!
+//! Without arguments it prints nothing.
+#![tactic(auto)]
+
+ghost use Rattle.live_matches.specs.Live.{IsCacheOf};
+
+mod random;
+mod typing;
+
+use crate::random::Random;
+use crate::typing::{change_of, differences, keep, whole_of};
+use gap_buffer::GapBuffer;
+use live_matches::LiveMatches;
+use regex_cursor::engines::meta::{Cache, Regex};
+use std::alloc::{AllocError, AllocFailed};
+use std::io::Write;
+use std::process::ExitCode;
+use std::{fs, io};
+
+/// The status of an error.
+const FAULT: u8 = 2;
+
+const USAGE: &str = "usage: bench_live PATTERN FILE EDITS SEED near|anywhere [check]";
+
+/// What the arguments ask for.
+#[derive(Drop)]
+struct Job<'a> {
+    pattern: &'a str,
+    file: &'a str,
+    edits: u32,
+    seed: u64,
+    is_near: bool,
+    is_checked: bool,
+}
+
+/// What the edits took.
+#[derive(Drop)]
+struct Tally {
+    /// The time of each edit of the list, in nanoseconds.
+    times: Vec<u128>,
+    /// The number of matches that differed from those of a new search.
+    differences: usize,
+    /// The number of matches after the last edit.
+    matches: usize,
+    /// The number of bytes of the list then.
+    bytes: usize,
+}
+
+/// Why the benchmark failed, once the pattern was built.
+#[derive(Drop)]
+pub(crate) enum BenchError {
+    /// Out of memory.
+    Memory,
+    /// The file couldn't be read, the clock failed, or a line couldn't be written.
+    Io(io::Error),
+}
+
+impl From<AllocError> for BenchError {
+    fn from(_: AllocError) -> BenchError {
+        BenchError::Memory
+    }
+}
+
+impl<T: Drop> From<AllocFailed<T>> for BenchError {
+    fn from(_: AllocFailed<T>) -> BenchError {
+        BenchError::Memory
+    }
+}
+
+impl From<io::Error> for BenchError {
+    fn from(error: io::Error) -> BenchError {
+        BenchError::Io(error)
+    }
+}
+
+/// What these arguments ask for.
+fn job_of<'a>(words: &[&'a str]) -> Option<Job<'a>> {
+    if words.len() < 5 || words.len() > 6 {
+        return None;
+    }
+    let is_near = match words[4] {
+        "near" => true,
+        "anywhere" => false,
+        _ => return None,
+    };
+    let is_checked = match words.get(5) {
+        Some(word) if *word == "check" => true,
+        Some(_) => return None,
+        None => false,
+    };
+    Some(Job {
+        pattern: words[0],
+        file: words[1],
+        edits: words[2].parse::<u32>().ok()?,
+        seed: words[3].parse::<u64>().ok()?,
+        is_near,
+        is_checked,
+    })
+}
+
+/// Edits the text as often as the job asks, and keeps the list.
+fn run_edits(
+    rt: &HostRuntime,
+    regex: &Regex,
+    cache: &mut Cache,
+    job: &Job<'_>,
+    source: &[u8],
+) -> Result<Tally, BenchError>
+    requires made { IsCacheOf regex.now cache.old }
+{
+    let mut text = GapBuffer::new(rt.alloc());
+    text.insert(source)?;
+    let mut live = LiveMatches::new(rt.alloc(), regex, cache, &mut whole_of(&text))?;
+    let mut random = Random::new(job.seed);
+    let mut times = Vec::new(rt.alloc());
+    let mut differ: usize = 0;
+    'edits: for _ in 0..job.edits {
+        let change = change_of(&mut random, &text, job.is_near, source);
+        let time = keep(rt, regex, cache, &mut text, &mut live, &change)?;
+        times.push(time.as_nanos())?;
+        if job.is_checked {
+            let found = differences(rt.alloc(), regex, &text, &live)?;
+            differ = differ.saturating_add(found);
+        }
+    }
+    Ok(Tally {
+        times,
+        differences: differ,
+        matches: live.len(),
+        bytes: live.memory_usage(),
+    })
+}
+
+/// The time with this index, in microseconds, or 0 if there is none.
+fn micros_at(times: &[u128], index: usize) -> u128 {
+    match times.get(index) {
+        Some(time) => *time / 1000,
+        None => 0,
+    }
+}
+
+/// Writes what the edits took.
+fn put(rt: &HostRuntime, job: &Job<'_>, tally: &mut Tally) -> Result<(), BenchError> {
+    let matches = tally.matches;
+    writeln!(rt.stdout(), "{matches} matches")?;
+    if job.is_checked {
+        let differences = tally.differences;
+        writeln!(rt.stdout(), "{differences} differences")?;
+        return Ok(());
+    }
+    tally.times.sort()?;
+    let count = tally.times.len();
+    let median = micros_at(&tally.times, count / 2);
+    let late = micros_at(&tally.times, (count - count / 100).saturating_sub(1));
+    let bytes = tally.bytes;
+    writeln!(
+        rt.stdout(),
+        "median {median} us, 99th percentile {late} us, {bytes} bytes"
+    )?;
+    Ok(())
+}
+
+/// Reads the text, edits it, and writes what that took.
+fn bench(rt: &HostRuntime, regex: &Regex, job: &Job<'_>) -> Result<(), BenchError> {
+    let source = fs::read(rt, job.file)?;
+    let mut cache = regex.create_cache(rt.alloc())?;
+    let mut tally = run_edits(rt, regex, &mut cache, job, &source)?;
+    put(rt, job, &mut tally)
+}
+
+/// Does what the arguments ask for, which is nothing if there are none.
+fn run_with(rt: &HostRuntime, words: &[&str]) -> u8 {
+    if words.is_empty() {
+        return 0;
+    }
+    let Some(job) = job_of(words) else {
+        let _ = writeln!(rt.stderr(), "{USAGE}");
+        return FAULT;
+    };
+    match Regex::new(rt.alloc(), job.pattern) {
+        Ok(regex) => {
+            let done = bench(rt, &regex, &job);
+            drop(regex);
+            match done {
+                Ok(()) => 0,
+                Err(error) => report(rt, &error),
+            }
+        }
+        Err(error) => {
+            let _ = writeln!(rt.stderr(), "{error}");
+            FAULT
+        }
+    }
+}
+
+/// Writes the line of an error. An error of the standard error is ignored.
+fn report(rt: &HostRuntime, error: &BenchError) -> u8 {
+    let _ = match error {
+        BenchError::Memory => writeln!(rt.stderr(), "out of memory"),
+        BenchError::Io(error) => writeln!(rt.stderr(), "{error}"),
+    };
+    FAULT
+}
+
+/// Reads the arguments, and does what they ask for.
+fn run(rt: &HostRuntime) -> Result<u8, BenchError> {
+    let words: Vec<String> = std::env::args(rt)?.skip(1).collect(rt.alloc())?;
+    let words: Vec<&str> = words.iter().map(|word| word.as_str()).collect(rt.alloc())?;
+    Ok(run_with(rt, &words))
+}
+
+fn main(rt: HostRuntime) -> ExitCode {
+    ExitCode::from(match run(&rt) {
+        Ok(status) => status,
+        Err(error) => report(&rt, &error),
+    })
+}
