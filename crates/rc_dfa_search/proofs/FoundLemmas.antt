@@ -20,7 +20,7 @@ use Rattle.rc_dfa_search.specs.declared.search.End.{End}
 use Rattle.rc_dfa_search.specs.Leftmost.{IsLeftmost}
 use Rattle.rc_dfa_search.specs.Laws.{pattern_met, met_from}
 use Rattle.rc_dfa_search.specs.Halves.{IsToldWith}
-use Rattle.rc_dfa_search.specs.Ends.{HasMetDown, IsEnd, begins_there, match_by, start_by}
+use Rattle.rc_dfa_search.specs.Ends.{HasMetDown, IsEnd, begins_there, keeps_pattern, match_by, start_by}
 use Rattle.rc_dfa_search.proofs.CaseLemmas.{is_anchored_so}
 use Rattle.rc_dfa_search.proofs.LeftmostLemmas.{leftmost_law, start_of}
 use Rattle.rc_dfa_search.proofs.MetLemmas.{met_law}
@@ -126,6 +126,24 @@ module _ (hs : List Re) (m n : Machine) (anchored : Anchored) (s : Search) (end 
   known_start leftmost_longest true h so = known_early leftmost_longest h so
   known_start all_matches true h so = known_early all_matches h so
   known_start all_matches false h so = absurd (true≢false (sym so))
+
+  -- an empty match begins where it ends
+  empty_leftmost : (kind : MatchKind) → IsLeftmost kind → IsMetEnd kind false → may_end_at s end.at ≡ true → end.at ≡ end.from →
+      IsAnswerWhere false kind s (Some (span end.pattern end.at end.at))
+  empty_leftmost kind left h may empty =
+      let st = h.stands in
+      let e = leftmost_law.ends hs kind m n anchored s end.from h.place end.at left st.case st.raised h.ends may in
+      let low = e.1 in
+      let high = e.2 in
+      ap Some (same_span end.pattern (pattern_met m h.place) end.at e.0 end.at end.at (sym h.pattern) (omega (arith, low, high, empty)) refl) ∙ sym e.4
+
+  pub empty_start : (kind : MatchKind) (early : Bool) → IsMetEnd kind early → keeps_pattern kind early ≡ true → end.at ≡ end.from →
+      IsAnswerWhere early kind s (Some (span end.pattern end.at end.at))
+  empty_start leftmost_first false h keeps empty = empty_leftmost leftmost_first tt h h.allowed empty
+  empty_start leftmost_longest false h keeps empty = empty_leftmost leftmost_longest tt h h.allowed empty
+  empty_start leftmost_first true h keeps empty = absurd (true≢false (sym keeps))
+  empty_start leftmost_longest true h keeps empty = absurd (true≢false (sym keeps))
+  empty_start all_matches early h keeps empty = absurd (true≢false (sym keeps))
 
   -- AND BACKWARDS
 

@@ -268,6 +268,15 @@ fn keeps_pattern(aim: Aim) -> bool
     }
 }
 
+/// Whether the match is empty, since it ends where the forward run began that found its end, and
+/// its pattern is known.
+#[inline(always)]
+fn is_empty(aim: Aim, end: End) -> bool
+    ensures { IsTrue result → (keeps_pattern aim.kind (is_early aim) ≡ true) × (end.at ≡ end.from) }
+{
+    keeps_pattern(aim) && end.at == end.from
+}
+
 /// Returns the start and the pattern of the match with this end, by what a reverse run found.
 #[inline(always)]
 fn start_by(aim: Aim, end: End, met: Met) -> Met
@@ -322,6 +331,12 @@ fn seek_start<H: Halves, C: Cursor>(
             at: end.from,
         }));
     }
+    if is_empty(aim, end) {
+        return Ok(Some(Met {
+            pattern: end.pattern,
+            at: end.at,
+        }));
+    }
     let Some(met) = run_backwards(halves, cache, input, aim, end.from, end.at)? else {
         return Ok(None);
     };
@@ -345,7 +360,7 @@ pub fn id_of(pattern: usize, offset: usize) -> Result<PatternID, MatchError>
 }
 
 /// Returns the match of a search: a forward run finds its end, and from there a reverse run its
-/// start, unless that is known. If any match is enough, it is some match. If a match is passed over
+/// start, unless that is known, as that of an empty match is. If any match is enough, it is some match. If a match is passed over
 /// that ends off a boundary, another forward run begins at the next start.
 ///
 /// It fails if the patterns depend on Unicode words and a byte above 127 would have to be read, or

@@ -11,7 +11,7 @@ use Rattle.rc_dfa_search.specs.Ends.{HasMetDown, match_by}
 use Rattle.rc_dfa_search.specs.Faults.{IsFault}
 use Rattle.rc_dfa_search.proofs.CostLemmas.{refused}
 use Rattle.rc_dfa_search.proofs.ToldLemmas.{weaker_fault}
-use Rattle.rc_dfa_search.proofs.FoundLemmas.{known_start, some_start, met_start}
+use Rattle.rc_dfa_search.proofs.FoundLemmas.{empty_start, known_start, some_start, met_start}
 use Rattle.rc_dfa_search.proofs.search.seek_start.Given.{Over}
 use Rattle.rc_dfa_search.proofs.search.seek_start.Goals as goal
 use Rattle.rc_dfa_search.proofs.search.seek_start.Goals.{In_ok-met}
@@ -30,6 +30,12 @@ pub returns-then-begins_there-clause-found : goal.returns-then-begins_there-clau
 returns-then-begins_there-clause-found g c hs terminator of h =
     known_start hs of.ahead of.back c.args.input.now.anchored (search_for c.args.aim hs terminator c.args.input.now) c.args.end c.args.aim.kind (is_early c.args.aim) h
     (sym (c.begins_there.ensures ∙ ap (λ a. Ends.begins_there c.args.aim.kind (is_early c.args.aim) (anchors a)) c.get_anchored.ensures) ∙ c.if-begins_there.true)
+
+pub returns-then-is_empty-clause-found : goal.returns-then-is_empty-clause-found
+returns-then-is_empty-clause-found g c hs terminator of h =
+    let e = c.is_empty.ensures c.if-is_empty.true in
+    empty_start hs of.ahead of.back c.args.input.now.anchored (search_for c.args.aim hs terminator c.args.input.now) c.args.end c.args.aim.kind (is_early c.args.aim) h
+    e.0 e.1
 
 pub returns-in_err-met-clause-fault : goal.returns-in_err-met-clause-fault
 returns-in_err-met-clause-fault g c hs terminator of =
