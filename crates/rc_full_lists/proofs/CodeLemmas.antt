@@ -16,7 +16,7 @@ use Rattle.rc_full_lists.specs.declared.parts.Part.{Part}
 use Rattle.rc_full_lists.specs.declared.parts.Part.TheVariants as part
 use Rattle.rc_full_lists.specs.declared.items.Item.TheVariants as item
 use Rattle.rc_full_lists.specs.Items.{HasCodes}
-use Rattle.rc_full_lists.specs.Laws.{CodesLaw}
+use Rattle.rc_full_lists.specs.Laws.{ItemsHaveCodes}
 use Rattle.rc_full_lists.specs.Parts.{atom_of, posix, IsAtom, plain, escaped, IsPart, closes, operates, names, opens, range, single, set}
 
 abbrev AtomHas : Bool → Atom → Type 0
@@ -67,5 +67,5 @@ part_codes s _ _ _ (single t u c begins atom stands) =
     let is = atom_codes s t (Code c) u atom in (is, is, omega arith, tt)
 part_codes s _ _ _ (set t u i begins atom stands) = atom_codes s t (Set i) u atom
 
-pub codes_law : CodesLaw
+pub codes_law : ItemsHaveCodes
 codes_law s t i u is = part_codes s t (part.Has i) u is

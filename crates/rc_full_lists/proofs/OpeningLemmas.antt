@@ -7,7 +7,7 @@ use Rattle.rc_tokens.proofs.ClassLemmas.{if_elim}
 use Rattle.rc_full_tokens.specs.Skips.{behind_gaps}
 use Rattle.rc_full_lists.specs.Parts.{Passes}
 use Rattle.rc_full_lists.specs.Read.{passed}
-use Rattle.rc_full_lists.specs.Openings.{Hyphens, none, more, Sign, without_caret, caret, Lead, nothing, hyphens, bracket, IsOpening, opening, OneOpeningLaw}
+use Rattle.rc_full_lists.specs.Openings.{Hyphens, none, more, Sign, without_caret, caret, Lead, nothing, hyphens, bracket, IsOpening, opening, OpensInOneWay}
 use Rattle.rc_full_lists.proofs.PartLemmas.{passes_there, passed_passes}
 
 -- ---- steps
@@ -86,7 +86,7 @@ one_lead x _ _ _ _ _ (hyphens t u v p r) (hyphens _ w z q s) = (refl, one_run x 
 one_lead x _ _ _ _ _ (bracket t u p) (nothing _ g) = absurd (true≢false g)
 one_lead x _ _ _ _ _ (bracket t u p) (bracket _ v q) = (refl, one_gap x t u v p q)
 
-pub one_opening : OneOpeningLaw
+pub one_opening : OpensInOneWay
 one_opening x t u v m n a b (opening _ c d _ _ _ p s l) (opening _ e f _ _ _ q r k) =
     let signs = one_sign x c d f m n s (subst (λ y. Sign x y n f) (one_gap x t e c q p) r) in
     let leads = one_lead x d u v a b l (subst (λ y. Lead x y b v) (sym signs.1) k) in

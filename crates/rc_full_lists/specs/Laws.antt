@@ -1,3 +1,4 @@
+-- Only proofs use this file.
 -- What holds of all that is read between brackets.
 use Rattle.rc_tokens.specs.Text.{Characters}
 use Rattle.rc_full_lists.specs.declared.parts.Settings.{Settings}
@@ -7,5 +8,5 @@ use Rattle.rc_full_lists.specs.Items.{HasCodes}
 use Rattle.rc_full_lists.specs.Parts.{IsPart}
 
 -- an item that is read is one of characters, or with u off of bytes
-abbrev pub CodesLaw : Type 0
-CodesLaw = (s : Settings) (t : Characters) (i : Item) (u : Characters) → IsPart s t (part.Has i) u → HasCodes s.unicode i
+abbrev pub ItemsHaveCodes : Type 0
+ItemsHaveCodes = (s : Settings) (t : Characters) (i : Item) (u : Characters) → IsPart s t (part.Has i) u → HasCodes s.unicode i

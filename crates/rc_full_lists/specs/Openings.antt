@@ -1,3 +1,4 @@
+-- Only proofs use this file.
 -- What comes first in a list: `^`, and then hyphens or one `]`, which stand for themselves.
 use Rattle.std.specs.Prelude.{◌≡◌, ℕ, Bool, true, false, ◌||◌, ◌∷◌, Option, Some, None}
 use Rattle.rc_tokens.specs.Text.{Characters, is_at}
@@ -25,6 +26,6 @@ module _ (verbose : Bool) where
         IsOpening t negated lead c
 
 -- a text opens a list in one way
-abbrev pub OneOpeningLaw : Type 0
-OneOpeningLaw = (verbose : Bool) (t u v : Characters) (m n : Bool) (a b : Option ℕ) → IsOpening verbose t m a u → IsOpening verbose t n b v →
+abbrev pub OpensInOneWay : Type 0
+OpensInOneWay = (verbose : Bool) (t u v : Characters) (m n : Bool) (a b : Option ℕ) → IsOpening verbose t m a u → IsOpening verbose t n b v →
     (m ≡ n) × (a ≡ b) × (u ≡ v)

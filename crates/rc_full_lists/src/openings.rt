@@ -1,7 +1,7 @@
 //! The opening of a list: what comes first behind its `[`.
 
 ghost use Rattle.std.specs.Prelude.{◌≡◌, Some};
-ghost use Rattle.rc_full_lists.specs.Openings.{Hyphens, Sign, Lead, IsOpening, OneOpeningLaw};
+ghost use Rattle.rc_full_lists.specs.Openings.{Hyphens, Sign, Lead, IsOpening, OpensInOneWay};
 
 use crate::parts::passed;
 use rc_full_tokens::text::after;
@@ -55,5 +55,5 @@ pub fn opening(verbose: bool, text: &[char]) -> (bool, Option<u32>, &[char])
 
 /// A text opens a list in one way.
 pub fn opens_in_one_way()
-    ensures { OneOpeningLaw }
+    ensures { OpensInOneWay }
 {}

@@ -7,7 +7,7 @@ ghost use Rattle.rc_tokens.specs.View.{IsResultOf};
 ghost use Rattle.rc_tokens.specs.declared.tokens.Member.TheVariants.{Character};
 ghost use Rattle.rc_full_lists.specs.declared.parts.Settings.{Settings};
 ghost use Rattle.rc_full_lists.specs.declared.parts.Part.{Part};
-ghost use Rattle.rc_full_lists.specs.Laws.{CodesLaw};
+ghost use Rattle.rc_full_lists.specs.Laws.{ItemsHaveCodes};
 ghost use Rattle.rc_full_lists.specs.Parts.{twice, operator_at, atom_of, IsPart};
 ghost use Rattle.rc_full_lists.specs.Read.{passed, posix_then, posix_name, read_posix, atom_at, read_atom, high_at, goes_on, codes, ranged, atom_then, plain_at, read_part, Reads};
 
@@ -309,5 +309,5 @@ pub fn gives_the_part()
 
 /// An item that is read is one of characters, or without the flag `u` of bytes.
 pub fn items_have_codes()
-    ensures { CodesLaw }
+    ensures { ItemsHaveCodes }
 {}

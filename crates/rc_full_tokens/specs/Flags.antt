@@ -1,3 +1,4 @@
+-- Only proofs use this file.
 -- Texts of flags: those of the stated grammar, and x.
 use Rattle.std.specs.Prelude.{ℕ, Bool, false, not, ◌&&◌, ◌==◌, [], ◌∷◌, Option, Some, None, if◌then◌else◌}
 use Rattle.rc_tokens.specs.Text.{Characters, ◌>>=◌, ◌>>◌, is_empty}
