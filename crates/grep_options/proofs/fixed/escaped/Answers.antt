@@ -1,0 +1,12 @@
+use Rattle.std.proofs.Common.{◌∙◌, ap, map-id, sym}
+use Rattle.std.proofs.lemmas.Iterator.{YieldsList-from_chars}
+use Rattle.std.proofs.lemmas.Iterator.Consumers.{YieldsList-end}
+use Rattle.std.specs.List.{flat_map}
+use Rattle.grep_options.specs.Escaped.{escaped_letter}
+use Rattle.grep_options.proofs.fixed.escaped.Goals as goal
+
+pub returns : goal.returns
+returns c =
+    let end =
+    YieldsList-end (YieldsList-from_chars c.args.text.now c.utf8.text cc) c.loop-letter.yielded _ c.loop-letter.yielded_by _ _ c.in-None.is c.next.ensures.steps in
+    c.loop-letter.invariant ∙ ap (flat_map escaped_letter) (sym (map-id c.loop-letter.yielded) ∙ end.0)
