@@ -360,8 +360,9 @@ pub fn id_of(pattern: usize, offset: usize) -> Result<PatternID, MatchError>
 }
 
 /// Returns the match of a search: a forward run finds its end, and from there a reverse run its
-/// start, unless that is known, as that of an empty match is. If any match is enough, it is some match. If a match is passed over
-/// that ends off a boundary, another forward run begins at the next start.
+/// start, unless that is known, as that of an empty match is. If any match is enough, it is some
+/// match. If a match is passed over that ends off a boundary, another forward run begins at the
+/// next start.
 ///
 /// It fails if the patterns depend on Unicode words and a byte above 127 would have to be read, or
 /// if the lazy DFA gives up.
