@@ -68,8 +68,9 @@ module _ (re : Regex) (i : Searched) (old new : Cache) where
 
   rises : SpendsBoth re.lazy old.inner new.inner cost → RisesBy cost old new
   rises s = (
-    max_rises _ _ _ _ s.ahead.rises s.behind.rises,
-    max_within _ _ _ _ cost s.ahead.counted s.behind.counted,
+    max_rises _ _ _ _ s.ahead.counts.rises s.behind.counts.rises,
+    max_within _ _ _ _ cost s.ahead.counts.few s.behind.counts.few,
+    record { ahead = s.ahead.counts; behind = s.behind.counts },
   )
 
   pub clears_had : IsCacheFor re old → SpendsBoth re.lazy old.inner new.inner cost → ClearsWhereShort re i old new

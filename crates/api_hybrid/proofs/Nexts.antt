@@ -10,6 +10,7 @@ use Rattle.rc_text.specs.declared.types.MatchError.TheVariants.{Quit, GaveUp}
 use Rattle.rc_program.specs.Answer.{Search}
 use Rattle.rc_program.specs.Sought.{search_for}
 use Rattle.rc_pikevm_search.specs.Moved.{IsMoved}
+use Rattle.rc_lazy_dfa.specs.CacheLaws.{counted_both, counted_within}
 use Rattle.rc_dfa_search.specs.Faults.{IsFault}
 use Rattle.rc_build.proofs.Fitted.{sought_moved}
 use Rattle.api_hybrid.specs.Caches.{IsCacheFor, capacity_of, usage_of}
@@ -26,6 +27,10 @@ module _ (re : Regex) (i : Searched) where
   -- the least capacity for each state that a search may add in a direction
   abbrev weight : Searched → ℕ
   weight j = (high j - low j + 4) * (high j - low j + 4) * least_of re
+
+  -- how many states a search may add in a direction
+  abbrev states : Searched → ℕ
+  states j = (high j - low j + 4) * (high j - low j + 4)
 
   -- SHORT TABLES
 
@@ -64,7 +69,7 @@ module _ (re : Regex) (i : Searched) where
   pub clears_soon : (a b : Cache) → ClearsWhereShort re i a b → ClearsWhereShortNext re i a b
   clears_soon a b h =
       let few = h.0.1 in
-      ((h.0.0, omega (arith, few)), ⊎_elim (λ e. inl e) (λ s. inr (short_soon a s)) h.1)
+      ((h.0.0, omega (arith, few), counted_within a.inner b.inner (states i) (2 * states i) (omega arith) h.0.2), ⊎_elim (λ e. inl e) (λ s. inr (short_soon a s)) h.1)
 
   pub clears_later : (j : Searched) (a b c : Cache) → IsMoved i j → j.span.start ≡ i.span.start + 1 → IsCacheFor re a → IsCacheFor re b →
       GrowsWhereRoomy re i a b → ClearsWhereShort re i a b → ClearsWhereShort re j b c → ClearsWhereShortNext re i a c
@@ -74,7 +79,12 @@ module _ (re : Regex) (i : Searched) where
       let low_second = second.0.0 in
       let few_second = second.0.1 in
       let fewer = fewer_states j moved (omega (arith, at)) in (
-        (omega (arith, low_first, low_second), omega (arith, few_first, few_second, fewer)),
+        (
+          omega (arith, low_first, low_second),
+          omega (arith, few_first, few_second, fewer),
+          counted_within a.inner c.inner (states i + states j) (2 * states i) (omega (arith, fewer))
+              (counted_both a.inner b.inner c.inner (states i) (states j) first.0.2 second.0.2),
+        ),
         ⊎_elim
             (λ e. ⊎_elim (λ f. inl (f ∙ e)) (λ s. inr (short_later j a b moved (omega (arith, at)) made still grows s)) second.1)
             (λ s. inr (short_soon a s))

@@ -5,6 +5,7 @@ use Rattle.rc_text.specs.declared.types.MatchError.{MatchError}
 use Rattle.rc_text.specs.declared.types.MatchError.TheVariants.{Quit, GaveUp}
 use Rattle.rc_program.specs.Matches.{from_on}
 use Rattle.rc_program.specs.Sought.{search_for}
+use Rattle.rc_lazy_dfa.specs.Caches.{CountsBoth}
 use Rattle.rc_dfa_search.specs.Faults.{IsFault, MayQuit}
 use Rattle.api_hybrid.specs.Caches.{capacity_of, clears_of, usage_of}
 use Rattle.api_hybrid.specs.Views.{least_of, sought}
@@ -15,9 +16,10 @@ use Rattle.api_hybrid.specs.declared.regex.Regex.{Regex}
 abbrev pub MayBeShort : Regex → Searched → Cache → Type 0
 MayBeShort re i c = capacity_of c < usage_of c + (high i - low i + 4) * (high i - low i + 4) * least_of re
 
--- the count never falls, and rises by so many at most
+-- The count never falls, and rises by so many at most. In each direction its own count tells whether its states were let go: while it is the same,
+-- each is held; if it rose, none is held but those that were added since.
 abbrev pub RisesBy : ℕ → Cache → Cache → Type 0
-RisesBy n old new = (clears_of old ≤ clears_of new) × (clears_of new ≤ clears_of old + n)
+RisesBy n old new = (clears_of old ≤ clears_of new) × (clears_of new ≤ clears_of old + n) × CountsBoth old.inner new.inner n
 
 -- all states were let go only where a table may have been short, and at most once for each state that the search may add
 abbrev pub ClearsWhereShort : Regex → Searched → Cache → Cache → Type 0

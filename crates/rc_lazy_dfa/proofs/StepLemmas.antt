@@ -10,8 +10,8 @@ use Rattle.rc_dfa.specs.Machine.{entry_bound, Leads, Begins, IsAsked}
 use Rattle.rc_dfa.specs.Runs.{IsByte, MayRead}
 use Rattle.rc_dfa.specs.Laws.{IsWithin}
 use Rattle.rc_lazy_dfa.specs.Cells.{unknown, column_of}
-use Rattle.rc_lazy_dfa.specs.Stores.{Frame, IsFrame, Held, IsRow, IsKnown, IsCell, IsColumn, mode_of}
-use Rattle.rc_lazy_dfa.specs.Moves.{HasCell, HasStart, Grows}
+use Rattle.rc_lazy_dfa.specs.Stores.{Grows, Frame, IsFrame, Held, IsRow, IsKnown, IsCell, IsColumn, mode_of}
+use Rattle.rc_lazy_dfa.specs.Moves.{HasCell, HasStart}
 use Rattle.rc_lazy_dfa.specs.Halves.{IsPlace}
 use Rattle.rc_lazy_dfa.specs.declared.store.Store.{Store}
 use Rattle.rc_lazy_dfa.proofs.RowLemmas.{row_inside, same_row}

@@ -19,8 +19,7 @@ use Rattle.rc_dfa.specs.Runs.{MayRead, Runs, ahead_at, behind_at}
 use Rattle.rc_dfa.proofs.OverlapLemmas.{overlap_law}
 use Rattle.rc_table_search.specs.Ways.{IsNext}
 use Rattle.rc_lazy_dfa.specs.Cells.{unknown, met, quit, row_of, has_died, column_of}
-use Rattle.rc_lazy_dfa.specs.Stores.{Frame, IsFrame, Held, IsRow, IsColumn, IsKnown, Names, frame_of}
-use Rattle.rc_lazy_dfa.specs.Moves.{Grows}
+use Rattle.rc_lazy_dfa.specs.Stores.{Grows, Frame, IsFrame, Held, IsRow, IsColumn, IsKnown, Names, frame_of}
 use Rattle.rc_lazy_dfa.specs.Halves.{IsHalf, IsPlace}
 use Rattle.rc_lazy_dfa.specs.Overlaps.{AddsOnly, AreCollected, ComesTo, EndsAt, HasEach, IsAmong, IsOverlap, IsTold, IsUnderway, Meets, MeetsAt, MeetsBefore, Overlap, text_over}
 use Rattle.rc_lazy_dfa.specs.declared.which.Ends.{Ends}

@@ -10,8 +10,8 @@ use Rattle.rc_lazy_dfa.specs.Cells.{unknown}
 use Rattle.rc_dfa.specs.Laws.{IsWithin}
 use Rattle.rc_dfa.proofs.ListLemmas.{get_more, get_parts}
 use Rattle.rc_lazy_dfa.specs.declared.store.Store.{Store}
-use Rattle.rc_lazy_dfa.specs.Stores.{Held, AreWithin, listed_by, count_of, weight_of, Names, IsKnown, Frame, IsFrame, IsRow, IsCell, IsColumn, AreCells, AreStarts, mode_of}
-use Rattle.rc_lazy_dfa.specs.Moves.{Grows, HasCell, HasStart}
+use Rattle.rc_lazy_dfa.specs.Stores.{Grows, Held, AreWithin, listed_by, count_of, weight_of, Names, IsKnown, Frame, IsFrame, IsRow, IsCell, IsColumn, AreCells, AreStarts, mode_of}
+use Rattle.rc_lazy_dfa.specs.Moves.{HasCell, HasStart}
 use Rattle.rc_lazy_dfa.proofs.RowLemmas.{same_row, same_column}
 
 pub column_inside : (f : Frame) (beside : Option ℕ) (column : ℕ) → IsFrame f → IsColumn f beside column → column < f.width

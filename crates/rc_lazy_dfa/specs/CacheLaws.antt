@@ -3,7 +3,7 @@
 use Rattle.std.proofs.Common.{ℕ, ◌+◌, ◌≤◌, Bool, inl, inr}
 use Rattle.rc_dfa.specs.declared.automaton.Direction.TheVariants.{Forwards, Backwards}
 use Rattle.rc_lazy_dfa.specs.Stores.{frame_of}
-use Rattle.rc_lazy_dfa.specs.Caches.{SpendsBoth, MayGiveUpEither}
+use Rattle.rc_lazy_dfa.specs.Caches.{CountsBoth, SpendsBoth, MayGiveUpEither}
 use Rattle.rc_lazy_dfa.specs.declared.lazy.Lazy.{Lazy}
 use Rattle.rc_lazy_dfa.specs.declared.lazy.Cache.{Cache}
 use Rattle.rc_lazy_dfa.specs.SpendLaws as one
@@ -34,4 +34,16 @@ pub spent_within : (l : Lazy) (a b : Cache) (n k : ℕ) → n ≤ k → SpendsBo
 spent_within l a b n k le s = record {
   ahead = one.spends_within (frame_of l.automaton Forwards) a.forward.store b.forward.store n k le s.ahead;
   behind = one.spends_within (frame_of l.automaton Backwards) a.reverse.store b.reverse.store n k le s.behind;
+}
+
+pub counted_within : (a b : Cache) (n k : ℕ) → n ≤ k → CountsBoth a b n → CountsBoth a b k
+counted_within a b n k le c = record {
+  ahead = one.counts_within a.forward.store b.forward.store n k le c.ahead;
+  behind = one.counts_within a.reverse.store b.reverse.store n k le c.behind;
+}
+
+pub counted_both : (a b c : Cache) (n k : ℕ) → CountsBoth a b n → CountsBoth b c k → CountsBoth a c (n + k)
+counted_both a b c n k s r = record {
+  ahead = one.counts_both a.forward.store b.forward.store c.forward.store n k s.ahead r.ahead;
+  behind = one.counts_both a.reverse.store b.reverse.store c.reverse.store n k s.behind r.behind;
 }

@@ -4,7 +4,7 @@ use Rattle.rc_dfa.specs.declared.automaton.Automaton.{Automaton}
 use Rattle.rc_dfa.specs.declared.automaton.Direction.TheVariants.{Forwards, Overlapping, Backwards}
 use Rattle.rc_dfa.specs.Machine.{Machine}
 use Rattle.rc_dfa.specs.Automata.{machine_of}
-use Rattle.rc_lazy_dfa.specs.Stores.{frame_of, minimum_of, Spends}
+use Rattle.rc_lazy_dfa.specs.Stores.{frame_of, minimum_of, Counts, Spends}
 use Rattle.rc_lazy_dfa.specs.Halves.{IsHalf}
 use Rattle.rc_lazy_dfa.specs.Courses.{MayGiveUp}
 use Rattle.rc_lazy_dfa.specs.declared.lazy.Lazy.{Lazy}
@@ -56,6 +56,11 @@ capacity_of c = c.forward.store.capacity
 -- The greater of the two counts.
 abbrev pub clears_of : Cache → ℕ
 clears_of c = max c.forward.store.clears c.reverse.store.clears
+
+-- In each direction the count of clears tells whether it was cleared.
+pub record CountsBoth (a b : Cache) (n : ℕ) : Type 0 where
+  pub ahead : Counts a.forward.store b.forward.store n
+  pub behind : Counts a.reverse.store b.reverse.store n
 
 -- In each direction at most so many states were added, and it was cleared only if it may have been
 -- short.

@@ -4,7 +4,7 @@ use Rattle.std.specs.Prelude.{◌≡◌, ℕ, ◌+◌, ◌*◌, ◌<◌, ◌≤�
 use Rattle.rc_text.specs.declared.types.Anchored.{Anchored}
 use Rattle.rc_determinize.specs.States.{State}
 use Rattle.rc_dfa.specs.Machine.{Leads, Begins, IsAsked}
-use Rattle.rc_lazy_dfa.specs.Stores.{Frame, IsRow, Names, IsCell, IsColumn, mode_of, weight_of}
+use Rattle.rc_lazy_dfa.specs.Stores.{Frame, Grows, IsRow, Names, IsCell, IsColumn, mode_of, weight_of}
 use Rattle.rc_lazy_dfa.specs.declared.store.Store.{Store}
 use Rattle.rc_lazy_dfa.specs.declared.store.Named.{Named}
 
@@ -37,9 +37,6 @@ pub record Adds (f : Frame) (old new : Store) (s : State) (row : ℕ) : Type 0 w
   pub capacity : new.capacity ≡ old.capacity
   pub used : new.used ≡ old.used + weight_of f.width s
   pub clears : new.clears ≡ old.clears
-
-abbrev pub Grows : List State → List State → Type 0
-Grows old new = (id : ℕ) (s : State) → slice_get old id ≡ Some s → slice_get new id ≡ Some s
 
 -- The cell leads to the state, and if it says so, all earlier rows were kept.
 pub record IsNamed (f : Frame) (old new : Store) (s : State) (n : Named) : Type 0 where

@@ -1,13 +1,44 @@
 -- Only proofs use this file.
 -- Cache use: what searches spend adds up.
-use Rattle.std.proofs.Common.{ℕ, ◌+◌, ◌*◌, ◌≤◌, Bool, true, false, inl, inr, refl, ◌∙◌, arith}
+use Rattle.std.proofs.Common.{◌≡◌, ℕ, ◌+◌, ◌*◌, ◌≤◌, Bool, true, false, inl, inr, refl, ◌∙◌, arith}
 use Rattle.std.proofs.Math.Nat.{mul-le-mul_right, add-mul}
-use Rattle.rc_lazy_dfa.specs.Stores.{Frame, IsShort, Spends, minimum_of}
+use Rattle.std.proofs.lemmas.Bool.{cases_lt}
+use Rattle.rc_lazy_dfa.specs.Stores.{Counts, Frame, IsShort, Spends, minimum_of}
 use Rattle.rc_lazy_dfa.specs.Courses.{MayGiveUp}
 use Rattle.rc_lazy_dfa.specs.declared.store.Store.{Store}
 
+counts_nothing : (a : Store) (n : ℕ) → Counts a a n
+counts_nothing a n = record { rises = omega arith; few = omega arith; grown = omega arith; kept = λ same below id s h. h; dropped = λ more. omega (arith, more) }
+
+pub counts_within : (a b : Store) (n k : ℕ) → n ≤ k → Counts a b n → Counts a b k
+counts_within a b n k le c = record {
+  rises = c.rises;
+  few = let f = c.few in omega (arith, f, le);
+  grown = let g = c.grown in omega (arith, g, le);
+  kept = c.kept;
+  dropped = λ more. let d = c.dropped more in omega (arith, d, le);
+}
+
+-- if the count is the same in the end, it was the same between
+pub counts_both : (a b c : Store) (n k : ℕ) → Counts a b n → Counts b c k → Counts a c (n + k)
+counts_both a b c n k s r =
+    let first = s.rises in
+    let second = r.rises in
+    let grown = r.grown in record {
+      rises = omega (arith, first, second);
+      few = let f = s.few in let g = r.few in omega (arith, f, g);
+      grown = let g = s.grown in omega (arith, g, grown);
+      kept = λ same below id t h.
+          let still : b.clears ≡ a.clears = omega (arith, first, second, same) in
+          r.kept (omega (arith, same, still)) (omega (arith, below, still)) id t (s.kept still below id t h);
+      dropped = λ more. elim (cases_lt b.clears c.clears) [
+        | inl later ↦ let d = r.dropped later in omega (arith, d)
+        | inr same ↦ let d = s.dropped (omega (arith, more, same)) in omega (arith, d, grown)
+      ];
+    }
+
 pub spends_nothing : (f : Frame) (a : Store) (n : ℕ) → Spends f a a n
-spends_nothing f a n = record { capacity = refl; rises = omega arith; counted = omega arith; added = inl (refl, omega arith) }
+spends_nothing f a n = record { capacity = refl; counts = counts_nothing a n; added = inl (refl, omega arith) }
 
 more_times : (n k x : ℕ) → n ≤ k → n * x ≤ k * x
 more_times n k x le = mul-le-mul_right x le
@@ -18,8 +49,7 @@ short_within f a n k le h = let m = more_times n k (minimum_of f) le in omega (a
 pub spends_within : (f : Frame) (a b : Store) (n k : ℕ) → n ≤ k → Spends f a b n → Spends f a b k
 spends_within f a b n k le s = record {
   capacity = s.capacity;
-  rises = s.rises;
-  counted = let c = s.counted in omega (arith, c, le);
+  counts = counts_within a b n k le s.counts;
   added = elim s.added [
     | inl h ↦ let u = h.1 in let m = more_times n k (minimum_of f) le in inl (h.0, omega (arith, u, m))
     | inr h ↦ inr (short_within f a n k le h)
@@ -40,8 +70,7 @@ pub spends_both : (f : Frame) (a b c : Store) (n k : ℕ) → Spends f a b n →
 spends_both f a b c n k s r =
     let sum = add-mul n k (minimum_of f) in record {
       capacity = r.capacity ∙ s.capacity;
-      rises = let a = s.rises in let b = r.rises in omega (arith, a, b);
-      counted = let a = s.counted in let b = r.counted in omega (arith, a, b);
+      counts = counts_both a b c n k s.counts r.counts;
       added = elim r.added [
         | inr short ↦ inr (short_after f a b n k s short)
         | inl h ↦

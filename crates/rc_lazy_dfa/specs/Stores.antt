@@ -1,5 +1,5 @@
 -- Cache: the states of one direction, which are added as searches reach them.
-use Rattle.std.specs.Prelude.{◌≡◌, ◌⊎◌, ℕ, ◌+◌, ◌*◌, ◌<◌, ◌≤◌, true, List, [], ◌∷◌, length, Option, Some, None, slice_get, slice_index_or}
+use Rattle.std.specs.Prelude.{◌≡◌, ◌⊎◌, ℕ, ◌+◌, ◌*◌, ◌/◌, ◌<◌, ◌≤◌, true, List, [], ◌∷◌, length, Option, Some, None, slice_get, slice_index_or}
 use Rattle.rc_text.specs.declared.types.Anchored.{Anchored}
 use Rattle.rc_text.specs.declared.types.Anchored.TheVariants.{No, Yes, Pattern}
 use Rattle.rc_determinize.specs.States.{State}
@@ -125,14 +125,32 @@ pub record Held (f : Frame) (s : Store) : Type 0 where
 abbrev pub IsShort : Frame → Store → ℕ → Type 0
 IsShort f s n = s.capacity < s.used + n * minimum_of f
 
+-- Each state is held where it was.
+abbrev pub Grows : List State → List State → Type 0
+Grows old new = (id : ℕ) (s : State) → slice_get old id ≡ Some s → slice_get new id ≡ Some s
+
+-- What the count of clears says of two moments: it never falls, and unless it is at its greatest it
+-- tells whether all states were dropped between them. If it is the same, each state is held where it
+-- was. If it rose, it did so at most once for each of the so many states that were added at most, and
+-- no others than these are held.
+pub record Counts (old new : Store) (n : ℕ) : Type 0 where
+  pub rises : old.clears ≤ new.clears
+  pub few : new.clears ≤ old.clears + n
+  pub grown : length new.states ≤ length old.states + n
+  pub kept : new.clears ≡ old.clears → old.clears < 18446744073709551615 → Grows old.states new.states
+  pub dropped : old.clears < new.clears → length new.states ≤ n
+
 -- From the first to the second at most so many states were added, and it was cleared only if it may
--- have been short. Each state that was added cleared it at most once, so the count of clears rose by
--- no more, and it never falls.
+-- have been short.
 pub record Spends (f : Frame) (old new : Store) (n : ℕ) : Type 0 where
   pub capacity : new.capacity ≡ old.capacity
-  pub rises : old.clears ≤ new.clears
-  pub counted : new.clears ≤ old.clears + n
+  pub counts : Counts old new n
   pub added : ((new.clears ≡ old.clears) × (new.used ≤ old.used + n * minimum_of f)) ⊎ IsShort f old n
+
+-- Clearing is futile: it was done three times, and since the last time each state served fewer than
+-- ten bytes on average.
+abbrev pub IsFutile : Store → ℕ → Type 0
+IsFutile s served = (3 ≤ s.clears) × (served / 10 < length s.states)
 
 -- Why a state wasn't added: memory was refused, or the cache was cleared three times before and may
 -- be short again.

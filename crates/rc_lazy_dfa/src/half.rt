@@ -3,11 +3,11 @@ ghost use Rattle.std.specs.Prelude.{◌≡◌, ◌<◌, ◌≤◌, length, IfOk,
 ghost use Rattle.rc_determinize.specs.Places.{state_of};
 ghost use Rattle.rc_determinize.specs.States as states;
 ghost use Rattle.rc_dfa.specs.Machine.{IsAsked, Leads, Begins};
-ghost use Rattle.rc_lazy_dfa.specs.Stores.{Frame, frame_of, Spends, IsRefused, IsRow, IsKnown, minimum_of, starts_in};
+ghost use Rattle.rc_lazy_dfa.specs.Stores.{Frame, Grows, frame_of, Spends, IsRefused, IsRow, IsKnown, minimum_of, starts_in};
 ghost use Rattle.rc_lazy_dfa.specs.Halves.{IsHalf, IsFresh, IsPlace};
 ghost use Rattle.rc_dfa.specs.Laws.{IsWithin};
 ghost use Rattle.rc_dfa.specs.Runs.{IsByte};
-ghost use Rattle.rc_lazy_dfa.specs.Moves.{Grows, IsNamed};
+ghost use Rattle.rc_lazy_dfa.specs.Moves.{IsNamed};
 
 use crate::cells::{QUIT, UNKNOWN, column, mode};
 use crate::error::Refusal;

@@ -1,12 +1,13 @@
 //! Cache: the states of one direction with their rows. If a state doesn't fit into the capacity,
 //! all others are dropped.
-ghost use Rattle.std.specs.Prelude.{◌≡◌, ◌+◌, ◌*◌, ◌<◌, ◌≤◌, length, IfOk, IfErr, IsTrue, Some, true, false, ℕ, Option, IfSome, slice_get};
+ghost use Rattle.std.specs.Prelude.{◌≡◌, ◌+◌, ◌*◌, ◌<◌, ◌≤◌, ◌↔◌, length, IfOk, IfErr, IsTrue, MatchResult, Some, true, false, ℕ, Option, IfSome, slice_get};
 ghost use Rattle.rc_determinize.specs.Places.{state_of};
 ghost use Rattle.rc_determinize.specs.States as states;
 ghost use Rattle.rc_dfa.specs.Keys.{IsAbsent};
 ghost use Rattle.rc_dfa.specs.Machine.{is_idle, longest_in};
 ghost use Rattle.rc_dfa.specs.Laws.{IsWithin};
-ghost use Rattle.rc_lazy_dfa.specs.Stores.{Frame, Held, Spends, IsRefused, IsRow, weight_of};
+ghost use Rattle.rc_lazy_dfa.specs.Stores.{Frame, Held, IsFutile, Spends, IsRefused, IsRow, weight_of};
+ghost use Rattle.rc_lazy_dfa.specs.declared.error.Refusal.TheVariants.{Short};
 ghost use Rattle.rc_lazy_dfa.specs.Moves.{IsReset, HasRoom, Adds, IsNamed, HasCell, HasStart, Writes};
 
 use crate::cells::{DEAD, MET, UNKNOWN, marks, row_of};
@@ -74,7 +75,7 @@ impl Store {
     /// Whether clearing is futile: it was done three times, and since the last time each state
     /// served fewer than ten bytes on average.
     fn is_futile(&self, served: usize) -> bool
-        ensures { IsTrue result → 3 ≤ self.now.clears }
+        ensures { IsTrue result ↔ IsFutile self.now served }
     {
         self.clears >= 3 && served / 10 < self.states.len()
     }
@@ -90,6 +91,9 @@ impl Store {
         ensures room { IfOk result (HasRoom self.old self.new weight) }
         ensures refused { IfErr result (λ e. (self.new ≡ self.old)
             × IsRefused f self.old self.new e) }
+        ensures futile { MatchResult result
+            (λ kept. kept ≡ false → ¬ IsFutile self.old served)
+            (λ e. (e ≡ Short) × IsFutile self.old served) }
     {
         if weight <= self.capacity - self.used {
             return Ok(true);

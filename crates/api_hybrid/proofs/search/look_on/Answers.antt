@@ -34,3 +34,11 @@ returns-else-not-is_again-clause-clears g c =
     let at : j.span.start ≡ i.span.start + 1 = search rules in
     clears_later c.args.re.now i j c.args.cache.now c.find_by.new.cache c.find_by-in-Ok-Some.new.cache moved at c.requires.made c.find_by.ensures.cache
     c.find_by.ensures.grows c.find_by.ensures.clears c.find_by-in-Ok-Some.ensures.clears
+
+pub returns-then-not-is_again-clause-clears : goal.returns-then-not-is_again-clause-clears
+returns-then-not-is_again-clause-clears g c =
+    clears_soon c.args.re.now c.args.input.now c.args.cache.now c.find_by.new.cache c.find_by.ensures.clears
+
+pub returns-in-Ok-None-clause-clears : goal.returns-in-Ok-None-clause-clears
+returns-in-Ok-None-clause-clears g c =
+    clears_soon c.args.re.now c.args.input.now c.args.cache.now c.find_by.new.cache c.find_by.ensures.clears

@@ -1,9 +1,10 @@
 use Rattle.std.proofs.Common.{◌≡◌, ◌∙◌, ◌+◌, refl, sym, subst, ap}
-use Rattle.rc_table_search.specs.Ways.{IsBeside, IsOn, beside_at, offset_of}
+use Rattle.rc_table_search.specs.Ways.{IsBeside, IsOn, beside_at, offset_of, span}
 use Rattle.rc_table_search.proofs.SpanLemmas.{beside_kept, on_here}
 use Rattle.rc_table_search.proofs.WayLemmas.{some_before}
 use Rattle.rc_lazy_dfa.specs.Courses.{text_in}
-use Rattle.rc_lazy_dfa.proofs.SearchLemmas.{IsStepped, end_is_read, over_quit, over_says, step_bounded, step_few, step_quits, stepped}
+use Rattle.rc_lazy_dfa.proofs.SpendLemmas.{over_refused}
+use Rattle.rc_lazy_dfa.proofs.SearchLemmas.{IsStepped, end_is_read, few_spent, over_quit, over_says, step_bounded, step_few, step_quits, stepped}
 use Rattle.rc_lazy_dfa.proofs.search.finish.Goals as goal
 use Rattle.rc_lazy_dfa.proofs.search.finish.Goals.{In-Ok}
 
@@ -16,6 +17,15 @@ took g c =
     (c.byte_beside-beside.ensures.value ∙ beside_kept c.BACKWARDS.result q.frame.machine.setting.terminator q.seen c.args.input.now c.args.end r.1.1.1.0) in
     stepped q c.args.half.now c.next.new.self c.args.half.now.store c.args.end c.args.stand c.byte_beside-beside.result c.in-Ok.cell r.1.1.0 refl
     c.in-Ok.ensures.half c.in-Ok.ensures.spends c.in-Ok.ensures.leads (subst (λ i. IsOn q.backwards c.args.end i) r.1.1.1.1.1.1 (on_here q.backwards c.args.end)) (sym is)
+
+pub returns-in-Err-clause-over : goal.returns-in-Err-clause-over
+returns-in-Err-clause-over g c =
+    let q = g.course in
+    let r = c.requires.1.1 in
+    let here = r.1.1.0 in
+    let within = subst (λ i. IsOn q.backwards c.args.end i) r.1.1.1.1.1.1 (on_here q.backwards c.args.end) in
+    over_refused q c.next.new.self c.args.half.now.store (span q.backwards q.from c.args.end + 1) c.args.end (q.bound + 1) c.in-Err.refusal c.is_memory.result
+    c.in-Err.ensures.half here.spends c.in-Err.ensures.spends c.in-Err.ensures.refused (few_spent q c.args.end here.on within) here.on within c.is_memory.ensures
 
 pub returns-in-Some-clause-over : goal.returns-in-Some-clause-over
 returns-in-Some-clause-over g c =

@@ -1,8 +1,7 @@
 use Rattle.std.proofs.Common.{◌≡◌, ◌∙◌, inl, inr, refl, sym, subst, ap}
 use Rattle.rc_determinize.specs.Places.{state_of}
 use Rattle.rc_lazy_dfa.specs.Cells.{column_of}
-use Rattle.rc_lazy_dfa.specs.Stores.{frame_of, Names}
-use Rattle.rc_lazy_dfa.specs.Moves.{Grows}
+use Rattle.rc_lazy_dfa.specs.Stores.{Grows, frame_of, Names}
 use Rattle.rc_lazy_dfa.specs.declared.store.Store.{Store}
 use Rattle.rc_lazy_dfa.proofs.StepLemmas.{cell_says, column_by, cell_made, unread_by, read_by, led_within, there_still, same_still}
 use Rattle.rc_lazy_dfa.proofs.half.Half.follow.Goals as goal
