@@ -208,8 +208,8 @@ module _ (AreOf : Machine → Machine → Type 0) (aim : Aim) (hs : List Re) (te
   abbrev S : Search
   S = search_for aim hs terminator s
 
-  case : IsCase hs aim.kind of.ahead of.back Yes (starting_at from S)
-  case =
+  pub case_here : IsCase hs aim.kind of.ahead of.back Yes (starting_at from S)
+  case_here =
       let c = free_case AreOf aim hs terminator s of (omega (arith, above, below)) goes.free in
       let in_slice = c.inside in
       record {
@@ -221,14 +221,14 @@ module _ (AreOf : Machine → Machine → Type 0) (aim : Aim) (hs : List Re) (te
         asked = tt;
       }
 
-  may : (at : ℕ) → may_end_at (starting_at from S) at ≡ true
+  pub may : (at : ℕ) → may_end_at (starting_at from S) at ≡ true
   may at = ap (λ b. not b || is_boundary s.content at) goes.all
 
   met_here : (e : Ended) → HasEnded of.ahead (text_of terminator s) (high s) from Yes false false e → IfOk (told_of e) (IsMetHere aim.kind S from)
-  met_here (Finds None) h = sym (leftmost_law.none hs aim.kind of.ahead of.back Yes (starting_at from S) from goes.kind case (leftmost_law.begins hs aim.kind of.ahead of.back Yes (starting_at from S) case) h)
+  met_here (Finds None) h = sym (leftmost_law.none hs aim.kind of.ahead of.back Yes (starting_at from S) from goes.kind case_here (leftmost_law.begins hs aim.kind of.ahead of.back Yes (starting_at from S) case_here) h)
   met_here (Finds (Some met)) h =
-      let r = leftmost_law.at_start hs aim.kind of.ahead of.back Yes (starting_at from S) from h.0 met.at goes.kind case
-      (leftmost_law.begins hs aim.kind of.ahead of.back Yes (starting_at from S) case) h.2 (may met.at) refl in
+      let r = leftmost_law.at_start hs aim.kind of.ahead of.back Yes (starting_at from S) from h.0 met.at goes.kind case_here
+      (leftmost_law.begins hs aim.kind of.ahead of.back Yes (starting_at from S) case_here) h.2 (may met.at) refl in
       (r.0, r.1, sym (r.2 ∙ ap (λ (p : ℕ). let f : Found = record { pattern = p; start = from; end = met.at } in Some f) h.1))
   met_here (Idle i) h = absurd (true≢false (sym h.0))
   met_here (Quit b p) h = tt

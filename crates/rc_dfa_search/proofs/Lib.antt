@@ -27,3 +27,4 @@ pub mod SameLemmas
 pub mod JumpLemmas
 pub mod BeginLemmas
 pub mod ReachLemmas
+pub mod SettledLemmas

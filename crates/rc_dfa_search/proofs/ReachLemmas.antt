@@ -2,7 +2,7 @@
 use Rattle.std.proofs.Common.{◌≡◌, ℕ, ◌+◌, ◌<◌, ◌≤◌, ◌⊎◌, Bool, true, false, true≢false, List, Option, Some, None, Result, IfOk, max, min, sym, subst, ap, ◌∙◌, refl, arith}
 use Rattle.rc_text.specs.Found.{Found}
 use Rattle.rc_text.specs.Plain.{is_anchored as anchors}
-use Rattle.rc_text.specs.Text.{Searched, low, high, slice_end, is_boundary}
+use Rattle.rc_text.specs.Text.{Searched, low, high, slice_end}
 use Rattle.rc_text.specs.declared.types.MatchKind.{MatchKind}
 use Rattle.rc_text.specs.declared.types.MatchError as error
 use Rattle.rc_text.specs.declared.types.Anchored.{Anchored}
@@ -29,12 +29,12 @@ use Rattle.rc_dfa_reach.proofs.TableReachLemmas.{look_same, table_reach_law}
 use Rattle.rc_dfa_search.specs.declared.search.Aim.{Aim}
 use Rattle.rc_dfa_search.specs.Aims.{AreHalvesOf, search_for}
 use Rattle.rc_dfa_search.specs.Ends.{Asks, told_of}
-use Rattle.rc_dfa_search.specs.Laws.{met_from, pattern_met}
+use Rattle.rc_dfa_search.specs.Laws.{met_from}
 use Rattle.rc_dfa_search.specs.Leftmost.{IsLeftmost, IsRaisedBy}
 use Rattle.rc_dfa_search.specs.Machines.{IsCase}
 use Rattle.rc_dfa_search.specs.Reaches.{BeginsBy, HasMetBelow, IsAnswerBelow, TellsReach}
 use Rattle.rc_dfa_search.proofs.LeftmostLemmas.{leftmost_law}
-use Rattle.rc_dfa_search.proofs.SeekLemmas.{no_answer, void_answer}
+use Rattle.rc_dfa_search.proofs.SeekLemmas.{void_answer}
 use Rattle.rc_dfa_search.proofs.ToldLemmas.{asked_so, case_of}
 
 -- the end of the slice, and the byte there, settle each answer
@@ -56,7 +56,7 @@ itself s r = record {
   content = refl;
 }
 
-is_no : (anchored : Anchored) → anchors anchored ≡ false → anchored ≡ No
+pub is_no : (anchored : Anchored) → anchors anchored ≡ false → anchored ≡ No
 is_no No e = refl
 is_no Yes e = absurd (true≢false e)
 is_no (Pattern p) e = absurd (true≢false e)
@@ -64,7 +64,7 @@ is_no (Pattern p) e = absurd (true≢false e)
 module _ (hs : List Re) (kind : MatchKind) (left : IsLeftmost kind) (m n : Machine) (anchored : Anchored) (s : Search) (c : IsCase hs kind m n anchored s)
     (inside : IsInside s) (all : s.passes_over ≡ false) (r : ℕ) where
   module _ (t : Search) (in2 : IsInside t) (agrees : AgreesBelow r s t) (far : s.lo ≤ r) where
-    same_case : IsCase hs kind m n anchored t
+    pub same_case : IsCase hs kind m n anchored t
     same_case =
         let bound = same_bound s t r inside in2 agrees in
         let ordered = c.ordered in
@@ -78,7 +78,7 @@ module _ (hs : List Re) (kind : MatchKind) (left : IsLeftmost kind) (m n : Machi
           asked = c.asked;
         }
 
-    may_end : (e : ℕ) → may_end_at t e ≡ true
+    pub may_end : (e : ℕ) → may_end_at t e ≡ true
     may_end e = rw (agrees.passes_over ∙ all) refl
 
     ends_too : (o : Option (ℕ × ℕ)) → SearchEndsBelow m s.text s.hi s.lo anchored false (met_last o) r → SearchEnds m t.text t.hi t.lo anchored false (met_last o)

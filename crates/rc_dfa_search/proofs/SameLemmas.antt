@@ -1,5 +1,5 @@
 -- Two automata of the same patterns have the same machines, and the same classes of bytes.
-use Rattle.std.proofs.Common.{◌≡◌, ◌∙◌, ℕ, zero, suc, ◌+◌, ◌<◌, ◌≤◌, Bool, true, false, true≢false, List, length, slice_index, if◌then◌else◌, inl, inr, refl, sym, subst, ap, arith, IsTrue}
+use Rattle.std.proofs.Common.{◌≡◌, ◌∙◌, ℕ, zero, suc, ◌+◌, ◌<◌, Bool, true, false, List, length, slice_index, if◌then◌else◌, inl, inr, refl, sym, subst, ap, arith, IsTrue}
 use Rattle.std.proofs.lemmas.Bool.{cases_lt}
 use Rattle.std.proofs.lemmas.List.{ext_get_or}
 use Rattle.rc_pattern.specs.Re.{Re}
@@ -8,8 +8,8 @@ use Rattle.rc_program.specs.Program.{Place, program}
 use Rattle.rc_utf8.specs.Bytes.{bytes_of}
 use Rattle.rc_determinize.specs.declared.sides.Asked.{Asked}
 use Rattle.rc_determinize.specs.Sides.{AreAsked}
-use Rattle.rc_determinize.specs.Classes.{AreClasses, AreSingle, is_border}
-use Rattle.rc_dfa.specs.Machine.{Direction, forwards, backwards, Machine}
+use Rattle.rc_determinize.specs.Classes.{AreClasses, is_border}
+use Rattle.rc_dfa.specs.Machine.{forwards, backwards, Machine}
 use Rattle.rc_dfa.specs.Samples.{AreClassesBy, AreSamples}
 use Rattle.rc_dfa_search.specs.Classes.{AreClassesOf}
 use Rattle.rc_dfa_search.specs.Machines.{AreMachines, machine_by}

@@ -1,8 +1,9 @@
 -- Only proofs use this file.
 -- Reaches: how many bytes settle what a DFA search finds.
-use Rattle.std.specs.Prelude.{◌≡◌, ℕ, ◌<◌, ◌≤◌, Bool, true, false, Option, Some, None, MatchOption}
+use Rattle.std.specs.Prelude.{◌≡◌, ℕ, ◌<◌, true, false, Option, Some, None, MatchOption}
 use Rattle.rc_text.specs.Found.{Found}
 use Rattle.rc_text.specs.declared.types.Anchored.{Anchored}
+use Rattle.rc_text.specs.declared.types.Anchored.TheVariants.{No}
 use Rattle.rc_text.specs.declared.types.MatchKind.{MatchKind}
 use Rattle.rc_program.specs.Answer.{Search}
 use Rattle.rc_program.specs.Kinds.{answer_by}
@@ -10,12 +11,18 @@ use Rattle.rc_program.specs.Text.{Text}
 use Rattle.rc_reach.specs.Settled.{AgreesBelow, IsInside}
 use Rattle.rc_text.specs.Plain.{is_anchored}
 use Rattle.rc_dfa.specs.Machine.{Machine}
-use Rattle.rc_dfa.specs.Reads.{HasEndedBelow}
-use Rattle.rc_dfa.specs.Runs.{met_last, SearchEndsDown}
+use Rattle.rc_dfa.specs.Reads.{HasEndedBelow, SearchEndsBelow}
+use Rattle.rc_dfa.specs.Runs.{idle_at, met_last, SearchEndsDown}
 use Rattle.rc_dfa.specs.declared.ended.Ended.TheVariants.{Found as found_last}
 use Rattle.rc_dfa.specs.declared.ended.Met.{Met}
 use Rattle.rc_dfa_search.specs.Leftmost.{IsLeftmost}
+use Rattle.rc_dfa_search.specs.Legs.{IsGiven}
+use Rattle.rc_dfa_search.specs.Rests.{GivesToo, HasNoWalkBetween}
+use Rattle.rc_dfa_search.specs.declared.guarded.Leg.{Leg}
+use Rattle.rc_dfa_search.specs.declared.guarded.Leg.TheVariants.{Ended, Rested}
 use Rattle.rc_dfa_search.specs.declared.search.Aim.{Aim}
+use Rattle.rc_dfa_search.specs.declared.settled.Sight.{Sight}
+use Rattle.rc_dfa_search.specs.declared.settled.Sight.TheVariants.{Nowhere, Stuck, Ends}
 
 -- Each search that is the same below r has this answer.
 abbrev pub IsAnswerBelow : MatchKind → Search → ℕ → Option Found → Type 0
@@ -39,3 +46,26 @@ BeginsBy n t from end anchored start =
     (is_anchored anchored ≡ true → start ≡ Some from)
     × (is_anchored anchored ≡ false → MatchOption start (SearchEndsDown n t from end anchored false (met_last None))
     (λ x. (k : ℕ) × SearchEndsDown n t from end anchored false (met_last (Some (x, k)))))
+
+-- A run from this position on ended so, or rested here, and looked at the bytes before r alone.
+abbrev pub HasRunBelow : Machine → Text → ℕ → ℕ → ℕ → Leg → Type 0
+HasRunBelow m t hi from r (Ended met) = HasMetBelow m t hi from No r met
+HasRunBelow m t hi from r (Rested i) = SearchEndsBelow m t hi from No false (idle_at i) r
+
+-- In no search that is the same below r a walk begins before this position.
+abbrev pub NoneBeginBelow : Search → ℕ → ℕ → Type 0
+NoneBeginBelow s r from = (t : Search) → IsInside t → AgreesBelow r s t → HasNoWalkBetween t t.lo from
+
+-- In each such search all starts give what those from this position on give.
+abbrev pub GivesBelow : MatchKind → Machine → Search → ℕ → ℕ → Type 0
+GivesBelow kind m s r from = (t : Search) → IsInside t → AgreesBelow r s t → GivesToo kind m t from t.lo
+
+-- In each such search the starts give this find.
+abbrev pub IsGivenBelow : MatchKind → Machine → Search → ℕ → Met → Type 0
+IsGivenBelow kind m s r met = (t : Search) → IsInside t → AgreesBelow r s t → IsGiven kind m t (Some met)
+
+-- What a search from needle to needle says of the search.
+abbrev pub IsSight : MatchKind → Machine → Search → Sight → Type 0
+IsSight kind m s Nowhere = IsGiven kind m s None
+IsSight kind m s Stuck = Unit {0}
+IsSight kind m s (Ends met r) = (met.at < r) × IsGivenBelow kind m s r met

@@ -28,7 +28,7 @@ use rc_text::types::{Anchored, HalfMatch, Match, MatchError, MatchKind, Span};
 
 /// How far a forward run came.
 #[derive(Clone, Copy)]
-enum Leg {
+pub(crate) enum Leg {
     /// To its end, with what it found last, if anything.
     Ended(Option<Met>),
     /// To this position, at which it rests: nothing was found, and nothing is under way there.
@@ -53,7 +53,7 @@ pub fn goes_by_needles(aim: Aim, anchored: Anchored) -> bool
 /// Returns how far a forward run came that began at `from`, or why it has no answer. A run rests at
 /// a position from `from` to `bound`.
 #[inline(always)]
-fn leg_of(ended: Ended, from: usize, bound: usize) -> Result<Leg, MatchError>
+pub(crate) fn leg_of(ended: Ended, from: usize, bound: usize) -> Result<Leg, MatchError>
     ensures { result ≡ leg_of ended from bound }
 {
     match ended {

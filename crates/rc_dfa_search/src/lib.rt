@@ -9,3 +9,4 @@ pub mod laws;
 pub mod literals;
 pub mod reach;
 pub mod search;
+pub mod settled;

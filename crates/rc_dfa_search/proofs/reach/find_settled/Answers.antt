@@ -1,6 +1,6 @@
-use Rattle.std.proofs.Common.{◌≡◌, ◌∙◌, ◌+◌, ◌<◌, ◌≤◌, ℕ, List, Option, Some, None, IfOk, max, min, ap, sym, subst, refl, arith}
+use Rattle.std.proofs.Common.{◌≡◌, ◌∙◌, ◌≤◌, ℕ, List, Option, Some, None, IfOk, max, min, ap, sym, subst, arith}
 use Rattle.rc_text.specs.Found.{Found}
-use Rattle.rc_text.specs.Text.{Searched, Keeps, low, high}
+use Rattle.rc_text.specs.Text.{Searched, low, high}
 use Rattle.rc_pattern.specs.Re.{Re}
 use Rattle.rc_program.specs.Sought.{text_of}
 use Rattle.rc_program.specs.Text.{Text}
