@@ -21,8 +21,8 @@ use Rattle.rc_dfa_search.specs.Rests.{GivesToo, HasNoWalkBetween}
 use Rattle.rc_dfa_search.specs.declared.guarded.Leg.{Leg}
 use Rattle.rc_dfa_search.specs.declared.guarded.Leg.TheVariants.{Ended, Rested}
 use Rattle.rc_dfa_search.specs.declared.search.Aim.{Aim}
-use Rattle.rc_dfa_search.specs.declared.settled.Sight.{Sight}
-use Rattle.rc_dfa_search.specs.declared.settled.Sight.TheVariants.{Nowhere, Stuck, Ends}
+use Rattle.rc_dfa_search.specs.declared.settled.Ending.{Ending}
+use Rattle.rc_dfa_search.specs.declared.settled.Ending.TheVariants.{Nowhere, Stuck, Ends}
 
 -- Each search that is the same below r has this answer.
 abbrev pub IsAnswerBelow : MatchKind → Search → ℕ → Option Found → Type 0
@@ -65,7 +65,7 @@ abbrev pub IsGivenBelow : MatchKind → Machine → Search → ℕ → Met → T
 IsGivenBelow kind m s r met = (t : Search) → IsInside t → AgreesBelow r s t → IsGiven kind m t (Some met)
 
 -- What a search from needle to needle says of the search.
-abbrev pub IsSight : MatchKind → Machine → Search → Sight → Type 0
-IsSight kind m s Nowhere = IsGiven kind m s None
-IsSight kind m s Stuck = Unit {0}
-IsSight kind m s (Ends met r) = (met.at < r) × IsGivenBelow kind m s r met
+abbrev pub IsEnding : MatchKind → Machine → Search → Ending → Type 0
+IsEnding kind m s Nowhere = IsGiven kind m s None
+IsEnding kind m s Stuck = Unit {0}
+IsEnding kind m s (Ends met r) = (met.at < r) × IsGivenBelow kind m s r met

@@ -12,7 +12,7 @@ ghost use Rattle.rc_literals.specs.Guard.{BeginsFor, IsGuard, guard_needles};
 ghost use Rattle.rc_dfa_search.specs.Aims.{AreHalvesOf, search_for};
 ghost use Rattle.rc_dfa_search.specs.Firsts.{AsksFirst, starting_at};
 ghost use Rattle.rc_dfa_search.specs.Legs.{ComesOn};
-ghost use Rattle.rc_dfa_search.specs.Reaches.{HasRunBelow, IsAnswerBelow, IsGivenBelow, IsSight, NoneBeginBelow, TellsReach};
+ghost use Rattle.rc_dfa_search.specs.Reaches.{HasRunBelow, IsAnswerBelow, IsGivenBelow, IsEnding, NoneBeginBelow, TellsReach};
 
 use crate::guarded::{Leg, leg_of};
 use crate::reach::{Settled, find_settled};
@@ -26,7 +26,7 @@ use rc_text::types::{Anchored, Match, MatchError, Span};
 
 /// How far a forward run came, and how far it looked.
 #[derive(Clone, Copy)]
-struct Look {
+struct ReadLeg {
     leg: Leg,
     /// It looked at no byte from this position on.
     read: usize,
@@ -34,7 +34,7 @@ struct Look {
 
 /// A position before which no match begins.
 #[derive(Clone, Copy)]
-struct Passed {
+struct Skipped {
     at: usize,
     /// How many bytes of the content tell so.
     reach: usize,
@@ -42,7 +42,7 @@ struct Passed {
 
 /// What a search from needle to needle came to.
 #[derive(Clone, Copy)]
-enum Sight {
+enum Ending {
     /// There is no match.
     Nowhere,
     /// A run rested where it began, so needles don't help.
@@ -65,14 +65,14 @@ fn longest_of(guard: Guard) -> usize
 /// Runs forwards from the position `from` up to `bound`, and returns how far it came and looked.
 /// The run may rest, from `rest_from` on. An `Err` says why the DFA has no answer.
 #[inline(always)]
-fn look_leg<H: Halves, C: Cursor>(
+fn read_leg<H: Halves, C: Cursor>(
     halves: &H,
     cache: &mut H::Cache,
     input: &mut Input<C>,
     from: usize,
     bound: usize,
     rest_from: usize,
-) -> Result<Look, MatchError>
+) -> Result<ReadLeg, MatchError>
     requires cache { H.IsCache halves.now cache.old }
     requires low { low input.old ≤ from }
     requires bound { bound ≡ high input.old }
@@ -81,13 +81,13 @@ fn look_leg<H: Halves, C: Cursor>(
     ensures keeps { Keeps input.old input.new }
     ensures leg { (aim : Aim) (hs : List Re) (terminator : ℕ)
         (of : AreHalvesOf (H.AreOf halves.now) aim hs terminator)
-        → IfOk result (λ look. HasRunBelow of.ahead (text_of terminator input.old) (high input.old)
-        from look.read look.leg) }
-    ensures on { IfOk result (λ look. ComesOn from (high input.old) look.leg) }
+        → IfOk result (λ run. HasRunBelow of.ahead (text_of terminator input.old) (high input.old)
+        from run.read run.leg) }
+    ensures on { IfOk result (λ run. ComesOn from (high input.old) run.leg) }
 {
     let run = halves.run_forwards(cache, input, Anchored::No, from, false, true, rest_from);
     let leg = leg_of(run.ended, from, bound)?;
-    Ok(Look {
+    Ok(ReadLeg {
         leg,
         read: run.read,
     })
@@ -139,43 +139,43 @@ fn seek_settled<H: Halves, C: Cursor>(
     guard: Guard,
     longest_len: usize,
     bound: usize,
-    passed: Passed,
-) -> Result<Sight, MatchError>
+    skipped: Skipped,
+) -> Result<Ending, MatchError>
     requires cache { H.IsCache halves.now cache.old }
     requires longest { longest_len ≡ longest (guard_needles guard) }
     requires bound { bound ≡ high input.old }
-    requires low { low input.old ≤ passed.at }
-    requires high { passed.at ≤ bound }
-    requires far { passed.at ≤ passed.reach }
+    requires low { low input.old ≤ skipped.at }
+    requires high { skipped.at ≤ bound }
+    requires far { skipped.at ≤ skipped.reach }
     ensures cache { H.IsCache halves.now cache.new }
     ensures keeps { Keeps input.old input.new }
-    ensures sight { (aim : Aim) (hs : List Re) (terminator : ℕ)
+    ensures ending { (aim : Aim) (hs : List Re) (terminator : ℕ)
         (of : AreHalvesOf (H.AreOf halves.now) aim hs terminator)
         → IsGuard (program hs) terminator guard.entry → AsksFirst aim input.old.anchored
-        → NoneBeginBelow (search_for aim hs terminator input.old) passed.reach passed.at
-        → IfOk result (IsSight aim.kind of.ahead (search_for aim hs terminator input.old)) }
+        → NoneBeginBelow (search_for aim hs terminator input.old) skipped.reach skipped.at
+        → IfOk result (IsEnding aim.kind of.ahead (search_for aim hs terminator input.old)) }
 {
     content_fits(input);
-    let mut at = passed.at;
-    let mut reach = passed.reach;
+    let mut at = skipped.at;
+    let mut reach = skipped.reach;
     'runs: loop {
         let Some(start) = next_start(input, guard, at, bound) else {
-            return Ok(Sight::Nowhere);
+            return Ok(Ending::Nowhere);
         };
         let from = start.from;
-        let look = look_leg(halves, cache, input, from, bound, start.needle)?;
+        let came = read_leg(halves, cache, input, from, bound, start.needle)?;
         let sought = start.needle.saturating_add(longest_len);
-        reach = reach.max(sought).max(look.read);
-        match look.leg {
+        reach = reach.max(sought).max(came.read);
+        match came.leg {
             Leg::Ended(ended) => {
                 let Some(met) = ended else {
-                    return Ok(Sight::Nowhere);
+                    return Ok(Ending::Nowhere);
                 };
-                return Ok(Sight::Ends { met, reach });
+                return Ok(Ending::Ends { met, reach });
             }
             Leg::Rested(i) => {
                 if i <= from {
-                    return Ok(Sight::Stuck);
+                    return Ok(Ending::Stuck);
                 }
                 at = i;
             }
@@ -219,7 +219,7 @@ fn settle_back<H: Halves, C: Cursor>(
 }
 
 /// Returns the match, and how many bytes settle it, from needle to needle. No match begins before
-/// the position that was passed.
+/// the position that was skipped.
 #[inline(never)]
 fn settle_on<H: Halves, C: Cursor>(
     halves: &H,
@@ -228,30 +228,30 @@ fn settle_on<H: Halves, C: Cursor>(
     aim: Aim,
     guard: Guard,
     longest_len: usize,
-    passed: Passed,
+    skipped: Skipped,
 ) -> Result<Settled, MatchError>
     requires cache { H.IsCache halves.now cache.old }
     requires goes { AsksFirst aim input.old.anchored }
     requires longest { longest_len ≡ longest (guard_needles guard) }
-    requires low { low input.old ≤ passed.at }
-    requires high { passed.at ≤ high input.old }
-    requires far { passed.at ≤ passed.reach }
+    requires low { low input.old ≤ skipped.at }
+    requires high { skipped.at ≤ high input.old }
+    requires far { skipped.at ≤ skipped.reach }
     ensures cache { H.IsCache halves.now cache.new }
     ensures keeps { Keeps input.old input.new }
     ensures settled { (hs : List Re) (terminator : ℕ)
         → AreHalvesOf (H.AreOf halves.now) aim hs terminator
         → IsGuard (program hs) terminator guard.entry
-        → NoneBeginBelow (search_for aim hs terminator input.old) passed.reach passed.at
+        → NoneBeginBelow (search_for aim hs terminator input.old) skipped.reach skipped.at
         → IfOk result (λ o. IsAnswerBelow aim.kind
         (search_for aim hs terminator input.old) o.reach o.found) }
     ensures within { IfOk result (λ o. IfSome o.found (IsWithinBounds input.old)) }
 {
     content_fits(input);
     let bound = high(input);
-    match seek_settled(halves, cache, input, guard, longest_len, bound, passed)? {
-        Sight::Ends { met, reach } => settle_back(halves, cache, input, aim, met, reach),
-        Sight::Stuck => find_settled(halves, cache, input, aim),
-        Sight::Nowhere => Ok(Settled {
+    match seek_settled(halves, cache, input, guard, longest_len, bound, skipped)? {
+        Ending::Ends { met, reach } => settle_back(halves, cache, input, aim, met, reach),
+        Ending::Stuck => find_settled(halves, cache, input, aim),
+        Ending::Nowhere => Ok(Settled {
             found: None,
             reach: usize::MAX,
         }),
@@ -311,7 +311,7 @@ fn settle_from<H: Halves, C: Cursor>(
         aim,
         guard,
         longest_len,
-        Passed { at, reach },
+        Skipped { at, reach },
     )
 }
 

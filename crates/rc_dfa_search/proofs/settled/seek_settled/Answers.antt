@@ -33,12 +33,12 @@ runs-init g c =
       low = above;
       high = below;
       carried = λ aim hs terminator of guards goes none.
-          all_below (g.H.Halves.AreOf c.args.halves.now) aim hs terminator of c.args.input.now goes (omega (arith, above, below, bound)) c.args.passed.reach c.args.passed.at
+          all_below (g.H.Halves.AreOf c.args.halves.now) aim hs terminator of c.args.input.now goes (omega (arith, above, below, bound)) c.args.skipped.reach c.args.skipped.at
           above (omega (arith, below, bound)) c.requires.far none;
     }
 
-pub returns-in_default-clause-sight : goal.returns-in_default-clause-sight
-returns-in_default-clause-sight g c aim hs terminator of guards goes none =
+pub returns-in_default-clause-ending : goal.returns-in_default-clause-ending
+returns-in_default-clause-ending g c aim hs terminator of guards goes none =
     let s = c.args.input.now in
     let i = c.runs.invariant in
     let above = c.requires.low in
@@ -71,7 +71,7 @@ module _ (g : Over) (c : After-max-reach g) where
   more : c.runs.reach ≤ c.max-reach.result
   more = omega (arith, c.max.ensures, c.max-reach.ensures)
 
-  read : c.in_ok-look.look.read ≤ c.max-reach.result
+  read : c.in_ok-came.came.read ≤ c.max-reach.result
   read = omega (arith, c.max-reach.ensures)
 
   far : min (c.in-Some.start.needle + longest (guard_needles c.args.guard)) (high c.args.input.now + 1) ≤ c.max-reach.result
@@ -84,34 +84,34 @@ module _ (g : Over) (c : After-max-reach g) where
 
   module _ (aim : Aim) (hs : List Re) (terminator : ℕ) (of : AreHalvesOf (g.H.Halves.AreOf c.args.halves.now) aim hs terminator)
       (guards : IsGuard (program hs) terminator c.args.guard) (goes : AsksFirst aim c.args.input.now.anchored)
-      (none : NoneBeginBelow (search_for aim hs terminator c.args.input.now) c.args.passed.reach c.args.passed.at) where
+      (none : NoneBeginBelow (search_for aim hs terminator c.args.input.now) c.args.skipped.reach c.args.skipped.at) where
     carried : GivesBelow aim.kind of.ahead (search_for aim hs terminator c.args.input.now) c.runs.reach c.runs.at
     carried = c.runs.invariant.carried aim hs terminator of guards goes none
 
-    leg : (l : Leg) → c.in_ok-look.look.leg ≡ l →
-        HasRunBelow of.ahead (search_for aim hs terminator c.args.input.now).text (high c.args.input.now) c.in-Some.start.from c.in_ok-look.look.read l
+    leg : (l : Leg) → c.in_ok-came.came.leg ≡ l →
+        HasRunBelow of.ahead (search_for aim hs terminator c.args.input.now).text (high c.args.input.now) c.in-Some.start.from c.in_ok-came.came.read l
     leg l is =
-        subst (λ (q : Search). HasRunBelow of.ahead q.text q.hi c.in-Some.start.from c.in_ok-look.look.read l)
+        subst (λ (q : Search). HasRunBelow of.ahead q.text q.hi c.in-Some.start.from c.in_ok-came.came.read l)
         (kept_search aim hs terminator c.args.input.now c.next_start.new.input before)
-        (subst (HasRunBelow of.ahead (search_for aim hs terminator c.next_start.new.input).text (high c.next_start.new.input) c.in-Some.start.from c.in_ok-look.look.read) is
-        (c.in_ok-look.ensures.leg aim hs terminator of))
+        (subst (HasRunBelow of.ahead (search_for aim hs terminator c.next_start.new.input).text (high c.next_start.new.input) c.in-Some.start.from c.in_ok-came.came.read) is
+        (c.in_ok-came.ensures.leg aim hs terminator of))
 
-pub returns-in-Ended-clause-sight : goal.returns-in-Ended-clause-sight
-returns-in-Ended-clause-sight g c aim hs terminator of guards goes none =
-    let k = (goal.at.returns-in-Ended-clause-sight g c).After-max-reach in
+pub returns-in-Ended-clause-ending : goal.returns-in-Ended-clause-ending
+returns-in-Ended-clause-ending g c aim hs terminator of guards goes none =
+    let k = (goal.at.returns-in-Ended-clause-ending g c).After-max-reach in
     let w = c.in-Some.ensures.within in
     given_below (g.H.Halves.AreOf c.args.halves.now) aim hs terminator of c.args.input.now goes (ordered g k) c.args.guard guards c.runs.at c.in-Some.start (first g k) (begins g k)
     c.runs.invariant.low w.0 w.1 (high_needle g k) c.runs.reach c.max-reach.result (more g k) (far g k) (carried g k aim hs terminator of guards goes none)
-    c.in_ok-look.look.read (read g k) c.in-Some-ended.met
+    c.in_ok-came.came.read (read g k) c.in-Some-ended.met
     (leg g k aim hs terminator of guards goes none (Ended (Some c.in-Some-ended.met)) (c.in-Ended.is ∙ ap Ended c.in-Some-ended.is))
 
-pub returns-in_default-ended-clause-sight : goal.returns-in_default-ended-clause-sight
-returns-in_default-ended-clause-sight g c aim hs terminator of guards goes none =
-    let k = (goal.at.returns-in_default-ended-clause-sight g c).After-max-reach in
+pub returns-in_default-ended-clause-ending : goal.returns-in_default-ended-clause-ending
+returns-in_default-ended-clause-ending g c aim hs terminator of guards goes none =
+    let k = (goal.at.returns-in_default-ended-clause-ending g c).After-max-reach in
     let w = c.in-Some.ensures.within in
     none_given (g.H.Halves.AreOf c.args.halves.now) aim hs terminator of c.args.input.now goes (ordered g k) c.args.guard guards c.runs.at c.in-Some.start (first g k) (begins g k)
     c.runs.invariant.low w.0 w.1 (high_needle g k) c.runs.reach c.max-reach.result (more g k) (far g k) (carried g k aim hs terminator of guards goes none)
-    c.in_ok-look.look.read (read g k)
+    c.in_ok-came.came.read (read g k)
     (leg g k aim hs terminator of guards goes none (Ended None) (c.in-Ended.is ∙ ap Ended c.in_default-ended.is))
 
 pub runs-preserved : goal.runs-preserved
@@ -120,17 +120,17 @@ runs-preserved g c =
     let w = c.in-Some.ensures.within in
     let low_from = w.0 in
     let above = c.runs.invariant.low in
-    let on = came_on c.args.input.now c.args.bound c.requires.bound c.next_start.new.input (before g k) c.in-Some.start.from c.in_ok-look.look.leg c.in-Rested.i
-    c.in_ok-look.ensures.on c.in-Rested.is in
+    let on = came_on c.args.input.now c.args.bound c.requires.bound c.next_start.new.input (before g k) c.in-Some.start.from c.in_ok-came.came.leg c.in-Rested.i
+    c.in_ok-came.ensures.on c.in-Rested.is in
     let low_i = on.0 in
     record {
-      cache = c.in_ok-look.ensures.cache;
-      keeps = kept_then c.args.input.now c.next_start.new.input c.look_leg.new.input (before g k) c.look_leg.ensures.keeps;
+      cache = c.in_ok-came.ensures.cache;
+      keeps = kept_then c.args.input.now c.next_start.new.input c.read_leg.new.input (before g k) c.read_leg.ensures.keeps;
       low = omega (arith, above, low_from, low_i);
       high = on.1;
       carried = λ aim hs terminator of guards goes none.
           rested_below (g.H.Halves.AreOf c.args.halves.now) aim hs terminator of c.args.input.now goes (ordered g k) c.args.guard guards c.runs.at c.in-Some.start (first g k) (begins g k)
           c.runs.invariant.low w.0 w.1 (high_needle g k) c.runs.reach c.max-reach.result (more g k) (far g k) (carried g k aim hs terminator of guards goes none)
-          c.in_ok-look.look.read (read g k) c.in-Rested.i
+          c.in_ok-came.came.read (read g k) c.in-Rested.i
           (leg g k aim hs terminator of guards goes none (Rested c.in-Rested.i) c.in-Rested.is);
     }

@@ -17,7 +17,7 @@ invariant-runs g l = record {
   low : low l.fn.input ≤ l.at;
   high : l.at ≤ l.bound;
   carried : (aim : Aim) (hs : List Re) (terminator : ℕ) (of : AreHalvesOf (g.H.Halves.AreOf l.halves) aim hs terminator) → IsGuard (program hs) terminator l.guard
-      → AsksFirst aim l.fn.input.anchored → NoneBeginBelow (search_for aim hs terminator l.fn.input) l.fn.passed.reach l.fn.passed.at
+      → AsksFirst aim l.fn.input.anchored → NoneBeginBelow (search_for aim hs terminator l.fn.input) l.fn.skipped.reach l.fn.skipped.at
       → GivesBelow aim.kind of.ahead (search_for aim hs terminator l.fn.input) l.reach l.at;
 }
 

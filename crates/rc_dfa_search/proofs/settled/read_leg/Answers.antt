@@ -3,7 +3,7 @@ use Rattle.rc_text.specs.Text.{high}
 use Rattle.rc_program.specs.Sought.{text_of}
 use Rattle.rc_dfa_search.specs.Reaches.{HasRunBelow}
 use Rattle.rc_dfa_search.proofs.SettledLemmas.{leg_below}
-use Rattle.rc_dfa_search.proofs.settled.look_leg.Goals as goal
+use Rattle.rc_dfa_search.proofs.settled.read_leg.Goals as goal
 
 pub returns-clause-leg : goal.returns-clause-leg
 returns-clause-leg g c aim hs terminator of =
