@@ -51,11 +51,12 @@ impl Regex {
     ///
     /// The reach is right, but needn't be the least. If no pattern matches more than n bytes, a
     /// match has a reach of at most n + 4 bytes from its start, except under `MatchKind::All`. So
-    /// does an anchored search from its own start, also without a match. If a DFA reads along the
-    /// text by no literals, and no match is passed over, the reach ends where it saw that nothing
-    /// goes on. If the Pike VM does, for a leftmost-first match, it ends at most four bytes after
-    /// those that its walks read. Otherwise the reach goes to the end of the slice, and one
-    /// further.
+    /// does an anchored search from its own start, also without a match. If a DFA searches forwards
+    /// for a leftmost match, and none is passed over, the reach ends where it saw that nothing goes
+    /// on, or as far as the longest literal would reach from the last one that it tried. If the
+    /// Pike VM reads along the text by no literals, for a leftmost-first match, it ends at most
+    /// four bytes after those that its walks read. Otherwise the reach goes to the end of the
+    /// slice, and one further.
     pub fn search_reach_with<C: Cursor>(&self, cache: &mut Cache, input: &mut Input<C>) -> Reached
         requires made { IsCacheFor (regex_patterns self.now) (regex_settings self.now) cache.old }
         ensures cache { IsCacheFor (regex_patterns self.now) (regex_settings self.now) cache.new }
