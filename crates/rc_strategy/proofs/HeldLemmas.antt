@@ -1,5 +1,5 @@
 -- Searches whose matches all begin where they start: anchored there, they give the same.
-use Rattle.std.proofs.Common.{◌≡◌, ◌∙◌, ℕ, ◌<◌, Bool, true, false, true≢false, List, Option, Some, None, Result, IfOk, IsTrue, inl, inr, ⊎_elim, ap, sym, subst, refl, arith}
+use Rattle.std.proofs.Common.{◌≡◌, ◌∙◌, ℕ, ◌<◌, ◌≤◌, Bool, true, false, true≢false, List, Option, Some, None, Result, IfOk, IsTrue, inl, inr, ⊎_elim, ap, sym, subst, refl, arith}
 use Rattle.std.proofs.lemmas.Bool.{cases_lt}
 use Rattle.std.proofs.lemmas.Result.{IfOk-weaker}
 use Rattle.rc_text.specs.Found.{Found}
@@ -13,21 +13,23 @@ use Rattle.rc_walks.specs.Walks.{Pair}
 use Rattle.rc_program.specs.Text.{Text}
 use Rattle.rc_program.specs.Program.{Place, place_at}
 use Rattle.rc_program.specs.Places.{places_of}
-use Rattle.rc_program.specs.Answer.{Search, Chosen, HasNoWalkFrom, IsFirstFrom, IsStart, anywhere, answer, at_start, ends, found, last_of, next_of, only}
+use Rattle.rc_program.specs.Answer.{Anchoring, Search, Chosen, HasNoWalkFrom, IsFirstFrom, IsStart, anywhere, answer, at_start, ends, found, last_of, next_of, only}
 use Rattle.rc_program.specs.Greatest.{IsSpelledIn, greatest}
 use Rattle.rc_program.specs.Kinds.{IsAnswerBy, IsAnswerWhere, answer_by, is_early}
 use Rattle.rc_program.specs.Longest.{HasNoAnswerOf, IsAnswerOf, IsLongestFrom, longest}
-use Rattle.rc_program.specs.Sought.{text_of}
+use Rattle.rc_program.specs.Sought.{anchoring_of, text_of}
 use Rattle.rc_program.proofs.AnswerLemmas.{answer_law, match_place_is, walk_ends}
-use Rattle.rc_program.proofs.GreatestLemmas.{greatest_law}
+use Rattle.rc_program.proofs.GreatestLemmas.{greatest_law, spelled_within}
 use Rattle.rc_program.proofs.ReachLemmas.{longest_law}
+use Rattle.rc_reach.specs.Settled.{AgreesBelow, IsInside}
+use Rattle.rc_dfa_search.specs.Reaches.{IsAnswerBelow}
 use Rattle.rc_pikevm.specs.PatternSpans.{AddsSpelled}
 use Rattle.rc_pikevm_search.specs.Engine.{engine_search}
 use Rattle.rc_pikevm_search.specs.declared.engine.Engine.{Engine}
 use Rattle.rc_strategy.specs.Lengths.{BoundsWalks, IsHeld, SeeksFromStart}
 use Rattle.rc_strategy.specs.Starts.{unpassed}
 use Rattle.rc_strategy.specs.declared.lengths.Lengths.{Lengths}
-use Rattle.rc_strategy.proofs.SpanLemmas.{begins_at_bound}
+use Rattle.rc_strategy.proofs.SpanLemmas.{begins_at_bound, starts_at}
 
 module _ (places : List Place) (text : Text) (lo hi : ℕ) (over : Bool) where
   -- the search
@@ -155,6 +157,42 @@ module _ (e : Engine) (k : Lengths) (s : Searched) (bound : BoundsWalks k (place
       IfOk r (IsAnswerBy e.kind earliest (engine_search e t)) → IfOk r (IsAnswerBy e.kind earliest (engine_search e s))
   start_may_ok t earliest r is h =
       IfOk-weaker r _ _ (start_may earliest) (subst (λ x. IfOk r (IsAnswerBy e.kind earliest (engine_search e x))) is h)
+
+  module _ (t : Search) (inside : IsInside t) (r : ℕ) (agrees : AgreesBelow r (engine_search e s) t) where
+    first_too : (m : Found) → IsSpelledIn (Free t.places t.text t.lo t.hi t.passes_over) m → m.start ≡ t.lo
+    first_too m h =
+        let w = spelled_within (Free t.places t.text t.lo t.hi t.passes_over) m h in
+        let above = w.0 in
+        let ordered = w.1 in
+        let up = w.2 in
+        let lo = inside.lo in
+        let hi = inside.hi in
+        let end = inside.slice_end in
+        let at = starts_at t.text m.start (omega (arith, ordered, up, hi, end)) ((bound (Free t.places t.text t.lo t.hi t.passes_over) m agrees.places h).begins from.1) in
+        omega (arith, at, above, lo)
+
+    held_too : AgreesBelow r (engine_search e (anchored_so s Yes)) (Held t.places t.text t.lo t.hi t.passes_over)
+    held_too = record {
+      places = agrees.places;
+      terminator = agrees.terminator;
+      slice_start = agrees.slice_start;
+      lo = agrees.lo;
+      anchoring = refl;
+      passes_over = agrees.passes_over;
+      read = agrees.read;
+      seen = agrees.seen;
+      content = agrees.content;
+    }
+
+    free_too : t.anchoring ≡ anywhere
+    free_too = agrees.anchoring ∙ ap anchoring_of from.0
+
+  -- the bytes that settle it settle the search
+  pub start_below : (o : Option Found) (r : ℕ) → IsAnswerBelow e.kind (engine_search e (anchored_so s Yes)) r o → IsAnswerBelow e.kind (engine_search e s) r o
+  start_below o r h t inside agrees =
+      let held = h (Held t.places t.text t.lo t.hi t.passes_over) (record { lo = inside.lo; hi = inside.hi; slice_end = inside.slice_end }) (held_too t inside r agrees) in
+      sym (subst (λ (a : Anchoring). o ≡ answer_by e.kind (record t { anchoring = a })) (sym (free_too t inside r agrees))
+      (held_match t.places t.text t.lo t.hi t.passes_over (first_too t inside r agrees) e.kind o held))
 
   -- and it spells the same
   start_adds : (set new : List Bool) → AddsSpelled (engine_search e (anchored_so s Yes)) set new → AddsSpelled (engine_search e s) set new

@@ -133,7 +133,7 @@ edge_after [] e = refl
 edge_after (b ∷ bs) e = absurd (true≢false (sym e))
 
 -- where the start assertion holds, the slice starts
-starts_at : (t : Text) (i : ℕ) → i ≤ length t.content → IsTrue (holds t Start i) → i ≤ t.slice_start
+pub starts_at : (t : Text) (i : ℕ) → i ≤ length t.content → IsTrue (holds t Start i) → i ≤ t.slice_start
 starts_at t i within h =
     let none = edge_before (behind t i) h in let long = length-slice_range t.content t.slice_start i within in omega (arith, none, long)
 

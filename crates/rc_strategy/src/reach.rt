@@ -9,11 +9,13 @@ use crate::route::{Route, TableChoice};
 use rc_dense_dfa::dense::NoCache;
 use rc_dfa::halves::Halves;
 use rc_dfa_search::reach::{Settled, find_settled, tells_reach};
+use rc_dfa_search::settled::find_settled_guarded;
 use rc_lazy_dfa::lazy;
+use rc_literals::guard::Guard;
 use rc_pikevm_search::literals::guards_of;
 use rc_text::cursor::Cursor;
 use rc_text::input::{Input, content_fits};
-use rc_text::types::{Match, MatchError};
+use rc_text::types::{Anchored, Match, MatchError};
 
 /// A search that may have looked at the end of the slice and the byte there.
 #[inline(always)]
@@ -29,34 +31,117 @@ pub(crate) fn settled_at_end<C: Cursor>(input: &Input<C>, found: Option<Match>) 
 }
 
 impl Engines {
-    ghost use Rattle.std.specs.Prelude.{◌≡◌, ◌≤◌, IfOk, IfSome, IsTrue};
+    ghost use Rattle.std.specs.Prelude.{◌≡◌, ◌≤◌, IfOk, IfSome, IsTrue, Some, true};
     ghost use Rattle.rc_text.specs.Bounds.{IsWithinBounds};
     ghost use Rattle.rc_text.specs.Text.{Keeps};
+    ghost use Rattle.rc_text.specs.declared.types.Anchored.TheVariants.{No};
     ghost use Rattle.rc_pikevm_search.specs.Engine.{engine_search};
     ghost use Rattle.rc_dfa_search.specs.Reaches.{IsAnswerBelow, TellsReach};
     ghost use Rattle.rc_strategy.specs.Caches.{IsCacheIn, IsCacheOfBoth, IsSameCacheIn, KeepsStates};
+    ghost use Rattle.rc_strategy.specs.Routes.{MayGuard};
     ghost use Rattle.rc_strategy.specs.Tables.{AreHalvesFor, aim_of};
 
-    /// Whether a DFA search of this input goes along the text from its start on, and so tells its
-    /// reach: it is anchored, or goes by no literals.
+    /// Whether a DFA search of this input tells its reach: it goes forwards, and the match is
+    /// leftmost.
     #[inline(always)]
-    fn goes_along<C: Cursor>(&self, input: &Input<C>) -> bool
+    fn tells_reach<C: Cursor>(&self, input: &Input<C>) -> bool
         ensures { IsTrue result → TellsReach (aim_of self.now.engine self.now.patterns) }
     {
         if !tells_reach(self.aim()) {
             return false;
         }
         match self.route(input) {
-            Route::Along => {
-                let is_free = self.guard().is_none() && guards_of(&self.engine.literals).is_none();
-                is_free || input.get_anchored().is_anchored()
-            }
-            _ => false,
+            Route::Along | Route::FromStart => true,
+            Route::FromEnd | Route::OfLength(_) => false,
         }
     }
 
-    /// Returns the match by a DFA search, and how many bytes settle it. An `Err` says why the DFA
-    /// has no answer.
+    /// Returns the match by a DFA search that is anchored where it starts, if each match begins
+    /// there, and how many bytes settle it. An `Err` says why the DFA has no answer.
+    fn settle_from_start<H: Halves, C: Cursor>(
+        &self,
+        halves: &H,
+        cache: &mut H::Cache,
+        input: &mut Input<C>,
+    ) -> Result<Settled, MatchError>
+        requires own { ∥ AreHalvesFor self.now.engine self.now.patterns (H.AreOf halves.now) ∥₁ }
+        requires cache { H.IsCache halves.now cache.old }
+        requires tells { TellsReach (aim_of self.now.engine self.now.patterns) }
+        requires free { input.old.anchored ≡ No }
+        requires begins { self.now.spans.begins ≡ true }
+        ensures cache { H.IsCache halves.now cache.new }
+        ensures keeps { Keeps input.old input.new }
+        ensures settled { IfOk result (λ o. IsAnswerBelow self.now.engine.kind
+            (engine_search self.now.engine input.old) o.reach o.found) }
+        ensures within { IfOk result (λ o. IfSome o.found (IsWithinBounds input.old)) }
+    {
+        let aim = self.aim();
+        let anchored = input.get_anchored();
+        input.set_anchored(Anchored::Yes);
+        let settled = find_settled(halves, cache, input, aim);
+        input.set_anchored(anchored);
+        settled
+    }
+
+    /// Returns the match by a DFA search, if each match begins with a needle and the search for
+    /// these is slow, and how many bytes settle it. If the DFA quits, it searches once more, from
+    /// needle to needle. An `Err` says why the DFA has no answer.
+    #[inline(always)]
+    fn settle_past_quit<H: Halves, C: Cursor>(
+        &self,
+        halves: &H,
+        cache: &mut H::Cache,
+        input: &mut Input<C>,
+        guard: Guard,
+    ) -> Result<Settled, MatchError>
+        requires own { ∥ AreHalvesFor self.now.engine self.now.patterns (H.AreOf halves.now) ∥₁ }
+        requires cache { H.IsCache halves.now cache.old }
+        requires tells { TellsReach (aim_of self.now.engine self.now.patterns) }
+        requires guards { MayGuard self.now.engine (Some guard) }
+        ensures cache { H.IsCache halves.now cache.new }
+        ensures keeps { Keeps input.old input.new }
+        ensures settled { IfOk result (λ o. IsAnswerBelow self.now.engine.kind
+            (engine_search self.now.engine input.old) o.reach o.found) }
+        ensures within { IfOk result (λ o. IfSome o.found (IsWithinBounds input.old)) }
+    {
+        let aim = self.aim();
+        let settled = find_settled_guarded(halves, cache, input, aim, guard, false);
+        if let Err(MatchError::Quit { .. }) = settled {
+            return find_settled_guarded(halves, cache, input, aim, guard, true);
+        }
+        settled
+    }
+
+    /// Returns the match by a DFA search along the text, from literal to literal if there are some,
+    /// and how many bytes settle it. An `Err` says why the DFA has no answer.
+    #[inline(always)]
+    fn settle_forwards<H: Halves, C: Cursor>(
+        &self,
+        halves: &H,
+        cache: &mut H::Cache,
+        input: &mut Input<C>,
+    ) -> Result<Settled, MatchError>
+        requires own { ∥ AreHalvesFor self.now.engine self.now.patterns (H.AreOf halves.now) ∥₁ }
+        requires cache { H.IsCache halves.now cache.old }
+        requires tells { TellsReach (aim_of self.now.engine self.now.patterns) }
+        ensures cache { H.IsCache halves.now cache.new }
+        ensures keeps { Keeps input.old input.new }
+        ensures settled { IfOk result (λ o. IsAnswerBelow self.now.engine.kind
+            (engine_search self.now.engine input.old) o.reach o.found) }
+        ensures within { IfOk result (λ o. IfSome o.found (IsWithinBounds input.old)) }
+    {
+        let aim = self.aim();
+        if let Some(guard) = self.guard() {
+            return find_settled_guarded(halves, cache, input, aim, guard, true);
+        }
+        match guards_of(&self.engine.literals) {
+            Some(needles) => { self.settle_past_quit(halves, cache, input, Guard::Begins(needles)) }
+            None => find_settled(halves, cache, input, aim),
+        }
+    }
+
+    /// Returns the match by a DFA search, by its route, and how many bytes settle it. An `Err` says
+    /// why the DFA has no answer.
     #[inline(always)]
     fn settle<H: Halves, C: Cursor>(
         &self,
@@ -71,11 +156,12 @@ impl Engines {
         ensures keeps { Keeps input.old input.new }
         ensures settled { IfOk result (λ o. IsAnswerBelow self.now.engine.kind
             (engine_search self.now.engine input.old) o.reach o.found) }
-        ensures past { IfOk result (λ o. IfSome o.found (λ m. m.end ≤ o.reach)) }
         ensures within { IfOk result (λ o. IfSome o.found (IsWithinBounds input.old)) }
     {
-        let aim = self.aim();
-        find_settled(halves, cache, input, aim)
+        match self.route(input) {
+            Route::FromStart => self.settle_from_start(halves, cache, input),
+            _ => self.settle_forwards(halves, cache, input),
+        }
     }
 
     /// Returns the match by the DFA, or else by the lazy DFA if the cache has its states, and how
@@ -90,7 +176,6 @@ impl Engines {
         ensures keeps { Keeps input.old input.new }
         ensures settled { IfSome result (λ o. IsAnswerBelow self.now.engine.kind
             (engine_search self.now.engine input.old) o.reach o.found) }
-        ensures past { IfSome result (λ o. IfSome o.found (λ m. m.end ≤ o.reach)) }
         ensures within { IfSome result (λ o. IfSome o.found (IsWithinBounds input.old)) }
         ensures cache { KeepsStates self.now.lazy cache.old cache.new }
     {
@@ -106,9 +191,8 @@ impl Engines {
         }
     }
 
-    /// Returns the match by a DFA, and how many bytes settle it: those at which the run forwards
-    /// looked, if the search goes along the text. Returns None if there is no DFA, or it has no
-    /// answer.
+    /// Returns the match by a DFA, and how many bytes settle it: those at which a search forwards
+    /// looked, if the match is leftmost. Returns None if there is no DFA, or it has no answer.
     fn settle_by_tables<C: Cursor>(
         &self,
         cache: &mut Option<lazy::Cache>,
@@ -118,11 +202,10 @@ impl Engines {
         ensures keeps { Keeps input.old input.new }
         ensures settled { IfSome result (λ o. IsAnswerBelow self.now.engine.kind
             (engine_search self.now.engine input.old) o.reach o.found) }
-        ensures past { IfSome result (λ o. IfSome o.found (λ m. m.end ≤ o.reach)) }
         ensures within { IfSome result (λ o. IfSome o.found (IsWithinBounds input.old)) }
         ensures cache { KeepsStates self.now.lazy cache.old cache.new }
     {
-        if self.goes_along(input) {
+        if self.tells_reach(input) {
             return self.settle_along(cache, input);
         }
         let found = self.find_in(cache, input)?;

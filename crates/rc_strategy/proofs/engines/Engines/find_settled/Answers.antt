@@ -1,6 +1,6 @@
 use Rattle.std.proofs.Common.{None}
 use Rattle.rc_strategy.proofs.CacheLemmas.{same_in}
-use Rattle.rc_strategy.proofs.ReachLemmas.{at_end}
+use Rattle.rc_strategy.proofs.ReachLemmas.{at_end, past_reach}
 use Rattle.rc_strategy.proofs.SpanLemmas.{early_none}
 use Rattle.rc_strategy.proofs.engines.Engines.find_settled.Goals as goal
 
@@ -13,3 +13,7 @@ returns-then-leave_none-clause-settled g c =
 
 pub returns-then-leave_none-clause-cache : goal.returns-then-leave_none-clause-cache
 returns-then-leave_none-clause-cache g c = same_in c.args.self.now 0 c.args.cache.now c.requires.made
+
+pub returns-in-Some-clause-past : goal.returns-in-Some-clause-past
+returns-in-Some-clause-past g c =
+    past_reach c.args.self.now.engine c.leave_none.new.input c.in-Some.settled.found c.in-Some.settled.reach c.in-Some.ensures.settled

@@ -1,14 +1,7 @@
-use Rattle.std.proofs.Common.{IfSome, subst}
-use Rattle.rc_pikevm_search.specs.Engine.{engine_search}
-use Rattle.rc_strategy.proofs.ReachLemmas.{at_end, past_end}
+use Rattle.rc_strategy.proofs.ReachLemmas.{at_end}
 use Rattle.rc_strategy.proofs.engines.Engines.settle_by_tables.Goals as goal
 
 pub returns-clause-settled : goal.returns-clause-settled
 returns-clause-settled g c =
     at_end c.args.self.now.engine c.args.input.now c.find_in.new.input c.settled_at_end.result c.in_ok-found.found c.find_in.ensures.keeps
     c.settled_at_end.ensures.found c.settled_at_end.ensures.far c.in_ok-found.ensures.found
-
-pub returns-clause-past : goal.returns-clause-past
-returns-clause-past g c =
-    past_end c.args.input.now c.find_in.new.input c.settled_at_end.result c.in_ok-found.found c.find_in.ensures.keeps
-    c.settled_at_end.ensures.found c.settled_at_end.ensures.far c.in_ok-found.ensures.within
