@@ -1,5 +1,7 @@
 -- How many bytes settle what searches find that go from needle to needle.
-use Rattle.std.proofs.Common.{◌≡◌, ℕ, ◌+◌, ◌-◌, ◌<◌, ◌≤◌, Bool, true, false, not, ◌&&◌, true≢false, List, [], ◌∷◌, length, Option, Some, None, Result, IfOk, max, min, sym, subst, ap, ◌∙◌, refl, arith, inr, ⊎_elim, take, take-take}
+use Rattle.std.proofs.Common.{◌≡◌, ℕ, ◌+◌, ◌-◌, ◌<◌, ◌≤◌, Bool, true, false, not, ◌&&◌, true≢false, List, [], ◌∷◌, length, Option, Some, None, Result, IfOk, max, min, sym, subst, ap, ◌∙◌, refl, arith, inr, ⊎_elim, take, drop, take-take, slice_range}
+use Rattle.std.specs.Prelude.{slice_index}
+use Rattle.std.proofs.lemmas.List.{get_or-take, length-take-le}
 use Rattle.std.specs.Prelude.{is_some}
 use Rattle.std.proofs.lemmas.Option.{same_Some, none-some}
 use Rattle.std.specs.List.{slice_get}
@@ -18,6 +20,8 @@ use Rattle.rc_program.specs.Sought.{anchoring_of, text_of}
 use Rattle.rc_program.specs.Spells.{Stands}
 use Rattle.rc_program.specs.Text.{Text}
 use Rattle.rc_needles.specs.Needles.{NoneAt, find_needle, longest}
+use Rattle.rc_needles.specs.Guards.{Guards}
+use Rattle.rc_needles.specs.Tables.{AreSome, BeginsWithByte, numbered}
 use Rattle.rc_needles.specs.declared.hit.Hit.{Hit}
 use Rattle.rc_needles.proofs.StartLemmas.{needle_law}
 use Rattle.rc_literals.specs.Guard.{BeginsFor, IsGuard, guard_needles}
@@ -27,7 +31,7 @@ use Rattle.rc_literals.specs.declared.guard.Start.{Start}
 use Rattle.rc_utf8.specs.Laws.{by_bytes}
 use Rattle.rc_determinize.specs.Laws.{may_end_at}
 use Rattle.rc_reach.specs.Settled.{AgreesBelow, IsInside}
-use Rattle.rc_reach.proofs.AgreeLemmas.{get_below, same_bound}
+use Rattle.rc_reach.proofs.AgreeLemmas.{get_below, range_is_rest, same_bound}
 use Rattle.rc_dfa.specs.Machine.{Machine, IsAsked}
 use Rattle.rc_dfa.specs.Reads.{HasEndedBelow, SearchEndsBelow}
 use Rattle.rc_dfa.specs.Runs.{idle_at, met_last, SearchEndsDown}
@@ -47,7 +51,7 @@ use Rattle.rc_dfa_search.specs.Legs.{HasRun, IsGiven, leg_of}
 use Rattle.rc_dfa_search.specs.Machines.{IsCase}
 use Rattle.rc_dfa_search.specs.Reaches.{GivesBelow, HasRunBelow, IsAnswerBelow, IsGivenBelow, NoneBeginBelow}
 use Rattle.rc_dfa_search.specs.Rests.{GivesToo, HasNoWalkBetween}
-use Rattle.rc_dfa_search.proofs.BeginLemmas.{case_here, found_here, may as may_here}
+use Rattle.rc_dfa_search.proofs.BeginLemmas.{case_here, found_here, may as may_here, none_first as none_first_near}
 use Rattle.rc_dfa_search.proofs.LeftmostLemmas.{leftmost_law}
 use Rattle.rc_dfa_search.proofs.LegLemmas.{free_case}
 use Rattle.rc_dfa_search.proofs.ReachLemmas.{itself, none_below, same_case, some_held}
@@ -243,6 +247,39 @@ pub none_first : (aim : Aim) (hs : List Re) (terminator : ℕ) (s : Searched) (g
 none_first aim hs terminator s guard start first begins within r far guards t in2 agrees z above lt =
     let lo = agrees.lo in
     none_begin aim hs terminator s t in2 r agrees guard (low s) start first begins within.0 within.1 within.2 far guards z (omega (arith, lo, above)) lt
+
+-- the beginning of a piece, in each content that is the same there
+piece_too : (xs ys piece : List ℕ) (from passed r : ℕ) → piece ≡ slice_range xs from (from + length piece) → passed ≤ length piece → from + passed ≤ r →
+    take r ys ≡ take r xs → take passed piece ≡ slice_range ys from (from + passed)
+piece_too xs ys piece from passed r is short le same =
+    let whole : from + length piece - from ≡ length piece = omega arith in
+    let part : from + passed - from ≡ passed = omega arith in
+    ap (take passed) is ∙ ap (λ n. take passed (take n (drop from xs))) whole ∙ take-take passed (length piece) (drop from xs) short
+    ∙ sym (ap (λ n. take n (drop from xs)) part)
+    ∙ range_is_rest xs from (from + passed) ∙ sym (ap (drop from) (take_less ys xs (from + passed) r le same)) ∙ sym (range_is_rest ys from (from + passed))
+
+-- where no needle begins, no match does
+pub near_skipped : (aim : Aim) (hs : List Re) (terminator : ℕ) (s : Searched) (needles : List (List ℕ)) → AreSome needles → (piece : List ℕ) (from near passed : ℕ) → from ≡ low s →
+    piece ≡ slice_range s.content from (from + length piece) → from + length piece ≤ high s → near ≤ length piece → passed ≤ length (take near piece) →
+    ((k n : ℕ) → k < passed → n < length needles → ¬ BeginsWithByte (numbered needles n) (slice_index (take near piece) k)) →
+    Guards (program hs) terminator needles → NoneBeginBelow (search_for aim hs terminator s) (from + passed) (from + passed)
+near_skipped aim hs terminator s needles some piece from near passed at is within least passes none guards t in2 agrees z above lt =
+    let all = length-take-le near piece least in
+    let short : passed ≤ length piece = omega (arith, passes, all, least) in
+    let long : length (take passed piece) ≡ passed = length-take-le passed piece short in
+    let lo = agrees.lo in
+    let so = other_high aim hs terminator s t in2 (from + passed) agrees in
+    let up = within_too aim hs terminator s t in2 (from + passed) agrees (from + passed) (omega (arith, within, short)) (omega arith) in
+    let own : length (take passed (take passed piece)) ≡ passed = ap length (take-take passed passed piece (omega arith)) ∙ long in
+    subst (λ (q : Search). HasNoWalkFrom q z) (is_other aim hs terminator s t in2 (from + passed) agrees)
+    (none_first_near (program hs) terminator aim.passes_over (other aim hs terminator s t in2 (from + passed) agrees) needles some (take passed piece) from
+    (high (other aim hs terminator s t in2 (from + passed) agrees)) passed passed refl
+    (piece_too s.content t.text.content piece from passed (from + passed) is short (omega arith) agrees.content
+    ∙ ap (λ n. slice_range t.text.content from (from + n)) (sym long))
+    (omega (arith, long, so, up)) (omega (arith, long)) (omega (arith, own))
+    (λ k n l m. subst (λ b. ¬ BeginsWithByte (numbered needles n) b)
+    (get_or-take near piece k 0 (omega (arith, l, passes, all))
+    ∙ sym (get_or-take passed piece k 0 l) ∙ sym (get_or-take passed (take passed piece) k 0 l)) (none k n l m)) guards z (omega (arith, at, lo, above)) lt)
 
 -- what an anchored run met, and how many bytes settle it
 abbrev pub IsMetBelow : MatchKind → Search → ℕ → ℕ → Option Met → Type 0

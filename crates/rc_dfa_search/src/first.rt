@@ -24,7 +24,7 @@ use rc_text::input::{Input, high, low, piece_from};
 use rc_text::types::{Anchored, Match, MatchError, MatchKind, Span};
 
 /// How many bytes are checked one by one, before the next needle is looked for.
-const NEAR: usize = 16;
+pub(crate) const NEAR: usize = 16;
 
 /// How many anchored runs are tried after the first, if there are many needles.
 const MORE_RUNS: usize = 16;
@@ -65,7 +65,7 @@ fn more_runs(needles: &Prefilter) -> usize {
 /// Returns how many bytes of a piece are skipped: those before the first with which a needle
 /// begins.
 #[inline(always)]
-fn begin_none(needles: &Prefilter, piece: &[u8]) -> usize
+pub(crate) fn begin_none(needles: &Prefilter, piece: &[u8]) -> usize
     ensures within { result ≤ length piece.now }
     ensures passed { (k n : ℕ) → k < result → n < length (needles_of needles.now)
         → ¬ BeginsWithByte (numbered (needles_of needles.now) n) (slice_index piece.now k) }

@@ -7,21 +7,25 @@ ghost use Rattle.rc_text.specs.declared.types.Anchored.TheVariants.{No};
 ghost use Rattle.rc_pattern.specs.Re.{Re};
 ghost use Rattle.rc_program.specs.Program.{program};
 ghost use Rattle.rc_program.specs.Sought.{text_of};
+ghost use Rattle.rc_needles.specs.Guards.{Guards};
 ghost use Rattle.rc_needles.specs.Needles.{find_needle, longest};
+ghost use Rattle.rc_needles.specs.Prefilters.{needles_of};
 ghost use Rattle.rc_literals.specs.Guard.{BeginsFor, IsGuard, guard_needles};
 ghost use Rattle.rc_dfa_search.specs.Aims.{AreHalvesOf, search_for};
 ghost use Rattle.rc_dfa_search.specs.Firsts.{AsksFirst, starting_at};
 ghost use Rattle.rc_dfa_search.specs.Legs.{ComesOn};
 ghost use Rattle.rc_dfa_search.specs.Reaches.{HasRunBelow, IsAnswerBelow, IsGivenBelow, IsEnding, NoneBeginBelow, TellsReach};
 
+use crate::first::{NEAR, begin_none};
 use crate::guarded::{Leg, leg_of};
 use crate::reach::{Settled, find_settled};
 use crate::search::{Aim, id_of, run_backwards, told};
 use rc_dfa::ended::Met;
 use rc_dfa::halves::Halves;
 use rc_literals::guard::{Guard, Start, next_start};
+use rc_needles::prefilter::Prefilter;
 use rc_text::cursor::Cursor;
-use rc_text::input::{Input, content_fits, high, low};
+use rc_text::input::{Input, content_fits, high, low, piece_from};
 use rc_text::types::{Anchored, Match, MatchError, Span};
 
 /// How far a forward run came, and how far it looked.
@@ -260,7 +264,7 @@ fn settle_on<H: Halves, C: Cursor>(
 
 /// Returns the match, and how many bytes settle it, from the start for the first needle on. If each
 /// match begins with a needle, it first tries an anchored run there. If none begins there, it goes
-/// on from needle to needle, or along the text if the search for needles is slow.
+/// on from needle to needle.
 #[inline(always)]
 fn settle_from<H: Halves, C: Cursor>(
     halves: &H,
@@ -268,7 +272,6 @@ fn settle_from<H: Halves, C: Cursor>(
     input: &mut Input<C>,
     aim: Aim,
     guard: Guard,
-    are_fast: bool,
     start: Start,
 ) -> Result<Settled, MatchError>
     requires cache { H.IsCache halves.now cache.old }
@@ -300,9 +303,6 @@ fn settle_from<H: Halves, C: Cursor>(
                 reach: reach.max(here.reach),
             });
         }
-        if !are_fast {
-            return find_settled(halves, cache, input, aim);
-        }
     }
     settle_on(
         halves,
@@ -318,9 +318,8 @@ fn settle_from<H: Halves, C: Cursor>(
 /// Returns the match that `find` returns, and how many bytes settle it, by needles that guard the
 /// patterns: each match begins with one of them, or contains one. These are the bytes at which the
 /// runs forwards looked, and those up to the needle from which the last one began, with the longest
-/// needle from there on. Without a match the end of the slice may have been looked at.
-///
-/// `are_fast` says whether the search for needles is fast. An `Err` says why the DFA has no answer.
+/// needle from there on. Without a match the end of the slice may have been looked at. An `Err` says
+/// why the DFA has no answer.
 #[inline(always)]
 pub fn find_settled_guarded<H: Halves, C: Cursor>(
     halves: &H,
@@ -328,7 +327,6 @@ pub fn find_settled_guarded<H: Halves, C: Cursor>(
     input: &mut Input<C>,
     aim: Aim,
     guard: Guard,
-    are_fast: bool,
 ) -> Result<Settled, MatchError>
     requires cache { H.IsCache halves.now cache.old }
     requires tells { TellsReach aim }
@@ -353,5 +351,75 @@ pub fn find_settled_guarded<H: Halves, C: Cursor>(
             reach: usize::MAX,
         });
     };
-    settle_from(halves, cache, input, aim, guard, are_fast, start)
+    settle_from(halves, cache, input, aim, guard, start)
+}
+
+/// Returns the match, and how many bytes settle it, if each match begins with a needle. If a byte
+/// that begins one is near, it first tries an anchored run there.
+#[inline(always)]
+fn settle_near<H: Halves, C: Cursor>(
+    halves: &H,
+    cache: &mut H::Cache,
+    input: &mut Input<C>,
+    aim: Aim,
+    needles: &Prefilter,
+) -> Result<Settled, MatchError>
+    requires cache { H.IsCache halves.now cache.old }
+    requires goes { AsksFirst aim input.old.anchored }
+    requires ordered { low input.old < high input.old }
+    ensures cache { H.IsCache halves.now cache.new }
+    ensures keeps { Keeps input.old input.new }
+    ensures settled { (hs : List Re) (terminator : ℕ)
+        → AreHalvesOf (H.AreOf halves.now) aim hs terminator
+        → Guards (program hs) terminator (needles_of needles.now)
+        → IfOk result (λ o. IsAnswerBelow aim.kind
+        (search_for aim hs terminator input.old) o.reach o.found) }
+    ensures bounded { IfOk result (λ o. IfSome o.found (IsWithinBounds input.old)) }
+{
+    let bound = high(input);
+    let from = low(input);
+    let piece = piece_from(input, from, bound);
+    let near = piece.len().min(NEAR);
+    let passed = begin_none(needles, &piece[..near]);
+    if passed < near {
+        let at = from + passed;
+        let here = settle_here(halves, cache, input, at, bound)?;
+        if here.found.is_some() {
+            return Ok(Settled {
+                found: here.found,
+                reach: here.reach.max(at),
+            });
+        }
+    }
+    find_settled(halves, cache, input, aim)
+}
+
+/// Returns the match that `find` returns, and how many bytes settle it, if each match begins with a
+/// needle and the search for these is slow. It goes along the text. These are the bytes at which
+/// the run forwards looked. An `Err` says why the DFA has no answer.
+#[inline(always)]
+pub fn find_settled_near<H: Halves, C: Cursor>(
+    halves: &H,
+    cache: &mut H::Cache,
+    input: &mut Input<C>,
+    aim: Aim,
+    needles: &Prefilter,
+) -> Result<Settled, MatchError>
+    requires cache { H.IsCache halves.now cache.old }
+    requires tells { TellsReach aim }
+    ensures cache { H.IsCache halves.now cache.new }
+    ensures keeps { Keeps input.old input.new }
+    ensures settled { (hs : List Re) (terminator : ℕ)
+        → AreHalvesOf (H.AreOf halves.now) aim hs terminator
+        → Guards (program hs) terminator (needles_of needles.now)
+        → IfOk result (λ o. IsAnswerBelow aim.kind
+        (search_for aim hs terminator input.old) o.reach o.found) }
+    ensures within { IfOk result (λ o. IfSome o.found (IsWithinBounds input.old)) }
+{
+    let bound = high(input);
+    let from = low(input);
+    if from >= bound || input.get_anchored().is_anchored() {
+        return find_settled(halves, cache, input, aim);
+    }
+    settle_near(halves, cache, input, aim, needles)
 }

@@ -9,9 +9,10 @@ use crate::route::{Route, TableChoice};
 use rc_dense_dfa::dense::NoCache;
 use rc_dfa::halves::Halves;
 use rc_dfa_search::reach::{Settled, find_settled, tells_reach};
-use rc_dfa_search::settled::find_settled_guarded;
+use rc_dfa_search::settled::{find_settled_guarded, find_settled_near};
 use rc_lazy_dfa::lazy;
 use rc_literals::guard::Guard;
+use rc_needles::prefilter::Prefilter;
 use rc_pikevm_search::literals::guards_of;
 use rc_text::cursor::Cursor;
 use rc_text::input::{Input, content_fits};
@@ -31,14 +32,16 @@ pub(crate) fn settled_at_end<C: Cursor>(input: &Input<C>, found: Option<Match>) 
 }
 
 impl Engines {
-    ghost use Rattle.std.specs.Prelude.{◌≡◌, ◌≤◌, IfOk, IfSome, IsTrue, Some, true};
+    ghost use Rattle.std.specs.Prelude.{◌≡◌, ◌≤◌, IfOk, IfSome, IsTrue, true};
     ghost use Rattle.rc_text.specs.Bounds.{IsWithinBounds};
     ghost use Rattle.rc_text.specs.Text.{Keeps};
     ghost use Rattle.rc_text.specs.declared.types.Anchored.TheVariants.{No};
+    ghost use Rattle.rc_program.specs.Places.{places_of};
+    ghost use Rattle.rc_needles.specs.Guards.{Guards};
+    ghost use Rattle.rc_needles.specs.Prefilters.{needles_of};
     ghost use Rattle.rc_pikevm_search.specs.Engine.{engine_search};
     ghost use Rattle.rc_dfa_search.specs.Reaches.{IsAnswerBelow, TellsReach};
     ghost use Rattle.rc_strategy.specs.Caches.{IsCacheIn, IsCacheOfBoth, IsSameCacheIn, KeepsStates};
-    ghost use Rattle.rc_strategy.specs.Routes.{MayGuard};
     ghost use Rattle.rc_strategy.specs.Tables.{AreHalvesFor, aim_of};
 
     /// Whether a DFA search of this input tells its reach: it goes forwards, and the match is
@@ -92,12 +95,13 @@ impl Engines {
         halves: &H,
         cache: &mut H::Cache,
         input: &mut Input<C>,
-        guard: Guard,
+        needles: &Prefilter,
     ) -> Result<Settled, MatchError>
         requires own { ∥ AreHalvesFor self.now.engine self.now.patterns (H.AreOf halves.now) ∥₁ }
         requires cache { H.IsCache halves.now cache.old }
         requires tells { TellsReach (aim_of self.now.engine self.now.patterns) }
-        requires guards { MayGuard self.now.engine (Some guard) }
+        requires guards { Guards (places_of self.now.engine.program.places.items)
+            self.now.engine.program.terminator (needles_of needles.now) }
         ensures cache { H.IsCache halves.now cache.new }
         ensures keeps { Keeps input.old input.new }
         ensures settled { IfOk result (λ o. IsAnswerBelow self.now.engine.kind
@@ -105,9 +109,9 @@ impl Engines {
         ensures within { IfOk result (λ o. IfSome o.found (IsWithinBounds input.old)) }
     {
         let aim = self.aim();
-        let settled = find_settled_guarded(halves, cache, input, aim, guard, false);
+        let settled = find_settled_near(halves, cache, input, aim, needles);
         if let Err(MatchError::Quit { .. }) = settled {
-            return find_settled_guarded(halves, cache, input, aim, guard, true);
+            return find_settled_guarded(halves, cache, input, aim, Guard::Begins(needles));
         }
         settled
     }
@@ -132,10 +136,10 @@ impl Engines {
     {
         let aim = self.aim();
         if let Some(guard) = self.guard() {
-            return find_settled_guarded(halves, cache, input, aim, guard, true);
+            return find_settled_guarded(halves, cache, input, aim, guard);
         }
         match guards_of(&self.engine.literals) {
-            Some(needles) => { self.settle_past_quit(halves, cache, input, Guard::Begins(needles)) }
+            Some(needles) => self.settle_past_quit(halves, cache, input, needles),
             None => find_settled(halves, cache, input, aim),
         }
     }

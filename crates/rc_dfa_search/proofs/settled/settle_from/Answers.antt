@@ -10,7 +10,7 @@ use Rattle.rc_dfa_search.proofs.SettledLemmas.{first_settles_some, none_first}
 use Rattle.rc_dfa_search.proofs.ToldLemmas.{kept_search, kept_then}
 use Rattle.rc_dfa_search.proofs.settled.settle_from.Given.{Over}
 use Rattle.rc_dfa_search.proofs.settled.settle_from.Goals as goal
-use Rattle.rc_dfa_search.proofs.settled.settle_from.Goals.{After-saturating_add-reach, in-Begins+in_ok-here+else-is_some+else-not-are_fast, in_default}
+use Rattle.rc_dfa_search.proofs.settled.settle_from.Goals.{After-saturating_add-reach, in-Begins+in_ok-here+else-is_some, in_default}
 
 -- no match begins before the start
 passed : (g : Over) (c : After-saturating_add-reach g) (hs : List Re) (terminator : ℕ) → IsGuard (program hs) terminator c.args.guard →
@@ -38,7 +38,7 @@ returns-clause-settled g c hs terminator of guards =
     let aim = c.args.aim in
     let s = c.args.input.now in
     let keeps : Keeps s c.match-guard.input = elim c.match-guard.branch [
-      | in-Begins+in_ok-here+else-is_some+else-not-are_fast w ↦
+      | in-Begins+in_ok-here+else-is_some w ↦
           subst (Keeps s) (sym w.input-is) (kept_then s w.high-bound.new.input w.settle_here.new.input w.high-bound.ensures.keeps w.settle_here.ensures.keeps)
       | in_default w ↦ subst (Keeps s) (sym w.input-is) (record { content = refl; span = refl; slice = refl; anchored = refl; earliest = refl })
     ] in

@@ -22,3 +22,9 @@ returns-in-None-clause-settled g c =
     let e = c.args.self.now in
     tables_settle e.engine e.patterns c.args.input.now c.aim-aim.result c.requires.own c.aim-aim.ensures c.find_settled.result
     (λ hs same h. c.find_settled.ensures.settled hs e.engine.program.terminator h)
+
+pub settle_past_quit-requires-clause-guards : goal.settle_past_quit-requires-clause-guards
+settle_past_quit-requires-clause-guards g c =
+    let e = c.args.self.now in
+    let p = e.engine.program in
+    c.in-Some-guards_of.ensures.sound (places_of p.places.items) p.terminator p.passes_over e.engine.sound
