@@ -1,7 +1,6 @@
 use Rattle.std.proofs.Common.{◌≡◌, ◌∙◌, ◌+◌, length, arith, slice_range, subst, sym}
 use Rattle.rc_text.specs.Text.{low}
 use Rattle.rc_needles.specs.Prefilters.{needles_of}
-use Rattle.rc_dfa_search.specs.Aims.{search_for}
 use Rattle.rc_dfa_search.specs.Firsts.{AsksFirst, starting_at}
 use Rattle.rc_dfa_search.specs.Reaches.{IsAnswerBelow}
 use Rattle.rc_dfa_search.proofs.SettledLemmas.{first_settles_some, near_skipped}
