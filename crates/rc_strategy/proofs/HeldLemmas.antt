@@ -1,5 +1,5 @@
 -- Searches whose matches all begin where they start: anchored there, they give the same.
-use Rattle.std.proofs.Common.{◌≡◌, ◌∙◌, ℕ, ◌<◌, ◌≤◌, Bool, true, false, true≢false, List, Option, Some, None, Result, IfOk, IsTrue, inl, inr, ⊎_elim, ap, sym, subst, refl, arith}
+use Rattle.std.proofs.Common.{◌≡◌, ◌∙◌, ℕ, ◌<◌, Bool, true, false, true≢false, List, Option, Some, None, Result, IfOk, IsTrue, inl, inr, ⊎_elim, ap, sym, subst, refl, arith}
 use Rattle.std.proofs.lemmas.Bool.{cases_lt}
 use Rattle.std.proofs.lemmas.Result.{IfOk-weaker}
 use Rattle.rc_text.specs.Found.{Found}

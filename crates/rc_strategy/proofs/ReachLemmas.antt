@@ -1,5 +1,5 @@
 -- How many bytes settle what engines find.
-use Rattle.std.proofs.Common.{◌≡◌, ◌∙◌, ℕ, zero, suc, ◌+◌, ◌^◌, ◌<◌, ◌≤◌, min, false, List, [], ◌∷◌, length, take, Option, Some, None, IfSome, ap, sym, subst, refl, arith}
+use Rattle.std.proofs.Common.{◌≡◌, ◌∙◌, ℕ, zero, suc, ◌+◌, ◌≤◌, min, false, List, [], ◌∷◌, take, Option, Some, None, IfSome, ap, sym, subst, refl, arith}
 use Rattle.std.proofs.lemmas.List.{length-take, take-take}
 use Rattle.rc_text.specs.declared.types.MatchKind.{MatchKind}
 use Rattle.rc_program.specs.Answer.{Search}
@@ -7,7 +7,7 @@ use Rattle.rc_program.proofs.GreatestLemmas.{spelled_within}
 use Rattle.rc_program.proofs.KindLemmas.{kinds_law}
 use Rattle.rc_text.specs.Bounds.{IsWithinBounds}
 use Rattle.rc_text.specs.Found.{Found}
-use Rattle.rc_text.specs.Text.{Keeps, Searched, high, slice_end}
+use Rattle.rc_text.specs.Text.{Keeps, Searched, slice_end}
 use Rattle.rc_program.specs.Kinds.{answer_by}
 use Rattle.rc_pikevm_search.specs.Engine.{engine_search}
 use Rattle.rc_pikevm_search.specs.declared.engine.Engine.{Engine}
