@@ -16,7 +16,7 @@ use Rattle.rc_full_lists.specs.declared.parts.Part.{Part}
 use Rattle.rc_full_lists.specs.declared.parts.Part.TheVariants as part
 use Rattle.rc_full_lists.specs.declared.items.Item.TheVariants as item
 use Rattle.rc_full_lists.specs.Items.{HasCodes}
-use Rattle.rc_full_lists.specs.Laws.{ItemsHaveCodes}
+use Rattle.rc_full_lists.specs.Laws.{ItemsHaveCodes, PartHasCodes}
 use Rattle.rc_full_lists.specs.Parts.{atom_of, posix, IsAtom, plain, escaped, IsPart, closes, operates, names, opens, range, single, set}
 
 abbrev AtomHas : Bool → Atom → Type 0
@@ -49,13 +49,7 @@ atom_codes : (s : Settings) (t : Characters) (a : Atom) (u : Characters) → IsA
 atom_codes s _ _ _ (plain c n t other code) = character_code s.unicode c n code
 atom_codes s _ _ _ (escaped t u e a is says) = escape_codes s.unicode e a says
 
-abbrev PartHas : Bool → Part → Type 0
-PartHas unicode (part.Has i) = HasCodes unicode i
-PartHas unicode part.Closes = Unit {0}
-PartHas unicode part.Opens = Unit {0}
-PartHas unicode (part.Operates o) = Unit {0}
-
-part_codes : (s : Settings) (t : Characters) (p : Part) (u : Characters) → IsPart s t p u → PartHas s.unicode p
+pub part_codes : (s : Settings) (t : Characters) (p : Part) (u : Characters) → IsPart s t p u → PartHasCodes s.unicode p
 part_codes s _ _ _ (closes t) = tt
 part_codes s _ _ _ (operates t o is) = tt
 part_codes s _ _ _ (names _ _ _ (posix true name u class word known)) = tt

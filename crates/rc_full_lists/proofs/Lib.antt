@@ -3,3 +3,7 @@ pub mod PartLemmas
 pub mod SideLemmas
 pub mod OpeningLemmas
 pub mod CodeLemmas
+pub mod ListLemmas
+pub mod ShorterLemmas
+pub mod LevelLemmas
+pub mod RefusalLemmas

@@ -24,7 +24,7 @@ gaps_shorter false (c ∷ t) =
     (λ _. if_elim (λ x. length x ≤ length (c ∷ t)) (is_white_space c) (behind_gaps false t) (c ∷ t)
     (λ _. let h = gaps_shorter false t in omega (arith, h)) (λ _. omega arith))
 
-passed_shorter : (x : Bool) (t : Characters) → length (passed x t) ≤ length t
+pub passed_shorter : (x : Bool) (t : Characters) → length (passed x t) ≤ length t
 passed_shorter true t = gaps_shorter false t
 passed_shorter false t = omega arith
 
