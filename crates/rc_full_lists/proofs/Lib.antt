@@ -7,3 +7,4 @@ pub mod ListLemmas
 pub mod ShorterLemmas
 pub mod LevelLemmas
 pub mod RefusalLemmas
+pub mod MemberLemmas

@@ -14,7 +14,7 @@ use Rattle.rc_full_lists.specs.Openings.{IsOpening}
 use Rattle.rc_full_lists.specs.Lists.{Progress, begun, lead_set, with_item, with_list, operated, list_set, Inside, closes, item, operator, nested, IsList, brackets}
 use Rattle.rc_full_lists.specs.Levels as levels
 use Rattle.rc_full_lists.specs.Levels.{Level, Levels, at, level_set, opened, around, Moves}
-use Rattle.rc_full_lists.specs.Laws.{OneListLaw}
+use Rattle.rc_full_lists.specs.Laws.{ListsInOneWay}
 use Rattle.rc_full_lists.proofs.PartLemmas.{passes_there, passed_passes, part_sound, part_again}
 use Rattle.rc_full_lists.proofs.OpeningLemmas.{one_opening}
 
@@ -28,13 +28,13 @@ Next s fold (part.Operates o) b r end u = Inside s fold (operated o r) b end u
 Next s fold part.Opens b r end u =
     (p : CodeSet) × (depth : ℕ) × (c : Characters) × IsList s fold b p depth c × Inside s fold (with_list p depth r) c end u
 
-abbrev Begins : Settings → Characters → Part → Characters → Type 0
+abbrev pub Begins : Settings → Characters → Part → Characters → Type 0
 Begins s t k b = read_part s (passed s.verbose t) ≡ Some (k, b)
 
 is_there : (s : Settings) (t b : Characters) (k : Part) → Begins s t k b → IsPart s (passed s.verbose t) k b
 is_there s t b k h = part_sound s (passed s.verbose t) k b h
 
-there : (s : Settings) (t a b : Characters) (k : Part) → Passes s.verbose t a → IsPart s a k b → Begins s t k b
+pub there : (s : Settings) (t a b : Characters) (k : Part) → Passes s.verbose t a → IsPart s a k b → Begins s t k b
 there s t a b k p is = subst (λ x. read_part s x ≡ Some (k, b)) (passes_there s.verbose t a p) (part_again s a k b is)
 
 pub next_inside : (s : Settings) (fold : Bool) (k : Part) (t b u : Characters) (r end : Progress) → Begins s t k b → Next s fold k b r end u → Inside s fold r t end u
@@ -90,14 +90,14 @@ mutual
       (subst (λ y. Inside s fold (with_list q d r) y x w) (sym g) (subst (λ y. Inside s fold (with_list q y r) c' x w) (sym f)
       (subst (λ y. Inside s fold (with_list y d' r) c' x w) (sym e) n')))
 
-  one_list : (s : Settings) (fold : Bool) (t : Characters) (p q : CodeSet) (d e : ℕ) (u w : Characters) → IsList s fold t p d u → IsList s fold t q e w →
+  pub one_list : (s : Settings) (fold : Bool) (t : Characters) (p q : CodeSet) (d e : ℕ) (u w : Characters) → IsList s fold t p d u → IsList s fold t q e w →
       (p ≡ q) × (d ≡ e) × (u ≡ w)
   one_list s fold _ _ q _ e _ w (brackets t a u negated lead end o i) l =
       let (other, j, f, g) = list_parts s fold t a w negated lead q e o l in
       let (same, tail) = one_inside s fold a u w _ end other i j in
       (ap (list_set negated) same ∙ f, ap (λ r. r.deepest + 1) same ∙ g, tail)
 
-pub one_list_law : OneListLaw
+pub one_list_law : ListsInOneWay
 one_list_law s fold t p q d e u w l m = one_list s fold t p q d e u w l m
 
 -- ---- the lists that are open

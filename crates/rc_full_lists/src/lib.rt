@@ -8,3 +8,5 @@ pub mod lists;
 pub mod openings;
 pub mod parts;
 pub mod sides;
+#[cfg(test)]
+mod tests;

@@ -6,7 +6,7 @@ ghost use Rattle.rc_tokens.specs.ClassView.{pairs};
 ghost use Rattle.rc_tokens.specs.declared.refusal.Refusal.TheVariants.{Memory};
 ghost use Rattle.rc_class_sets.specs.Sets.{CodeSet, AreRangesOf};
 ghost use Rattle.rc_full_lists.specs.Lists.{IsList};
-ghost use Rattle.rc_full_lists.specs.Laws.{OneListLaw};
+ghost use Rattle.rc_full_lists.specs.Laws.{ListsInOneWay, ListsHaveTheirItems, ListsStayFolded};
 
 use crate::levels::{Levels, Step};
 use crate::openings::opening;
@@ -54,5 +54,16 @@ pub fn list(
 
 /// No text is read as two lists.
 pub fn lists_are_one()
-    ensures { OneListLaw }
+    ensures { ListsInOneWay }
+{}
+
+/// A list without operators has exactly the codes that one of its items or lists has, or if it is
+/// negated the others.
+pub fn lists_have_their_items()
+    ensures { ListsHaveTheirItems }
+{}
+
+/// To fold a folded list again changes nothing.
+pub fn lists_stay_folded()
+    ensures { ListsStayFolded }
 {}
