@@ -2,7 +2,7 @@
 -- How far a list is read: the operator under way, what stands to its left, and the items behind it.
 use Rattle.std.specs.Prelude.{◌≡◌, Bool, false, Option, Some, None}
 use Rattle.rc_tokens.specs.ClassView.{pairs}
-use Rattle.rc_class_sets.specs.Sets.{CodeSet, AreRangesOf, union, intersection, difference, symmetric_difference}
+use Rattle.rc_class_sets.specs.Sets.{CodeSet, Denote, AreRangesOf, union, intersection, difference, symmetric_difference}
 use Rattle.rc_full_lists.specs.declared.parts.Operation.{Operation}
 use Rattle.rc_full_lists.specs.declared.parts.Operation.TheVariants.{Intersection, Difference, SymmetricDifference}
 use Rattle.rc_full_lists.specs.declared.sides.Left as code
@@ -41,7 +41,7 @@ IsLeft unicode None (Some q) = ⊥
 IsLeft unicode (Some l) None = ⊥
 IsLeft unicode (Some l) (Some q) = AreRangesOf unicode q.0 (pairs l.class.items) × (l.operation ≡ q.1)
 
--- the ranges of both sides are those of the sets
+-- The ranges to the left are those of the set there, and the ranges of the items denote theirs.
 pub record AreSides (unicode : Bool) (code : sides.Sides) (s : Side) : Type 0 where
   pub left : IsLeft unicode code.left s.left
-  pub items : AreRangesOf unicode s.items (pairs code.items.items)
+  pub items : Denote unicode s.items (pairs code.items.items)

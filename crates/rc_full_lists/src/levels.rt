@@ -1,6 +1,6 @@
 //! The lists that are open, one in the other.
 
-ghost use Rattle.std.specs.Prelude.{◌≡◌, ◌⊎◌, ◌≤◌, ◌<◌, ◌^◌, ◌-◌, [], ◌∷◌, IfOk, MatchResult};
+ghost use Rattle.std.specs.Prelude.{◌≡◌, ◌⊎◌, ◌≤◌, ◌<◌, ◌^◌, ◌-◌, [], ◌∷◌, Bool, IfOk, MatchResult};
 ghost use Rattle.rc_tokens.specs.ClassView.{pairs};
 ghost use Rattle.rc_tokens.specs.declared.refusal.Refusal.TheVariants.{Memory};
 ghost use Rattle.rc_class_sets.specs.Sets.{CodeSet, AreRangesOf};
@@ -97,8 +97,7 @@ impl Level {
         fold: bool,
         item: Item,
     ) -> Result<Level, AllocError>
-        requires item { HasCodes unicode item }
-        requires level { (l : spec.Level) × IsLevel unicode self l }
+        requires { HasCodes unicode item }
         ensures { (l : spec.Level) → IsLevel unicode self l
             → IfOk result (λ v. IsLevel unicode v (more (item_set unicode fold item) l)) }
     {
@@ -108,7 +107,7 @@ impl Level {
             deepest,
         } = self;
         let class = item_class(alloc, unicode, fold, item)?;
-        let sides = sides.with_class(alloc, unicode, &class)?;
+        let sides = sides.with_class(&class)?;
         Ok(Level {
             negated,
             sides,
@@ -141,16 +140,8 @@ impl Level {
     }
 
     /// Adds a list in it, by its class and by how deep that is nested.
-    fn with_list(
-        self,
-        alloc: Global,
-        unicode: bool,
-        class: &[CodeRange],
-        depth: u32,
-    ) -> Result<Level, AllocError>
-        requires class { (p : CodeSet) × AreRangesOf unicode p (pairs class.now) }
-        requires level { (l : spec.Level) × IsLevel unicode self l }
-        ensures { (l : spec.Level) (p : CodeSet) → IsLevel unicode self l
+    fn with_list(self, class: &[CodeRange], depth: u32) -> Result<Level, AllocError>
+        ensures { (unicode : Bool) (l : spec.Level) (p : CodeSet) → IsLevel unicode self l
             → AreRangesOf unicode p (pairs class.now)
             → IfOk result (λ v. IsLevel unicode v (with_listed p depth l)) }
     {
@@ -159,7 +150,7 @@ impl Level {
             sides,
             deepest,
         } = self;
-        let sides = sides.with_class(alloc, unicode, class)?;
+        let sides = sides.with_class(class)?;
         Ok(Level {
             negated,
             sides,
@@ -206,8 +197,7 @@ impl Levels {
         fold: bool,
         item: Item,
     ) -> Result<Levels, AllocError>
-        requires item { HasCodes unicode item }
-        requires levels { (ls : spec.Levels) × AreLevels unicode self ls }
+        requires { HasCodes unicode item }
         ensures { (ls : spec.Levels) → AreLevels unicode self ls
             → IfOk result (λ v. AreLevels unicode v
             (at (more (item_set unicode fold item) ls.inner) ls.outer)) }
@@ -242,8 +232,7 @@ impl Levels {
         negated: bool,
         lead: Option<u32>,
     ) -> Result<Levels, AllocError>
-        requires lead { LeadHasCodes unicode lead }
-        requires levels { (ls : spec.Levels) × AreLevels unicode self ls }
+        requires { LeadHasCodes unicode lead }
         ensures { (ls : spec.Levels) → AreLevels unicode self ls
             → IfOk result (λ v. AreLevels unicode v
             (at (opened unicode fold negated lead) (ls.inner ∷ ls.outer))) }
@@ -264,7 +253,6 @@ impl Levels {
         nest_limit: u32,
         text: &[char],
     ) -> Result<Step, Refusal>
-        requires { (ls : spec.Levels) × AreLevels settings.unicode self ls }
         ensures { (ls : spec.Levels) → AreLevels settings.unicode self ls
             → Fit nest_limit (ls.inner ∷ ls.outer)
             → MatchResult result (StepsTo settings fold nest_limit ls Part.Opens text.now)
@@ -296,7 +284,7 @@ impl Levels {
         let Some(level) = outer.pop() else {
             return Ok(Step::Ends(class, depth));
         };
-        let inner = level.with_list(alloc, unicode, &class, depth)?;
+        let inner = level.with_list(&class, depth)?;
         Ok(Step::Goes(Levels { inner, outer }, text))
     }
 

@@ -1,12 +1,12 @@
 //! The sides of the operators of a list.
 
-ghost use Rattle.std.specs.Prelude.{◌≡◌, IfOk};
+ghost use Rattle.std.specs.Prelude.{◌≡◌, Bool, IfOk};
 ghost use Rattle.rc_tokens.specs.ClassView.{pairs};
 ghost use Rattle.rc_class_sets.specs.Sets.{CodeSet, AreRangesOf};
 ghost use Rattle.rc_full_lists.specs.Sides.{apply, Side, with_set, so_far, behind_operator, AreSides};
 
 use crate::parts::Operation;
-use rc_class_sets::sets::{difference, intersection, symmetric_difference, union};
+use rc_class_sets::sets::{difference, in_order, intersection, symmetric_difference};
 use rc_tokens::classes::CodeRange;
 use std::alloc::{AllocError, Global};
 
@@ -17,10 +17,11 @@ pub struct Left {
     pub operation: Operation,
 }
 
-/// How far a list is read: the operator under way, and the class of the items behind it.
+/// How far a list is read: the operator under way, and the items behind it.
 #[derive(Drop)]
 pub struct Sides {
     pub left: Option<Left>,
+    /// The ranges of the items, in any order.
     pub items: Vec<CodeRange>,
 }
 
@@ -47,23 +48,14 @@ pub fn apply(
 
 impl Sides {
     /// Adds the class of an item.
-    pub fn with_class(
-        self,
-        alloc: Global,
-        unicode: bool,
-        class: &[CodeRange],
-    ) -> Result<Sides, AllocError>
-        requires sides { (s : Side) × AreSides unicode self s }
-        requires class { (p : CodeSet) × AreRangesOf unicode p (pairs class.now) }
-        ensures { (s : Side) (p : CodeSet) → AreSides unicode self s
+    pub fn with_class(self, class: &[CodeRange]) -> Result<Sides, AllocError>
+        ensures { (unicode : Bool) (s : Side) (p : CodeSet) → AreSides unicode self s
             → AreRangesOf unicode p (pairs class.now)
             → IfOk result (λ v. AreSides unicode v (with_set p s)) }
     {
-        let items = union(alloc, unicode, &self.items, class)?;
-        Ok(Sides {
-            left: self.left,
-            items,
-        })
+        let Sides { left, mut items } = self;
+        items.extend_from_slice(class)?;
+        Ok(Sides { left, items })
     }
 
     /// The class of all that is read.
@@ -73,6 +65,7 @@ impl Sides {
             → IfOk result (λ v. AreRangesOf unicode (so_far s) (pairs v.items)) }
     {
         let Sides { left, items } = self;
+        let items = in_order(alloc, unicode, &items)?;
         match left {
             Some(left) => apply(alloc, unicode, left.operation, &left.class, &items),
             None => Ok(items),

@@ -9,7 +9,7 @@ returns c l is =
     let p = item_set c.args.unicode c.args.fold c.args.item in
     record {
       negated = is.negated;
-      sides = c.in_ok-sides.ensures l.progress.side p is.sides
+      sides = c.in_ok-sides.ensures c.args.unicode l.progress.side p is.sides
           (subst (λ rs. AreRangesOf c.args.unicode p (pairs rs)) (sym c.deref.ensures.value) c.in_ok-class.ensures);
       deepest = is.deepest;
     }

@@ -11,4 +11,4 @@ returns c ls are =
     closes_to c.args.unicode ls.inner ls.outer c.args.text c.args.self.outer.items c.in-Some.level
     (record { inner = c.in_ok-inner.inner; outer = c.pop.new.self }) c.in-Some.ensures.items are.outer
     (λ m is. subst (λ n. IsLevel c.args.unicode c.in_ok-inner.inner (with_listed p (n + 1) m)) are.inner.deepest
-    (c.in_ok-inner.ensures m p is (subst (λ rs. AreRangesOf c.args.unicode p (pairs rs)) (sym c.deref.ensures.value) (c.in_ok-class.ensures ls.inner are.inner))))
+    (c.in_ok-inner.ensures c.args.unicode m p is (subst (λ rs. AreRangesOf c.args.unicode p (pairs rs)) (sym c.deref.ensures.value) (c.in_ok-class.ensures ls.inner are.inner))))

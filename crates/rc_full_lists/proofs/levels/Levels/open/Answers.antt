@@ -7,8 +7,8 @@ pub returns-then-nest_limit-len : goal.returns-then-nest_limit-len
 returns-then-nest_limit-len c ls are fit =
     let same = as_many c.args.settings.unicode c.args.self.outer.items ls.outer are.outer in inr (refl, omega (arith, same))
 
-pub enter-requires-clause-lead : goal.enter-requires-clause-lead
-enter-requires-clause-lead c = opening_codes c.args.settings.verbose c.args.settings.unicode c.args.text.now c.opening-negated.result.2.now
+pub enter-requires : goal.enter-requires
+enter-requires c = opening_codes c.args.settings.verbose c.args.settings.unicode c.args.text.now c.opening-negated.result.2.now
     c.opening-negated.result.0 c.opening-negated.result.1 c.opening-negated.ensures
 
 pub returns : goal.returns
