@@ -1,0 +1,4 @@
+pub mod ShapeLemmas
+pub mod MarkLemmas
+pub mod PieceLemmas
+pub mod OneLemmas

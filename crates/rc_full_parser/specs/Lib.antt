@@ -1,0 +1,7 @@
+pub mod Settings
+pub mod Marks
+pub mod Marked
+pub mod View
+pub mod Pieces
+pub mod Grammar
+pub mod Laws

@@ -1,0 +1,5 @@
+//! Patterns of the full grammar: the marks of which their text is made, and what it is read as.
+#![tactic(auto)]
+
+pub mod laws;
+pub mod marks;
