@@ -2,3 +2,4 @@ pub mod ShapeLemmas
 pub mod MarkLemmas
 pub mod PieceLemmas
 pub mod OneLemmas
+pub mod Examples

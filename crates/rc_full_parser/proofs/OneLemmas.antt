@@ -62,13 +62,13 @@ next_items s g p end t b u mark.brackets h (c, d, v, q, is, part, i) = list g p 
 next_items s g p end t b u (mark.opens k x) h (from, e, v, body, q, into, i, done, close, j) =
     group g p e end t b v u k x from body q (begins_with s p t (mark.opens k x) b h) into i done close j
 
-abbrev Ended : Bool → Place → Characters → Place → Characters → Type 0
+abbrev pub Ended : Bool → Place → Characters → Place → Characters → Type 0
 Ended g p t end u = (passed p.verbose t ≡ []) × (p ≡ end) × (u ≡ [])
 
-abbrev Went : FullSettings → Bool → Place → Characters → Place → Characters → Type 0
+abbrev pub Went : FullSettings → Bool → Place → Characters → Place → Characters → Type 0
 Went s g p t end u = (k : Mark) × (b : Characters) × Front s p t k b × Next s g p k b end u
 
-went : (s : FullSettings) (g : Bool) (p end : Place) (t u : Characters) → Items s g p t end u → Ended g p t end u ⊎ Went s g p t end u
+pub went : (s : FullSettings) (g : Bool) (p end : Place) (t u : Characters) → Items s g p t end u → Ended g p t end u ⊎ Went s g p t end u
 went s _ _ _ _ _ (ends p t gaps) = inl (sym (passes_there p.verbose t [] gaps), refl, refl)
 went s _ _ _ _ _ (closes p t u is) = inr (mark.closes, u, front_of s p t mark.closes u is, (refl, refl, refl))
 went s _ _ _ _ _ (bars g p end t u v l is done i) = inr (mark.bar, u, front_of s p t mark.bar u is, (l, done, i))
