@@ -3,3 +3,4 @@ pub mod MarkLemmas
 pub mod PieceLemmas
 pub mod OneLemmas
 pub mod Examples
+pub mod MachineLemmas

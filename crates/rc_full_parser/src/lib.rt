@@ -3,3 +3,5 @@
 
 pub mod laws;
 pub mod marks;
+#[cfg(test)]
+mod tests;
