@@ -4,3 +4,4 @@ pub mod PieceLemmas
 pub mod OneLemmas
 pub mod Examples
 pub mod MachineLemmas
+pub mod CaseLemmas
