@@ -5,7 +5,7 @@ use Rattle.std.specs.List.{list_any}
 use Rattle.std.proofs.lemmas.Bool.{and_right, cases_lt, le-ltb, lt-ltb, or_from, or_left, or_parts}
 use Rattle.std.proofs.lemmas.List.{append-nil}
 use Rattle.std.proofs.lemmas.List.Folds.{list_any-append}
-use Rattle.grep_lines.specs.Context.{Marked, Part, Prints, Shown, gap, is_selected, is_shown, line_of, marked, separated, separator, shown}
+use Rattle.grep_lines.specs.Context.{Marked, Part, Prints, Shown, gap, is_selected, is_shown, line_of, marked, separated, separator, shown, size_of}
 use Rattle.std.specs.Prelude.{Vec}
 use Rattle.std.specs.declared.alloc.Global.{Global}
 use Rattle.grep_lines.specs.Ahead.{ahead_of, contents, later, left_behind, plain}
@@ -62,37 +62,42 @@ lt_before k x (inl lt) = lt-ltb k (x - 1) (omega (arith, lt)) ∙ sym (lt-ltb (k
 lt_before k x (inr le) = le-ltb k (x - 1) (omega (arith, le)) ∙ sym (le-ltb (k + 1) x le)
 
 module _ (e : Extent) where
-  abbrev item : ℕ → Marked → Shown
-  item n m = record { number = n; selected = m.selected; line = m.line }
+  abbrev item : ℕ → ℕ → Marked → Shown
+  item n p m = record { number = n; place = p; selected = m.selected; line = m.line }
 
   abbrev is_next : ℕ → Marked → List Marked → Bool
   is_next left m rest = m.selected || (nat_lt 0 left || list_any is_selected (take e.before rest))
 
-  pub later_yes : (left n : ℕ) (m : Marked) (rest : List Marked) → is_next left m rest ≡ true →
-      later e left n (m ∷ rest) ≡ item n m ∷ later e (left_behind e m left) (n + 1) rest
-  later_yes left n m rest h = ap (λ b. cond b (item n m ∷ later e (left_behind e m left) (n + 1) rest) (later e (left_behind e m left) (n + 1) rest)) h
+  pub later_yes : (left n p : ℕ) (m : Marked) (rest : List Marked) → is_next left m rest ≡ true →
+      later e left n p (m ∷ rest) ≡ item n p m ∷ later e (left_behind e m left) (n + 1) (p + length m.line + 1) rest
+  later_yes left n p m rest h =
+      let behind = later e (left_behind e m left) (n + 1) (p + length m.line + 1) rest in
+      ap (λ b. cond b (item n p m ∷ behind) behind) h
 
-  later_no : (left n : ℕ) (m : Marked) (rest : List Marked) → is_next left m rest ≡ false →
-      later e left n (m ∷ rest) ≡ later e (left_behind e m left) (n + 1) rest
-  later_no left n m rest h = ap (λ b. cond b (item n m ∷ later e (left_behind e m left) (n + 1) rest) (later e (left_behind e m left) (n + 1) rest)) h
+  later_no : (left n p : ℕ) (m : Marked) (rest : List Marked) → is_next left m rest ≡ false →
+      later e left n p (m ∷ rest) ≡ later e (left_behind e m left) (n + 1) (p + length m.line + 1) rest
+  later_no left n p m rest h =
+      let behind = later e (left_behind e m left) (n + 1) (p + length m.line + 1) rest in
+      ap (λ b. cond b (item n p m ∷ behind) behind) h
 
   -- nothing is printed of lines of which none is selected
-  pub later_none : (n : ℕ) (ms : List Marked) → list_any is_selected ms ≡ false → later e 0 n ms ≡ []
-  later_none n [] none = refl
-  later_none n (m ∷ ms) none =
+  pub later_none : (n p : ℕ) (ms : List Marked) → list_any is_selected ms ≡ false → later e 0 n p ms ≡ []
+  later_none n p [] none = refl
+  later_none n p (m ∷ ms) none =
       let parts = or_parts m.selected (list_any is_selected ms) none in
-      later_no 0 n m ms (or_from m.selected (list_any is_selected (take e.before ms)) parts.0 (any_take e.before ms parts.1))
-      ∙ ap (λ b. later e (cond b e.after 0) (n + 1) ms) parts.0 ∙ later_none (n + 1) ms parts.1
+      let place = p + length m.line + 1 in
+      later_no 0 n p m ms (or_from m.selected (list_any is_selected (take e.before ms)) parts.0 (any_take e.before ms parts.1))
+      ∙ ap (λ b. later e (cond b e.after 0) (n + 1) place ms) parts.0 ∙ later_none (n + 1) place ms parts.1
 
   -- the oldest line that is kept isn't context
-  pub later_dropped : (n : ℕ) (l : List ℕ) (ls : List (List ℕ)) (rest : List Marked) → length ls ≡ e.before →
-      later e 0 n (plain l ∷ (map plain ls ++ rest)) ≡ later e 0 (n + 1) (map plain ls ++ rest)
-  later_dropped n l ls rest size = later_no 0 n (plain l) (map plain ls ++ rest) (none_within e.before ls rest size)
+  pub later_dropped : (n p : ℕ) (l : List ℕ) (ls : List (List ℕ)) (rest : List Marked) → length ls ≡ e.before →
+      later e 0 n p (plain l ∷ (map plain ls ++ rest)) ≡ later e 0 (n + 1) (p + length l + 1) (map plain ls ++ rest)
+  later_dropped n p l ls rest size = later_no 0 n p (plain l) (map plain ls ++ rest) (none_within e.before ls rest size)
 
   -- before a selected line it is
-  pub later_kept : (n : ℕ) (l : List ℕ) (ls : List (List ℕ)) (m : Marked) (rest : List Marked) → length ls < e.before → m.selected ≡ true →
-      later e 0 n (plain l ∷ (map plain ls ++ m ∷ rest)) ≡ item n (plain l) ∷ later e 0 (n + 1) (map plain ls ++ m ∷ rest)
-  later_kept n l ls m rest size h = later_yes 0 n (plain l) (map plain ls ++ m ∷ rest) (one_within e.before ls m rest size h)
+  pub later_kept : (n p : ℕ) (l : List ℕ) (ls : List (List ℕ)) (m : Marked) (rest : List Marked) → length ls < e.before → m.selected ≡ true →
+      later e 0 n p (plain l ∷ (map plain ls ++ m ∷ rest)) ≡ item n p (plain l) ∷ later e 0 (n + 1) (p + length l + 1) (map plain ls ++ m ∷ rest)
+  later_kept n p l ls m rest size h = later_yes 0 n p (plain l) (map plain ls ++ m ∷ rest) (one_within e.before ls m rest size h)
 
   -- the lines that are context of the last selected line
   left_of : List Marked → ℕ
@@ -120,16 +125,17 @@ module _ (e : Extent) where
           ∙ ap (λ b. nat_lt k (cond b e.after (left_of seen - 1))) (sym h)
 
   -- the lines that are printed are those that are printed later
-  shown_later : (seen ms : List Marked) → shown e seen ms ≡ later e (left_of seen) (length seen + 1) ms
+  shown_later : (seen ms : List Marked) → shown e seen ms ≡ later e (left_of seen) (length seen + 1) (size_of seen) ms
   unfolding left_of
   shown_later seen [] = refl
   shown_later seen (m ∷ ms) =
       let next : length (m ∷ seen) + 1 ≡ length seen + 1 + 1 = omega arith in
-      ap₂ (λ (b : Bool) (r : List Shown). cond b (item (length seen + 1) m ∷ r) r)
+      let place : size_of (m ∷ seen) ≡ size_of seen + length m.line + 1 = omega arith in
+      ap₂ (λ (b : Bool) (r : List Shown). cond b (item (length seen + 1) (size_of seen) m ∷ r) r)
       (ap (λ b. m.selected || (b || list_any is_selected (take e.before ms))) (seen_any seen e.after 0 (omega arith)))
-      (shown_later (m ∷ seen) ms ∙ ap (λ n. later e (left_behind e m (left_of seen)) n ms) next)
+      (shown_later (m ∷ seen) ms ∙ ap₂ (λ n p. later e (left_behind e m (left_of seen)) n p ms) next place)
 
-  pub shown_all : (ms : List Marked) → shown e [] ms ≡ later e 0 1 ms
+  pub shown_all : (ms : List Marked) → shown e [] ms ≡ later e 0 1 0 ms
   unfolding left_of
   shown_all ms = shown_later [] ms
 
@@ -156,44 +162,50 @@ plain_more (k ∷ ls) l rest = ap (λ ms. plain k ∷ ms) (plain_more ls l rest)
 
 module _ (e : Extent) (behind : Option ℕ) where
   -- a selected line is printed
-  pub ahead_selected : (left n : ℕ) (line : List ℕ) (rest : List Marked) →
-      ahead_of e behind left n [] (record { line = line; selected = true } ∷ rest)
-      ≡ (gap behind n ++ line_of (record { number = n; selected = true; line = line }) ∷ []) ++ ahead_of e (Some (n + 1)) e.after (n + 1) [] rest
-  ahead_selected left n line rest =
+  pub ahead_selected : (left n p : ℕ) (line : List ℕ) (rest : List Marked) →
+      ahead_of e behind left n p [] (record { line = line; selected = true } ∷ rest)
+      ≡ (gap behind n ++ line_of (record { number = n; place = p; selected = true; line = line }) ∷ [])
+      ++ ahead_of e (Some (n + 1)) e.after (n + 1) (p + length line + 1) [] rest
+  ahead_selected left n p line rest =
       let m : Marked = record { line = line; selected = true } in
-      ap (separated behind) (later_yes e left n m rest refl) ∙ put_line behind (item e n m) (later e e.after (n + 1) rest)
+      ap (separated behind) (later_yes e left n p m rest refl) ∙ put_line behind (item e n p m) (later e e.after (n + 1) (p + length line + 1) rest)
 
   -- a line of context is
-  pub ahead_context : (left n : ℕ) (line : List ℕ) (rest : List Marked) → 0 < left →
-      ahead_of e behind left n [] (plain line ∷ rest)
-      ≡ (gap behind n ++ line_of (record { number = n; selected = false; line = line }) ∷ []) ++ ahead_of e (Some (n + 1)) (left - 1) (n + 1) [] rest
-  ahead_context left n line rest some =
-      ap (separated behind) (later_yes e left n (plain line) rest (ap (λ b. b || list_any is_selected (take e.before rest)) (lt-ltb 0 left some)))
-      ∙ put_line behind (item e n (plain line)) (later e (left - 1) (n + 1) rest)
+  pub ahead_context : (left n p : ℕ) (line : List ℕ) (rest : List Marked) → 0 < left →
+      ahead_of e behind left n p [] (plain line ∷ rest)
+      ≡ (gap behind n ++ line_of (record { number = n; place = p; selected = false; line = line }) ∷ [])
+      ++ ahead_of e (Some (n + 1)) (left - 1) (n + 1) (p + length line + 1) [] rest
+  ahead_context left n p line rest some =
+      ap (separated behind) (later_yes e left n p (plain line) rest (ap (λ b. b || list_any is_selected (take e.before rest)) (lt-ltb 0 left some)))
+      ∙ put_line behind (item e n p (plain line)) (later e (left - 1) (n + 1) (p + length line + 1) rest)
 
   -- a kept line is, before a selected one
-  pub ahead_kept : (n : ℕ) (l : List ℕ) (ls : List (List ℕ)) (m : Marked) (rest : List Marked) → length ls < e.before → m.selected ≡ true →
-      ahead_of e behind 0 n (l ∷ ls) (m ∷ rest)
-      ≡ (gap behind n ++ line_of (record { number = n; selected = false; line = l }) ∷ []) ++ ahead_of e (Some (n + 1)) 0 (n + 1) ls (m ∷ rest)
-  ahead_kept n l ls m rest size h =
-      ap (separated behind) (later_kept e n l ls m rest size h) ∙ put_line behind (item e n (plain l)) (later e 0 (n + 1) (map plain ls ++ m ∷ rest))
+  pub ahead_kept : (n p : ℕ) (l : List ℕ) (ls : List (List ℕ)) (m : Marked) (rest : List Marked) → length ls < e.before → m.selected ≡ true →
+      ahead_of e behind 0 n p (l ∷ ls) (m ∷ rest)
+      ≡ (gap behind n ++ line_of (record { number = n; place = p; selected = false; line = l }) ∷ [])
+      ++ ahead_of e (Some (n + 1)) 0 (n + 1) (p + length l + 1) ls (m ∷ rest)
+  ahead_kept n p l ls m rest size h =
+      ap (separated behind) (later_kept e n p l ls m rest size h)
+      ∙ put_line behind (item e n p (plain l)) (later e 0 (n + 1) (p + length l + 1) (map plain ls ++ m ∷ rest))
 
   -- a line more is kept
-  pub ahead_more : (left n : ℕ) (ls : List (List ℕ)) (l : List ℕ) (rest : List Marked) →
-      ahead_of e behind left n ls (plain l ∷ rest) ≡ ahead_of e behind left n (ls ++ l ∷ []) rest
-  ahead_more left n ls l rest = ap (λ ms. separated behind (later e left n ms)) (sym (plain_more ls l rest))
+  pub ahead_more : (left n p : ℕ) (ls : List (List ℕ)) (l : List ℕ) (rest : List Marked) →
+      ahead_of e behind left n p ls (plain l ∷ rest) ≡ ahead_of e behind left n p (ls ++ l ∷ []) rest
+  ahead_more left n p ls l rest = ap (λ ms. separated behind (later e left n p ms)) (sym (plain_more ls l rest))
 
   -- a line is kept, and the oldest one isn't any more
-  pub ahead_dropped : (left n : ℕ) (kept popped : List (Vec ℕ Global)) (v oldest : Vec ℕ Global) (rest : List Marked) → left ≡ 0 →
+  pub ahead_dropped : (left n p : ℕ) (kept popped : List (Vec ℕ Global)) (v oldest : Vec ℕ Global) (rest : List Marked) → left ≡ 0 →
       kept ++ v ∷ [] ≡ oldest ∷ popped → length kept ≤ e.before → e.before < length (oldest ∷ popped) →
-      ahead_of e behind left n (contents kept) (plain v.items ∷ rest) ≡ ahead_of e behind left (n + 1) (contents popped) rest
-  ahead_dropped left n kept popped v oldest rest none is few many =
-      let Goal : ℕ → Type 0 = λ k. ahead_of e behind k n (contents kept) (plain v.items ∷ rest) ≡ ahead_of e behind k (n + 1) (contents popped) rest in
+      ahead_of e behind left n p (contents kept) (plain v.items ∷ rest)
+      ≡ ahead_of e behind left (n + 1) (p + length oldest.items + 1) (contents popped) rest
+  ahead_dropped left n p kept popped v oldest rest none is few many =
+      let Goal : ℕ → Type 0 = λ k. ahead_of e behind k n p (contents kept) (plain v.items ∷ rest)
+      ≡ ahead_of e behind k (n + 1) (p + length oldest.items + 1) (contents popped) rest in
       let size : length (contents popped) ≡ e.before = omega (arith, contents_length popped, ap length is, length-append kept (v ∷ []), few, many) in
       subst Goal (sym none)
-      (ahead_more 0 n (contents kept) v.items rest ∙ ap (λ ls. ahead_of e behind 0 n ls rest) (sym (contents_more kept v) ∙ ap contents is)
-      ∙ ap (separated behind) (later_dropped e n oldest.items (contents popped) rest size))
+      (ahead_more 0 n p (contents kept) v.items rest ∙ ap (λ ls. ahead_of e behind 0 n p ls rest) (sym (contents_more kept v) ∙ ap contents is)
+      ∙ ap (separated behind) (later_dropped e n p oldest.items (contents popped) rest size))
 
   -- nothing is printed any more
-  pub ahead_none : (n : ℕ) (ls : List (List ℕ)) (ms : List Marked) → list_any is_selected ms ≡ false → ahead_of e behind 0 n ls ms ≡ []
-  ahead_none n ls ms none = ap (separated behind) (later_none e n (map plain ls ++ ms) (kept_none ls ms none))
+  pub ahead_none : (n p : ℕ) (ls : List (List ℕ)) (ms : List Marked) → list_any is_selected ms ≡ false → ahead_of e behind 0 n p ls ms ≡ []
+  ahead_none n p ls ms none = ap (separated behind) (later_none e n p (map plain ls ++ ms) (kept_none ls ms none))

@@ -8,7 +8,7 @@ use Rattle.grep_lines.specs.Pages.{IsWhole}
 use Rattle.grep_lines.specs.Parts.{Placed, placed, selected, shifted}
 use Rattle.grep_lines.proofs.PageLemmas.{lines_append, some_left, whole_tail}
 
--- the bytes of lines with their newlines
+-- the bytes of lines with their terminators
 size_of : List (List ℕ) → ℕ
 size_of [] = 0
 size_of (line ∷ rest) = length line + 1 + size_of rest
@@ -18,21 +18,21 @@ unfolding size_of
 before_size x [] some = absurd (omega (arith, some))
 before_size x (l ∷ ls) some = omega arith
 
-module _ (x : ℕ) (xs : List ℕ) (w : IsWhole (x ∷ xs)) where
-  size_step : length xs ≡ size_of (lines xs) → (b : Bool) → (x == 10) ≡ b → length (x ∷ xs) ≡ size_of (lines (x ∷ xs))
+module _ (stop : ℕ) (x : ℕ) (xs : List ℕ) (w : IsWhole stop (x ∷ xs)) where
+  size_step : length xs ≡ size_of (lines stop xs) → (b : Bool) → (x == stop) ≡ b → length (x ∷ xs) ≡ size_of (lines stop (x ∷ xs))
   unfolding size_of
   size_step rest true e =
-      let more : length (x ∷ xs) ≡ size_of ([] ∷ lines xs) = omega (arith, rest) in
-      more ∙ ap (λ c. size_of (cond c ([] ∷ lines xs) (before_first x (lines xs)))) (sym e)
+      let more : length (x ∷ xs) ≡ size_of ([] ∷ lines stop xs) = omega (arith, rest) in
+      more ∙ ap (λ c. size_of (cond c ([] ∷ lines stop xs) (before_first x (lines stop xs)))) (sym e)
   size_step rest false e =
-      let more : length (x ∷ xs) ≡ size_of (before_first x (lines xs)) = omega (arith, rest, before_size x (lines xs) (some_left x xs e w)) in
-      more ∙ ap (λ c. size_of (cond c ([] ∷ lines xs) (before_first x (lines xs)))) (sym e)
+      let more : length (x ∷ xs) ≡ size_of (before_first x (lines stop xs)) = omega (arith, rest, before_size x (lines stop xs) (some_left stop x xs e w)) in
+      more ∙ ap (λ c. size_of (cond c ([] ∷ lines stop xs) (before_first x (lines stop xs)))) (sym e)
 
 -- whole lines have as many bytes as their text
-whole_size : (xs : List ℕ) → IsWhole xs → length xs ≡ size_of (lines xs)
+whole_size : (stop : ℕ) (xs : List ℕ) → IsWhole stop xs → length xs ≡ size_of (lines stop xs)
 unfolding size_of
-whole_size [] w = refl
-whole_size (x ∷ xs) w = size_step x xs w (whole_size xs (whole_tail x xs w)) (x == 10) refl
+whole_size stop [] w = refl
+whole_size stop (x ∷ xs) w = size_step stop x xs w (whole_size stop xs (whole_tail stop x xs w)) (x == stop) refl
 
 placed_append : (n p : ℕ) (ls ms : List (List ℕ)) → placed n p (ls ++ ms) ≡ placed n p ls ++ placed (n + length ls) (p + size_of ls) ms
 unfolding size_of
@@ -48,7 +48,7 @@ placed_shifted count bytes n p (l ∷ ls) =
     ap (λ rest. record { number = count + n; place = bytes + p; line = l } ∷ rest)
     (ap₂ (λ i j. placed i j ls) (omega arith) (omega arith) ∙ placed_shifted count bytes (n + 1) (p + length l + 1) ls)
 
-module _ (picks : List ℕ → Bool) where
+module _ (stop : ℕ) (picks : List ℕ → Bool) where
   filter_shifted : (count bytes : ℕ) (ss : List Placed) → filter (λ s. picks s.line) (map (shifted count bytes) ss) ≡ map (shifted count bytes) (filter (λ s. picks s.line) ss)
   filter_shifted count bytes [] = refl
   filter_shifted count bytes (s ∷ ss) = at (picks s.line) (filter_shifted count bytes ss)
@@ -59,16 +59,16 @@ module _ (picks : List ℕ → Bool) where
       at true rest = ap (λ r. shifted count bytes s ∷ r) rest
       at false rest = rest
 
-  pub selected_parts : (text front back : List ℕ) → text ≡ front ++ back → IsWhole front →
-      selected picks text ≡ selected picks front ++ map (shifted (length (lines front)) (length front)) (selected picks back)
+  pub selected_parts : (text front back : List ℕ) → text ≡ front ++ back → IsWhole stop front →
+      selected stop picks text ≡ selected stop picks front ++ map (shifted (length (lines stop front)) (length front)) (selected stop picks back)
   selected_parts text front back is w =
-      let count = length (lines front) in
+      let count = length (lines stop front) in
       let bytes = length front in
-      ap (selected picks) is
-      ∙ ap (λ ls. filter (λ s. picks s.line) (placed 1 0 ls)) (lines_append front back w)
+      ap (selected stop picks) is
+      ∙ ap (λ ls. filter (λ s. picks s.line) (placed 1 0 ls)) (lines_append stop front back w)
       ∙ ap (filter (λ s. picks s.line))
-      (placed_append 1 0 (lines front) (lines back)
-      ∙ ap (λ rest. placed 1 0 (lines front) ++ rest)
-      (ap₂ (λ i j. placed i j (lines back)) (omega arith) (omega (arith, whole_size front w)) ∙ placed_shifted count bytes 1 0 (lines back)))
-      ∙ filter-append (λ s. picks s.line) (placed 1 0 (lines front)) (map (shifted count bytes) (placed 1 0 (lines back)))
-      ∙ ap (λ rest. selected picks front ++ rest) (filter_shifted count bytes (placed 1 0 (lines back)))
+      (placed_append 1 0 (lines stop front) (lines stop back)
+      ∙ ap (λ rest. placed 1 0 (lines stop front) ++ rest)
+      (ap₂ (λ i j. placed i j (lines stop back)) (omega arith) (omega (arith, whole_size stop front w)) ∙ placed_shifted count bytes 1 0 (lines stop back)))
+      ∙ filter-append (λ s. picks s.line) (placed 1 0 (lines stop front)) (map (shifted count bytes) (placed 1 0 (lines stop back)))
+      ∙ ap (λ rest. selected stop picks front ++ rest) (filter_shifted count bytes (placed 1 0 (lines stop back)))

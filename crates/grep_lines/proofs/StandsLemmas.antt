@@ -8,7 +8,7 @@ use Rattle.std.proofs.lemmas.Bool.{ltb-true, or_parts, true≢false}
 use Rattle.std.proofs.lemmas.List.{append-nil}
 use Rattle.grep_lines.specs.Lines.{lines}
 use Rattle.grep_lines.specs.Selected.{TakesLine}
-use Rattle.grep_lines.specs.Context.{Marked, Part, Prints, is_selected, marked, printed, selected_count, separated}
+use Rattle.grep_lines.specs.Context.{Marked, Part, Prints, PrintsBeginning, is_selected, marked, printed, selected_count, separated}
 use Rattle.grep_lines.specs.Ahead.{Advances, IsSound, Stands, ahead, ahead_of, contents}
 use Rattle.grep_lines.specs.declared.context.Extent.{Extent}
 use Rattle.grep_lines.specs.declared.context.Progress.{Progress}
@@ -20,29 +20,30 @@ filter_none (m ∷ ms) none =
     let parts = or_parts m.selected (list_any is_selected ms) none in
     ap (λ b. cond b (m ∷ filter is_selected ms) (filter is_selected ms)) parts.0 ∙ filter_none ms parts.1
 
-module _ (e : Extent) (picks : List ℕ → Bool) (old : Option (List Part)) where
-  begins : (p : Progress) (text : List ℕ) → p.kept.items ≡ [] → p.next ≡ 1 → p.left ≡ 0 → p.behind ≡ None →
-      Stands e picks p old old (Some text) 0 text
-  begins p text kept next left behind =
-      let all_left : marked picks e.most (lines text) ≡ marked picks (e.most - 0) (lines text) = ap (λ k. marked picks k (lines text)) (omega arith) in
-      let ms = marked picks (e.most - 0) (lines text) in
+module _ (stop : ℕ) (e : Extent) (picks : List ℕ → Bool) (old : Option (List Part)) where
+  begins : (p : Progress) (text : List ℕ) → p.kept.items ≡ [] → p.next ≡ 1 → p.place ≡ 0 → p.left ≡ 0 → p.behind ≡ None →
+      Stands stop e picks p old old (Some text) 0 text
+  begins p text kept next place left behind =
+      let all_left : marked picks e.most (lines stop text) ≡ marked picks (e.most - 0) (lines stop text) = ap (λ k. marked picks k (lines stop text)) (omega arith) in
+      let ms = marked picks (e.most - 0) (lines stop text) in
       record {
         rest = text;
         known = refl;
         parts = [];
         told = prints_none old;
         all =
-            ap (separated None) (shown_all e (marked picks e.most (lines text))) ∙ ap (λ ns. ahead_of e None 0 1 [] ns) all_left
-            ∙ ap (λ (b : Option ℕ). ahead_of e b 0 1 [] ms) (sym behind) ∙ ap (λ l. ahead_of e p.behind l 1 [] ms) (sym left)
-            ∙ ap (λ n. ahead_of e p.behind p.left n [] ms) (sym next)
-            ∙ ap (λ (vs : List (Vec ℕ Global)). ahead_of e p.behind p.left p.next (contents vs) ms) (sym kept);
+            ap (separated None) (shown_all e (marked picks e.most (lines stop text))) ∙ ap (λ ns. ahead_of e None 0 1 0 [] ns) all_left
+            ∙ ap (λ (b : Option ℕ). ahead_of e b 0 1 0 [] ms) (sym behind) ∙ ap (λ l. ahead_of e p.behind l 1 0 [] ms) (sym left)
+            ∙ ap (λ n. ahead_of e p.behind p.left n 0 [] ms) (sym next)
+            ∙ ap (λ n. ahead_of e p.behind p.left p.next n [] ms) (sym place)
+            ∙ ap (λ (vs : List (Vec ℕ Global)). ahead_of e p.behind p.left p.next p.place (contents vs) ms) (sym kept);
         counted = ap (λ ns. length (filter is_selected ns)) all_left ∙ omega arith;
       }
 
-  pub stands_first : (p : Progress) (input : Option (List ℕ)) → p.kept.items ≡ [] → p.next ≡ 1 → p.left ≡ 0 → p.behind ≡ None →
-      IfSome input (Stands e picks p old old input 0)
-  stands_first p None kept next left behind = tt
-  stands_first p (Some text) kept next left behind = begins p text kept next left behind
+  pub stands_first : (p : Progress) (input : Option (List ℕ)) → p.kept.items ≡ [] → p.next ≡ 1 → p.place ≡ 0 → p.left ≡ 0 → p.behind ≡ None →
+      IfSome input (Stands stop e picks p old old input 0)
+  stands_first p None kept next place left behind = tt
+  stands_first p (Some text) kept next place left behind = begins p text kept next place left behind
 
   module _ (p q : Progress) (now new : Option (List Part)) (count more : ℕ) (line : List ℕ) where
     left_most : (b : Bool) → more ≡ cond b (count + 1) count → cond b (e.most - count - 1) (e.most - count) ≡ e.most - more
@@ -54,16 +55,16 @@ module _ (e : Extent) (picks : List ℕ → Bool) (old : Option (List Part)) whe
     count_more true ms is = omega (arith, is)
     count_more false ms is = omega (arith, is)
 
-    goes_on : (mid left : Option (List ℕ)) (text : List ℕ) (b : Bool) → Stands e picks p old now mid count text →
-        IfSome mid (λ rest. TakesLine rest true line left) → b ≡ (picks line && nat_lt 0 (e.most - count)) → more ≡ cond b (count + 1) count →
-        Advances e p q now new (record { line = line; selected = b }) → Stands e picks q old new left more text
+    goes_on : (mid left : Option (List ℕ)) (text : List ℕ) (b : Bool) → Stands stop e picks p old now mid count text →
+        IfSome mid (λ rest. TakesLine stop rest true line left) → b ≡ (picks line && nat_lt 0 (e.most - count)) → more ≡ cond b (count + 1) count →
+        Advances e p q now new (record { line = line; selected = b }) → Stands stop e picks q old new left more text
     goes_on mid left text b s t passes is a =
-        let taken : TakesLine s.rest true line left = subst (λ o. IfSome o (λ rest. TakesLine rest true line left)) s.known t in
-        let ms = marked picks (e.most - more) (lines taken.0) in
-        let split : marked picks (e.most - count) (lines s.rest) ≡ record { line = line; selected = b } ∷ ms =
+        let taken : TakesLine stop s.rest true line left = subst (λ o. IfSome o (λ rest. TakesLine stop rest true line left)) s.known t in
+        let ms = marked picks (e.most - more) (lines stop taken.0) in
+        let split : marked picks (e.most - count) (lines stop s.rest) ≡ record { line = line; selected = b } ∷ ms =
         ap (marked picks (e.most - count)) taken.2
-        ∙ ap (λ (d : Bool). record { line = line; selected = d } ∷ marked picks (cond d (e.most - count - 1) (e.most - count)) (lines taken.0)) (sym passes)
-        ∙ ap (λ k. record { line = line; selected = b } ∷ marked picks k (lines taken.0)) (left_most b is) in
+        ∙ ap (λ (d : Bool). record { line = line; selected = d } ∷ marked picks (cond d (e.most - count - 1) (e.most - count)) (lines stop taken.0)) (sym passes)
+        ∙ ap (λ k. record { line = line; selected = b } ∷ marked picks k (lines stop taken.0)) (left_most b is) in
         record {
           rest = taken.0;
           known = taken.1;
@@ -74,23 +75,23 @@ module _ (e : Extent) (picks : List ℕ → Bool) (old : Option (List Part)) whe
           counted = s.counted ∙ ap (λ ns. count + length (filter is_selected ns)) split ∙ count_more b ms is;
         }
 
-    pub stands_next : (input mid left : Option (List ℕ)) (b : Bool) → IfSome input (Stands e picks p old now mid count) →
-        IfSome mid (λ rest. TakesLine rest true line left) → b ≡ (picks line && nat_lt 0 (e.most - count)) → more ≡ cond b (count + 1) count →
-        Advances e p q now new (record { line = line; selected = b }) → IfSome input (Stands e picks q old new left more)
+    pub stands_next : (input mid left : Option (List ℕ)) (b : Bool) → IfSome input (Stands stop e picks p old now mid count) →
+        IfSome mid (λ rest. TakesLine stop rest true line left) → b ≡ (picks line && nat_lt 0 (e.most - count)) → more ≡ cond b (count + 1) count →
+        Advances e p q now new (record { line = line; selected = b }) → IfSome input (Stands stop e picks q old new left more)
     stands_next None mid left b s t passes is a = tt
     stands_next (Some text) mid left b s t passes is a = goes_on mid left text b s t passes is a
 
   module _ (p : Progress) (now : Option (List Part)) (count : ℕ) where
-    kept_end : (left : ℕ) (vs : List (Vec ℕ Global)) → (0 < length vs → left ≡ 0) → ahead_of e p.behind left p.next (contents vs) [] ≡ []
+    kept_end : (left : ℕ) (vs : List (Vec ℕ Global)) → (0 < length vs → left ≡ 0) → ahead_of e p.behind left p.next p.place (contents vs) [] ≡ []
     kept_end left [] idle = refl
     kept_end left (v ∷ vs) idle =
-        ap (λ l. ahead_of e p.behind l p.next (contents (v ∷ vs)) []) (idle (omega arith)) ∙ ahead_none e p.behind p.next (contents (v ∷ vs)) [] refl
+        ap (λ l. ahead_of e p.behind l p.next p.place (contents (v ∷ vs)) []) (idle (omega arith)) ∙ ahead_none e p.behind p.next p.place (contents (v ∷ vs)) [] refl
 
     -- No more lines are printed.
     abbrev IsOver : List ℕ → Type 0
-    IsOver rest = let ms = marked picks (e.most - count) (lines rest) in (ahead e p ms ≡ []) × (filter is_selected ms ≡ [])
+    IsOver rest = let ms = marked picks (e.most - count) (lines stop rest) in (ahead e p ms ≡ []) × (filter is_selected ms ≡ [])
 
-    at_end : (rest : List ℕ) → IsSound e p → lines rest ≡ [] → IsOver rest
+    at_end : (rest : List ℕ) → IsSound e p → lines stop rest ≡ [] → IsOver rest
     at_end rest sound none = (
       ap (λ ls. ahead e p (marked picks (e.most - count) ls)) none ∙ kept_end p.left p.kept.items sound.idle,
       ap (λ ls. filter is_selected (marked picks (e.most - count) ls)) none,
@@ -98,37 +99,42 @@ module _ (e : Extent) (picks : List ℕ → Bool) (old : Option (List Part)) whe
 
     enough : (rest : List ℕ) → p.left ≡ 0 → count ≡ e.most → IsOver rest
     enough rest idle is =
-        let none : list_any is_selected (marked picks (e.most - count) (lines rest)) ≡ false =
-        ap (λ k. list_any is_selected (marked picks k (lines rest))) (omega (arith, is)) ∙ marked_none picks (lines rest) in (
-          ap (λ l. ahead_of e p.behind l p.next (contents p.kept.items) (marked picks (e.most - count) (lines rest))) idle
-              ∙ ahead_none e p.behind p.next (contents p.kept.items) (marked picks (e.most - count) (lines rest)) none,
-          filter_none (marked picks (e.most - count) (lines rest)) none,
+        let none : list_any is_selected (marked picks (e.most - count) (lines stop rest)) ≡ false =
+        ap (λ k. list_any is_selected (marked picks k (lines stop rest))) (omega (arith, is)) ∙ marked_none picks (lines stop rest) in (
+          ap (λ l. ahead_of e p.behind l p.next p.place (contents p.kept.items) (marked picks (e.most - count) (lines stop rest))) idle
+              ∙ ahead_none e p.behind p.next p.place (contents p.kept.items) (marked picks (e.most - count) (lines stop rest)) none,
+          filter_none (marked picks (e.most - count) (lines stop rest)) none,
         )
 
     abbrev Told : List ℕ → Type 0
-    Told text = Prints old now (printed e picks text) × (count ≡ selected_count picks e.most text)
+    Told text = Prints old now (printed stop e picks text) × (count ≡ selected_count stop picks e.most text)
 
-    told_all : (left : Option (List ℕ)) (text : List ℕ) (s : Stands e picks p old now left count text) → IsOver s.rest → Told text
+    told_all : (left : Option (List ℕ)) (text : List ℕ) (s : Stands stop e picks p old now left count text) → IsOver s.rest → Told text
     told_all left text s over = (
       subst (Prints old now) (sym (append-nil s.parts) ∙ sym (ap (λ ps. s.parts ++ ps) over.0) ∙ sym s.all) s.told,
       omega (arith, s.counted, ap length over.1),
     )
 
-    ended : (left new : Option (List ℕ)) (line text : List ℕ) → IsSound e p → IfSome left (λ rest. TakesLine rest false line new) →
-        Stands e picks p old now left count text → Told text
+    ended : (left new : Option (List ℕ)) (line text : List ℕ) → IsSound e p → IfSome left (λ rest. TakesLine stop rest false line new) →
+        Stands stop e picks p old now left count text → Told text
     ended left new line text sound t s =
-        told_all left text s (at_end s.rest sound (subst (λ o. IfSome o (λ rest. TakesLine rest false line new)) s.known t))
+        told_all left text s (at_end s.rest sound (subst (λ o. IfSome o (λ rest. TakesLine stop rest false line new)) s.known t))
+
+    -- reading stopped
+    pub begun : (input left : Option (List ℕ)) → IfSome input (Stands stop e picks p old now left count) → IfSome input (PrintsBeginning stop e picks old now)
+    begun None left s = tt
+    begun (Some text) left s = (s.parts, ahead e p (marked picks (e.most - count) (lines stop s.rest)), s.all, s.told)
 
     -- the text's end was reached
-    pub told_at_end : (input left new : Option (List ℕ)) (line : List ℕ) → IsSound e p → IfSome left (λ rest. TakesLine rest false line new) →
-        IfSome input (Stands e picks p old now left count) →
-        (IfSome input (λ text. Prints old now (printed e picks text))) × (IfSome input (λ text. count ≡ selected_count picks e.most text))
+    pub told_at_end : (input left new : Option (List ℕ)) (line : List ℕ) → IsSound e p → IfSome left (λ rest. TakesLine stop rest false line new) →
+        IfSome input (Stands stop e picks p old now left count) →
+        (IfSome input (λ text. Prints old now (printed stop e picks text))) × (IfSome input (λ text. count ≡ selected_count stop picks e.most text))
     told_at_end None left new line sound t s = (tt, tt)
     told_at_end (Some text) left new line sound t s = let told = ended left new line text sound t s in (told.0, told.1)
 
     -- enough lines were selected
-    pub told_enough : (input left : Option (List ℕ)) → p.left ≡ 0 → count ≡ e.most → IfSome input (Stands e picks p old now left count) →
-        (IfSome input (λ text. Prints old now (printed e picks text))) × (IfSome input (λ text. count ≡ selected_count picks e.most text))
+    pub told_enough : (input left : Option (List ℕ)) → p.left ≡ 0 → count ≡ e.most → IfSome input (Stands stop e picks p old now left count) →
+        (IfSome input (λ text. Prints old now (printed stop e picks text))) × (IfSome input (λ text. count ≡ selected_count stop picks e.most text))
     told_enough None left idle is s = (tt, tt)
     told_enough (Some text) left idle is s = let told = told_all left text s (enough s.rest idle is) in (told.0, told.1)
 

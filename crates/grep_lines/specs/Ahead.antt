@@ -12,13 +12,14 @@ use Rattle.grep_lines.specs.declared.context.Progress.{Progress}
 abbrev pub left_behind : Extent → Marked → (left : ℕ) → ℕ
 left_behind e m left = if m.selected then e.after else left - 1
 
--- the lines that are printed, of those from a number on, if so many of them are context anyway
-abbrev pub later : Extent → (left number : ℕ) → List Marked → List Shown
-later e left number [] = []
-later e left number (m ∷ rest) =
+-- the lines that are printed, of those from a number and a place on, if so many of them are context anyway
+abbrev pub later : Extent → (left number place : ℕ) → List Marked → List Shown
+later e left number place [] = []
+later e left number place (m ∷ rest) =
     if m.selected || (nat_lt 0 left || list_any is_selected (take e.before rest))
-    then record { number = number; selected = m.selected; line = m.line } ∷ later e (left_behind e m left) (number + 1) rest
-    else later e (left_behind e m left) (number + 1) rest
+    then record { number = number; place = place; selected = m.selected; line = m.line }
+        ∷ later e (left_behind e m left) (number + 1) (place + length m.line + 1) rest
+    else later e (left_behind e m left) (number + 1) (place + length m.line + 1) rest
 
 -- a line that isn't selected
 abbrev pub plain : List ℕ → Marked
@@ -29,11 +30,11 @@ abbrev pub contents : List (Vec ℕ Global) → List (List ℕ)
 contents vs = map (λ v. v.items) vs
 
 -- what is to be printed yet, if these lines are kept and those are left to read
-abbrev pub ahead_of : Extent → (behind : Option ℕ) → (left next : ℕ) → (kept : List (List ℕ)) → List Marked → List Part
-ahead_of e behind left next kept ms = separated behind (later e left next (map plain kept ++ ms))
+abbrev pub ahead_of : Extent → (behind : Option ℕ) → (left next place : ℕ) → (kept : List (List ℕ)) → List Marked → List Part
+ahead_of e behind left next place kept ms = separated behind (later e left next place (map plain kept ++ ms))
 
 abbrev pub ahead : Extent → Progress → List Marked → List Part
-ahead e p ms = ahead_of e p.behind p.left p.next (contents p.kept.items) ms
+ahead e p ms = ahead_of e p.behind p.left p.next p.place (contents p.kept.items) ms
 
 -- No more lines are kept than may be context, and none if the next line is.
 pub record IsSound (e : Extent) (p : Progress) : Type 0 where
@@ -57,10 +58,10 @@ Skips e old new line = (rest : List Marked) → ahead e old (plain line ∷ rest
 
 -- Reading a text stands behind some of its lines, `count` of which were selected, and `left` is what is left of it: what was printed goes on
 -- with what is to be printed yet.
-pub record Stands (e : Extent) (picks : List ℕ → Bool) (p : Progress) (old now : Option (List Part)) (left : Option (List ℕ)) (count : ℕ) (text : List ℕ) : Type 0 where
+pub record Stands (t : ℕ) (e : Extent) (picks : List ℕ → Bool) (p : Progress) (old now : Option (List Part)) (left : Option (List ℕ)) (count : ℕ) (text : List ℕ) : Type 0 where
   pub rest : List ℕ
   pub known : left ≡ Some rest
   pub parts : List Part
   pub told : Prints old now parts
-  pub all : printed e picks text ≡ parts ++ ahead e p (marked picks (e.most - count) (lines rest))
-  pub counted : selected_count picks e.most text ≡ count + length (filter is_selected (marked picks (e.most - count) (lines rest)))
+  pub all : printed t e picks text ≡ parts ++ ahead e p (marked picks (e.most - count) (lines t rest))
+  pub counted : selected_count t picks e.most text ≡ count + length (filter is_selected (marked picks (e.most - count) (lines t rest)))

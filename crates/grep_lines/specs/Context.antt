@@ -3,6 +3,8 @@ use Rattle.std.specs.Prelude.{◌≡◌, ℕ, ◌+◌, ◌-◌, ◌==◌, ◌&&�
 use Rattle.std.specs.List.{list_any}
 use Rattle.grep_lines.specs.Lines.{lines}
 use Rattle.grep_lines.specs.declared.context.Extent.{Extent}
+use Rattle.grep_lines.specs.declared.context.PrintError.{PrintError}
+use Rattle.grep_lines.specs.declared.context.PrintError.TheVariants.{Print, Read}
 
 -- A line of a text, and whether it is selected.
 pub record Marked : Type 0 where
@@ -19,9 +21,15 @@ marked picks most (line ∷ rest) =
     let passes = picks line && nat_lt 0 most in
     record { line = line; selected = passes } ∷ marked picks (if passes then most - 1 else most) rest
 
--- A line that is printed, by its number, which begins at 1: as selected, or as context.
+-- the bytes of lines, with a terminator behind each
+abbrev pub size_of : List Marked → ℕ
+size_of [] = 0
+size_of (m ∷ ms) = length m.line + 1 + size_of ms
+
+-- A line that is printed, by its number, which begins at 1, and the place at which it begins: as selected, or as context.
 pub record Shown : Type 0 where
   pub number : ℕ
+  pub place : ℕ
   pub selected : Bool
   pub line : List ℕ
 
@@ -35,7 +43,7 @@ abbrev pub shown : Extent → (seen rest : List Marked) → List Shown
 shown e seen [] = []
 shown e seen (m ∷ rest) =
     if is_shown e seen m rest
-    then record { number = length seen + 1; selected = m.selected; line = m.line } ∷ shown e (m ∷ seen) rest
+    then record { number = length seen + 1; place = size_of seen; selected = m.selected; line = m.line } ∷ shown e (m ∷ seen) rest
     else shown e (m ∷ seen) rest
 
 -- What is printed: a line, or the separator between two lines that don't touch.
@@ -54,14 +62,23 @@ separated behind [] = []
 separated behind (s ∷ rest) = gap behind s.number ++ line_of s ∷ separated (Some (s.number + 1)) rest
 
 -- what is printed of a text
-abbrev pub printed : Extent → (List ℕ → Bool) → (text : List ℕ) → List Part
-printed e picks text = separated None (shown e [] (marked picks e.most (lines text)))
+abbrev pub printed : (terminator : ℕ) → Extent → (List ℕ → Bool) → (text : List ℕ) → List Part
+printed t e picks text = separated None (shown e [] (marked picks e.most (lines t text)))
 
 -- the number of selected lines
-abbrev pub selected_count : (List ℕ → Bool) → (most : ℕ) → (text : List ℕ) → ℕ
-selected_count picks most text = length (filter is_selected (marked picks most (lines text)))
+abbrev pub selected_count : (terminator : ℕ) → (List ℕ → Bool) → (most : ℕ) → (text : List ℕ) → ℕ
+selected_count t picks most text = length (filter is_selected (marked picks most (lines t text)))
 
 -- What a printer has printed gained these parts. `None` claims nothing.
 abbrev pub Prints : (old new : Option (List Part)) → List Part → Type 0
 Prints None new parts = Unit {0}
 Prints (Some before) new parts = new ≡ Some (before ++ parts)
+
+-- A beginning of what is printed of a text was printed.
+abbrev pub PrintsBeginning : (terminator : ℕ) → Extent → (List ℕ → Bool) → (old new : Option (List Part)) → (text : List ℕ) → Type 0
+PrintsBeginning t e picks old new text = (parts rest : List Part) × (printed t e picks text ≡ parts ++ rest) × Prints old new parts
+
+-- It holds if the reader failed. A printer that failed claims nothing.
+abbrev pub IfRead : PrintError → Type 0 → Type 0
+IfRead (Read fault) claim = claim
+IfRead (Print fault) claim = Unit {0}

@@ -5,21 +5,21 @@ use Rattle.std.specs.Io.KnownBytes.{Keeps}
 use Rattle.grep_lines.specs.Lines.{lines}
 use Rattle.grep_lines.specs.Selected.{TakesLine}
 
-abbrev pub is_newline : ℕ → Bool
-is_newline b = b == 10
+abbrev pub ends_line : (terminator : ℕ) → ℕ → Bool
+ends_line t b = b == t
 
--- the text is empty, or its last byte is a newline
-abbrev pub IsWhole : List ℕ → Type 0
-IsWhole text = (k : ℕ) → k + 1 ≡ length text → slice_index text k ≡ 10
+-- the text is empty, or its last byte is a terminator
+abbrev pub IsWhole : (terminator : ℕ) → List ℕ → Type 0
+IsWhole t text = (k : ℕ) → k + 1 ≡ length text → slice_index text k ≡ t
 
 -- The page's bytes before `end` are so many whole lines, and no further line ends at the place or before.
-pub record AreLinesBefore (page : List ℕ) (place end count : ℕ) : Type 0 where
+pub record AreLinesBefore (t : ℕ) (page : List ℕ) (place end count : ℕ) : Type 0 where
   pub within : end ≤ place
-  pub whole : IsWhole (take end page)
-  pub counted : count ≡ length (lines (take end page))
-  pub furthest : (k : ℕ) → end ≤ k → k < place → slice_index page k ≢ 10
+  pub whole : IsWhole t (take end page)
+  pub counted : count ≡ length (lines t (take end page))
+  pub furthest : (k : ℕ) → end ≤ k → k < place → slice_index page k ≢ t
 
 -- A reader that had `old` left has `new`: the first line was taken, or nothing.
-abbrev pub MayTake : Bool → (old new : Option (List ℕ)) (line : List ℕ) → Type 0
-MayTake true old new line = IfSome old (λ text. TakesLine text true line new)
-MayTake false old new line = (line ≡ []) × Keeps old new
+abbrev pub MayTake : (terminator : ℕ) → Bool → (old new : Option (List ℕ)) (line : List ℕ) → Type 0
+MayTake t true old new line = IfSome old (λ text. TakesLine t text true line new)
+MayTake t false old new line = (line ≡ []) × Keeps old new

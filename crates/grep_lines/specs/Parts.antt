@@ -14,8 +14,8 @@ placed number place [] = []
 placed number place (line ∷ rest) = record { number = number; place = place; line = line } ∷ placed (number + 1) (place + length line + 1) rest
 
 -- the selected lines of a text: numbers begin at 1, places at 0
-abbrev pub selected : (List ℕ → Bool) → (text : List ℕ) → List Placed
-selected picks text = filter (λ s. picks s.line) (placed 1 0 (lines text))
+abbrev pub selected : (terminator : ℕ) → (List ℕ → Bool) → (text : List ℕ) → List Placed
+selected t picks text = filter (λ s. picks s.line) (placed 1 0 (lines t text))
 
 -- the line, behind so many lines with so many bytes
 abbrev pub shifted : (count bytes : ℕ) → Placed → Placed

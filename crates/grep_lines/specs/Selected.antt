@@ -1,35 +1,35 @@
--- Which lines are selected.
+-- Which lines are selected. Lines end in the byte `t`.
 use Rattle.std.specs.Prelude.{◌≡◌, ℕ, ◌+◌, Bool, false, true, List, [], ◌∷◌, ◌++◌, Option, Some, filter, length}
 use Rattle.grep_lines.specs.Lines.{lines}
 
 -- The first line of a text was read, and `left` holds the others; or there is no line.
-abbrev pub TakesLine : List ℕ → Bool → (line : List ℕ) (left : Option (List ℕ)) → Type 0
-TakesLine text true line left = (rest : List ℕ) × (left ≡ Some rest) × (lines text ≡ line ∷ lines rest)
-TakesLine text false line left = lines text ≡ []
+abbrev pub TakesLine : (terminator : ℕ) → List ℕ → Bool → (line : List ℕ) (left : Option (List ℕ)) → Type 0
+TakesLine t text true line left = (rest : List ℕ) × (left ≡ Some rest) × (lines t text ≡ line ∷ lines t rest)
+TakesLine t text false line left = lines t text ≡ []
 
 -- None of the lines before what is left is selected.
-pub record AreSkipped (picks : List ℕ → Bool) (text : List ℕ) (count : ℕ) (left : Option (List ℕ)) : Type 0 where
+pub record AreSkipped (t : ℕ) (picks : List ℕ → Bool) (text : List ℕ) (count : ℕ) (left : Option (List ℕ)) : Type 0 where
   pub rest : List ℕ
   pub known : left ≡ Some rest
   pub skipped : List (List ℕ)
-  pub parts : lines text ≡ skipped ++ lines rest
+  pub parts : lines t text ≡ skipped ++ lines t rest
   pub counted : count ≡ length skipped
   pub unselected : filter picks skipped ≡ []
 
 -- The line is the first that is selected, and the n-th of all; `left` holds the text after it.
-pub record IsNextSelected (picks : List ℕ → Bool) (text line : List ℕ) (left : Option (List ℕ)) (n : ℕ) : Type 0 where
+pub record IsNextSelected (t : ℕ) (picks : List ℕ → Bool) (text line : List ℕ) (left : Option (List ℕ)) (n : ℕ) : Type 0 where
   pub rest : List ℕ
   pub known : left ≡ Some rest
   pub skipped : List (List ℕ)
-  pub parts : lines text ≡ skipped ++ line ∷ lines rest
+  pub parts : lines t text ≡ skipped ++ line ∷ lines t rest
   pub counted : n ≡ length skipped + 1
   pub unselected : filter picks skipped ≡ []
   pub selected : picks line ≡ true
 
 -- Reading stopped where the bytes of the line were read, and `left` holds those after them; none of the lines before is selected.
-pub record IsStopped (picks : List ℕ → Bool) (text line : List ℕ) (left : Option (List ℕ)) : Type 0 where
+pub record IsStopped (t : ℕ) (picks : List ℕ → Bool) (text line : List ℕ) (left : Option (List ℕ)) : Type 0 where
   pub rest : List ℕ
   pub known : left ≡ Some rest
   pub skipped : List (List ℕ)
-  pub parts : lines text ≡ skipped ++ lines (line ++ rest)
+  pub parts : lines t text ≡ skipped ++ lines t (line ++ rest)
   pub unselected : filter picks skipped ≡ []

@@ -1,7 +1,7 @@
 //! Context: the selected lines, and the lines around them.
-ghost use Rattle.std.specs.Prelude.{◌≡◌, ◌≢◌, ◌<◌, ◌+◌, ◌^◌, ◌++◌, ◌∷◌, [], ℕ, List, Bool, Option, None, Some, IfOk, IfSome, OnOk, false, true, length, nat_lt, ◌&&◌, ◌-◌};
+ghost use Rattle.std.specs.Prelude.{◌≡◌, ◌≢◌, ◌<◌, ◌+◌, ◌^◌, ◌++◌, ◌∷◌, [], ℕ, List, Bool, Option, None, Some, IfErr, IfOk, IfSome, OnOk, false, true, length, nat_lt, ◌&&◌, ◌-◌};
 ghost use Rattle.grep_lines.specs.Ahead.{Advances, Flushes, IsSound, Skips};
-ghost use Rattle.grep_lines.specs.Context.{Part, Prints, gap, printed, selected_count};
+ghost use Rattle.grep_lines.specs.Context.{IfRead, Part, Prints, PrintsBeginning, gap, printed, selected_count};
 ghost use Rattle.grep_lines.specs.Context.Part.{line_of, separator};
 
 use crate::select::{LineSelector, next_line};
@@ -26,16 +26,22 @@ pub trait LinePrinter<S: LineSelector> {
     /// What was printed, in order, or `None`, which claims nothing.
     ghost printed: { Self → Option (List Part) };
 
-    /// Prints a line. It has no newline.
+    /// Prints a line, which begins at this place of the text. It has no terminator.
     fn print_line(
         &mut self,
         selector: &mut S,
         number: u64,
+        place: u64,
         is_selected: bool,
         line: &[u8],
     ) -> io::Result<()>
         ensures ok { OnOk result (Prints (printed self.old) (printed self.new)
-            (line_of (record { number = number; selected = is_selected; line = line.now }) ∷ [])) }
+            (line_of (record {
+              number = number;
+              place = place;
+              selected = is_selected;
+              line = line.now;
+            }) ∷ [])) }
         ensures same { S.selects selector.new ≡ S.selects selector.old };
 
     /// Prints a separator.
@@ -48,7 +54,8 @@ pub trait LinePrinter<S: LineSelector> {
 pub enum PrintError {
     /// An error of the reader, or out of memory for a line, or there are 2^64 - 2 lines.
     Read(io::Error),
-    /// An error of the printer, or out of memory for the lines that are kept.
+    /// An error of the printer, or out of memory for the lines that are kept, or there are 2^64
+    /// bytes.
     Print(io::Error),
 }
 
@@ -60,16 +67,33 @@ struct Progress {
     kept: VecDeque<Vec<u8>>,
     /// The number of the first of them, or of the next line.
     next: u64,
+    /// The place at which that line begins.
+    place: u64,
     /// The number of lines that are still context of the last selected line.
     left: u64,
     /// The number behind the line that was printed last.
     behind: Option<u64>,
 }
 
+/// Where the line behind this one begins, if this one begins at `place`. An `Err` means that there
+/// are 2^64 bytes.
+fn place_behind(place: u64, line: &[u8]) -> io::Result<u64>
+    ensures { IfOk result (λ end. end ≡ place + length line.now + 1) }
+{
+    let Some(end) = place.checked_add(line.len() as u64) else {
+        return Err(io::Error::from(ErrorKind::Other));
+    };
+    if end == u64::MAX {
+        return Err(io::Error::from(ErrorKind::Other));
+    }
+    Ok(end + 1)
+}
+
 impl Progress {
     fn new(alloc: Global) -> Progress
         ensures kept { result.kept.items ≡ [] }
         ensures next { result.next ≡ 1 }
+        ensures place { result.place ≡ 0 }
         ensures left { result.left ≡ 0 }
         ensures behind { result.behind ≡ None }
     {
@@ -77,6 +101,7 @@ impl Progress {
             alloc,
             kept: VecDeque::new(alloc),
             next: 1,
+            place: 0,
             left: 0,
             behind: None,
         }
@@ -94,11 +119,13 @@ impl Progress {
         ensures ok { OnOk result (Prints (P.printed printer.old) (P.printed printer.new)
             (gap self.old.behind self.old.next ++ line_of (record {
               number = self.old.next;
+              place = self.old.place;
               selected = is_selected;
               line = line.now;
             }) ∷ [])) }
         ensures progress { OnOk result (self.new ≡ record self.old {
           next = self.old.next + 1;
+          place = self.old.place + length line.now + 1;
           behind = Some (self.old.next + 1);
         }) }
         ensures same { S.selects selector.new ≡ S.selects selector.old }
@@ -108,7 +135,8 @@ impl Progress {
                 printer.print_separator()?;
             }
         }
-        printer.print_line(selector, self.next, is_selected, line)?;
+        printer.print_line(selector, self.next, self.place, is_selected, line)?;
+        self.place = place_behind(self.place, line)?;
         self.next += 1;
         self.behind = Some(self.next);
         Ok(())
@@ -150,6 +178,7 @@ impl Progress {
             .push_back(mem::replace(line, Vec::new(self.alloc)))?;
         if self.kept.len() > extent.before {
             if let Some(oldest) = self.kept.pop_front() {
+                self.place = place_behind(self.place, &oldest)?;
                 *line = oldest;
                 self.next += 1;
             }
@@ -203,19 +232,23 @@ fn selects_more<S: LineSelector>(selector: &mut S, line: &[u8], count: u64, most
 ///
 /// It reads no further than to the last line that is printed if the greatest number of lines is
 /// selected, and else to the end. It keeps as many lines as are printed before a selected one.
-/// After an `Err` a part of them was printed.
+/// After an error of the reader the first of them were printed, as far as they were known.
 pub fn print_selected<R: BufRead, S: LineSelector, P: LinePrinter<S>>(
     alloc: Global,
     reader: &mut R,
     selector: &mut S,
     printer: &mut P,
+    terminator: u8,
     extent: Extent,
 ) -> Result<u64, PrintError>
     ensures printed { OnOk result (IfSome (R.remaining reader.old) (λ text.
         Prints (P.printed printer.old) (P.printed printer.new)
-        (printed extent (S.selects selector.old) text))) }
+        (printed terminator extent (S.selects selector.old) text))) }
     ensures counted { IfOk result (λ count. IfSome (R.remaining reader.old) (λ text.
-        count ≡ selected_count (S.selects selector.old) extent.most text)) }
+        count ≡ selected_count terminator (S.selects selector.old) extent.most text)) }
+    ensures begun { IfErr result (λ e. IfRead e (IfSome (R.remaining reader.old) (λ text.
+        PrintsBeginning terminator extent (S.selects selector.old) (P.printed printer.old)
+        (P.printed printer.new) text))) }
     ensures same { S.selects selector.new ≡ S.selects selector.old }
 {
     let mut progress = Progress::new(alloc);
@@ -225,7 +258,7 @@ pub fn print_selected<R: BufRead, S: LineSelector, P: LinePrinter<S>>(
         if count == extent.most && progress.left == 0 {
             return Ok(count);
         }
-        match next_line(reader, &mut line) {
+        match next_line(reader, terminator, &mut line) {
             Ok(true) => {}
             Ok(false) => return Ok(count),
             Err(fault) => return Err(PrintError::Read(fault)),

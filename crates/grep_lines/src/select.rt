@@ -14,7 +14,7 @@ use std::io::{BufRead, ErrorKind};
 
 /// A selector of lines.
 pub trait LineSelector {
-    /// Whether a line is selected. It has no newline.
+    /// Whether a line is selected. It has no terminator.
     ghost selects: { Self → List ℕ → Bool };
 
     /// Whether the line is selected. The answer for a line never changes.
@@ -24,10 +24,11 @@ pub trait LineSelector {
 
     /// A position in a page at which a line begins, such that no line of the page that ends before
     /// it is selected. Those lines need no look of their own. It is 0 if nothing is known.
-    fn next_candidate(&mut self, page: &[u8]) -> usize
+    /// Lines end in the byte `terminator`.
+    fn next_candidate(&mut self, terminator: u8, page: &[u8]) -> usize
         ensures within { result ≤ length page.now }
         ensures unselected { (start end : ℕ) → start ≤ end → end < result
-            → AreLinesOf page.now start end
+            → AreLinesOf terminator page.now start end
             → selects self.old (slice_range page.now start end) ≡ false }
         ensures same { selects self.new ≡ selects self.old }
     {
@@ -35,14 +36,18 @@ pub trait LineSelector {
     }
 }
 
-/// Reads the next line into `line`, without its newline, replacing its content, if the buffer of
-/// the reader contains the line and its newline. Returns whether it does; otherwise nothing is
+/// Reads the next line into `line`, without its terminator, replacing its content, if the buffer of
+/// the reader contains the line and its terminator. Returns whether it does; otherwise nothing is
 /// consumed, and `line` is empty.
-fn take_line<R: BufRead>(reader: &mut R, line: &mut Vec<u8>) -> io::Result<bool>
+fn take_line<R: BufRead>(
+    reader: &mut R,
+    terminator: u8,
+    line: &mut Vec<u8>,
+) -> io::Result<bool>
     ensures err { OnErr result (Keeps (R.remaining reader.old) (R.remaining reader.new)) }
     ensures err_empty { OnErr result (line.new.items ≡ []) }
     ensures retried { IfErr result (λ e. error_kind e ≢ ErrorKind.Interrupted) }
-    ensures taken { IfOk result (λ taken. MayTake taken (R.remaining reader.old)
+    ensures taken { IfOk result (λ taken. MayTake terminator taken (R.remaining reader.old)
         (R.remaining reader.new) line.new.items) }
 {
     line.clear();
@@ -51,7 +56,7 @@ fn take_line<R: BufRead>(reader: &mut R, line: &mut Vec<u8>) -> io::Result<bool>
         Err(fault) if fault.kind() == ErrorKind::Interrupted => return Ok(false),
         Err(fault) => return Err(fault),
     };
-    let Some(end) = memchr(b'\n', page) else {
+    let Some(end) = memchr(terminator, page) else {
         return Ok(false);
     };
     line.extend_from_slice(&page[..end])?;
@@ -59,29 +64,33 @@ fn take_line<R: BufRead>(reader: &mut R, line: &mut Vec<u8>) -> io::Result<bool>
     Ok(true)
 }
 
-/// Reads the next line into `line`, without its newline, replacing its content. Returns false at
-/// the end, and then `line` is empty. The bytes after the last newline are a line, if there are
-/// any.
+/// Reads the next line into `line`, without its terminator, replacing its content. Returns false
+/// at the end, and then `line` is empty. The bytes after the last terminator are a line, if there
+/// are any. A newline, `b'\n'`, is the usual terminator.
 ///
 /// An `Err` is one of the reader, or out of memory for the line. What was read of the line is in
 /// `line` then: no byte is lost.
-pub fn next_line<R: BufRead>(reader: &mut R, line: &mut Vec<u8>) -> io::Result<bool>
+pub fn next_line<R: BufRead>(
+    reader: &mut R,
+    terminator: u8,
+    line: &mut Vec<u8>,
+) -> io::Result<bool>
     ensures empty { IfOk result (λ more. more ≡ false → line.new.items ≡ []) }
     ensures none_lost { OnErr result (Consumes (R.remaining reader.old)
         (R.remaining reader.new) line.new.items) }
-    ensures one_line { OnErr result (StopsAt line.new.items 10) }
+    ensures one_line { OnErr result (StopsAt line.new.items terminator) }
     ensures retried { IfErr result (λ e. error_kind e ≢ ErrorKind.Interrupted) }
     ensures taken { IfOk result (λ more. IfSome (R.remaining reader.old)
-        (λ text. TakesLine text more line.new.items (R.remaining reader.new))) }
+        (λ text. TakesLine terminator text more line.new.items (R.remaining reader.new))) }
 {
-    if take_line(reader, line)? {
+    if take_line(reader, terminator, line)? {
         return Ok(true);
     }
-    if reader.read_until(b'\n', line)? == 0 {
+    if reader.read_until(terminator, line)? == 0 {
         return Ok(false);
     }
     let last = line.len() - 1;
-    if line[last] == b'\n' {
+    if line[last] == terminator {
         line.truncate(last);
         return Ok(true);
     }
@@ -90,9 +99,13 @@ pub fn next_line<R: BufRead>(reader: &mut R, line: &mut Vec<u8>) -> io::Result<b
 
 /// Skips lines in the buffer of the reader of which none is selected, and returns how many. It may
 /// be none.
-fn skip_lines<R: BufRead, S: LineSelector>(reader: &mut R, selector: &mut S) -> io::Result<u64>
+fn skip_lines<R: BufRead, S: LineSelector>(
+    reader: &mut R,
+    selector: &mut S,
+    terminator: u8,
+) -> io::Result<u64>
     ensures skipped { IfOk result (λ count. IfSome (R.remaining reader.old) (λ text.
-        AreSkipped (S.selects selector.old) text count (R.remaining reader.new))) }
+        AreSkipped terminator (S.selects selector.old) text count (R.remaining reader.new))) }
     ensures same { S.selects selector.new ≡ S.selects selector.old }
     ensures err { OnErr result (Keeps (R.remaining reader.old) (R.remaining reader.new)) }
     ensures retried { IfErr result (λ e. error_kind e ≢ ErrorKind.Interrupted) }
@@ -102,8 +115,8 @@ fn skip_lines<R: BufRead, S: LineSelector>(reader: &mut R, selector: &mut S) -> 
         Err(fault) if fault.kind() == ErrorKind::Interrupted => return Ok(0),
         Err(fault) => return Err(fault),
     };
-    let candidate = selector.next_candidate(page);
-    let (end, count) = lines_before(page, candidate);
+    let candidate = selector.next_candidate(terminator, page);
+    let (end, count) = lines_before(page, terminator, candidate);
     reader.consume(end);
     Ok(count)
 }
@@ -118,28 +131,29 @@ fn skip_lines<R: BufRead, S: LineSelector>(reader: &mut R, selector: &mut S) -> 
 pub fn next_selected<R: BufRead, S: LineSelector>(
     reader: &mut R,
     selector: &mut S,
+    terminator: u8,
     line: &mut Vec<u8>,
 ) -> io::Result<Option<u64>>
     ensures found { IfOk result (λ o. IfSome (R.remaining reader.old) (λ text. MatchOption o
-        (filter (S.selects selector.old) (lines text) ≡ [])
-        (IsNextSelected (S.selects selector.old) text line.new.items (R.remaining reader.new)))) }
+        (filter (S.selects selector.old) (lines terminator text) ≡ [])
+        (IsNextSelected terminator (S.selects selector.old) text line.new.items (R.remaining reader.new)))) }
     ensures same { S.selects selector.new ≡ S.selects selector.old }
     ensures empty { IfOk result (λ o. IfNone o (line.new.items ≡ [])) }
     ensures stopped { OnErr result (IfSome (R.remaining reader.old)
-        (λ text. IsStopped (S.selects selector.old) text line.new.items (R.remaining reader.new))) }
-    ensures one_line { OnErr result (StopsAt line.new.items 10) }
+        (λ text. IsStopped terminator (S.selects selector.old) text line.new.items (R.remaining reader.new))) }
+    ensures one_line { OnErr result (StopsAt line.new.items terminator) }
     ensures retried { IfErr result (λ e. error_kind e ≢ ErrorKind.Interrupted) }
 {
     let mut before: u64 = 0;
     for _ in 0..u64::MAX {
         line.clear();
-        let Some(passed) = before.checked_add(skip_lines(reader, selector)?) else {
+        let Some(passed) = before.checked_add(skip_lines(reader, selector, terminator)?) else {
             break;
         };
         let Some(number) = passed.checked_add(1) else {
             break;
         };
-        if !next_line(reader, line)? {
+        if !next_line(reader, terminator, line)? {
             return Ok(None);
         }
         if selector.selects(line) {

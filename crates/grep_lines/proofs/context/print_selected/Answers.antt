@@ -1,7 +1,7 @@
 use Rattle.std.proofs.Common.{Bool, ℕ, false, true, ◌≡◌, ◌+◌, ◌-◌, ◌≤◌, ◌&&◌, ◌∙◌, List, IfSome, ap, arith, cond, length, nat_lt, refl, subst, sym}
 use Rattle.grep_lines.specs.Ahead.{Stands}
 use Rattle.grep_lines.specs.Selected.{TakesLine}
-use Rattle.grep_lines.proofs.StandsLemmas.{few_more, stands_first, stands_next, told_at_end, told_enough}
+use Rattle.grep_lines.proofs.StandsLemmas.{begun, few_more, stands_first, stands_next, told_at_end, told_enough}
 use Rattle.grep_lines.proofs.context.print_selected.Goals as goal
 use Rattle.grep_lines.proofs.context.print_selected.Goals.{then-is_selected, else-is_selected}
 
@@ -15,20 +15,20 @@ loop-read-init g c =
       size = omega (arith, new.next, ap length new.kept);
       few = omega arith;
       stands =
-          stands_first c.args.extent (g.S.LineSelector.selects c.args.selector.now) (g.P.LinePrinter.printed c.args.printer.now) c.new-progress.result
-          (g.R.Read.remaining c.args.reader.now) new.kept new.next new.left new.behind;
+          stands_first c.args.terminator c.args.extent (g.S.LineSelector.selects c.args.selector.now) (g.P.LinePrinter.printed c.args.printer.now) c.new-progress.result
+          (g.R.Read.remaining c.args.reader.now) new.kept new.next new.place new.left new.behind;
     }
 
 -- enough lines were selected, and those behind the last one printed
 pub returns-then-progress-eq0-clause-printed : goal.returns-then-progress-eq0-clause-printed
 returns-then-progress-eq0-clause-printed g c =
-    (told_enough c.args.extent (g.S.LineSelector.selects c.args.selector.now) (g.P.LinePrinter.printed c.args.printer.now) c.loop-read.progress
+    (told_enough c.args.terminator c.args.extent (g.S.LineSelector.selects c.args.selector.now) (g.P.LinePrinter.printed c.args.printer.now) c.loop-read.progress
     (g.P.LinePrinter.printed c.loop-read.printer) c.loop-read.count (g.R.Read.remaining c.args.reader.now) (g.R.Read.remaining c.loop-read.reader)
     (omega arith) (omega arith) c.loop-read.invariant.stands).0
 
 pub returns-then-progress-eq0-clause-counted : goal.returns-then-progress-eq0-clause-counted
 returns-then-progress-eq0-clause-counted g c =
-    (told_enough c.args.extent (g.S.LineSelector.selects c.args.selector.now) (g.P.LinePrinter.printed c.args.printer.now) c.loop-read.progress
+    (told_enough c.args.terminator c.args.extent (g.S.LineSelector.selects c.args.selector.now) (g.P.LinePrinter.printed c.args.printer.now) c.loop-read.progress
     (g.P.LinePrinter.printed c.loop-read.printer) c.loop-read.count (g.R.Read.remaining c.args.reader.now) (g.R.Read.remaining c.loop-read.reader)
     (omega arith) (omega arith) c.loop-read.invariant.stands).1
 
@@ -38,9 +38,9 @@ returns-in-Ok-false-clause-printed g c =
     let mid = g.R.Read.remaining c.loop-read.reader in
     let left = g.R.Read.remaining c.next_line.new.reader in
     let line = c.next_line.new.line.items in
-    let ended : IfSome mid (λ text. TakesLine text false line left) =
-    subst (λ b. IfSome mid (λ text. TakesLine text b line left)) c.in-Ok-false.field-0-test c.in-Ok-false.ensures.taken in
-    (told_at_end c.args.extent (g.S.LineSelector.selects c.args.selector.now) (g.P.LinePrinter.printed c.args.printer.now) c.loop-read.progress
+    let ended : IfSome mid (λ text. TakesLine c.args.terminator text false line left) =
+    subst (λ b. IfSome mid (λ text. TakesLine c.args.terminator text b line left)) c.in-Ok-false.field-0-test c.in-Ok-false.ensures.taken in
+    (told_at_end c.args.terminator c.args.extent (g.S.LineSelector.selects c.args.selector.now) (g.P.LinePrinter.printed c.args.printer.now) c.loop-read.progress
     (g.P.LinePrinter.printed c.loop-read.printer) c.loop-read.count (g.R.Read.remaining c.args.reader.now) mid left line c.loop-read.invariant.sound ended
     c.loop-read.invariant.stands).0
 
@@ -49,9 +49,9 @@ returns-in-Ok-false-clause-counted g c =
     let mid = g.R.Read.remaining c.loop-read.reader in
     let left = g.R.Read.remaining c.next_line.new.reader in
     let line = c.next_line.new.line.items in
-    let ended : IfSome mid (λ text. TakesLine text false line left) =
-    subst (λ b. IfSome mid (λ text. TakesLine text b line left)) c.in-Ok-false.field-0-test c.in-Ok-false.ensures.taken in
-    (told_at_end c.args.extent (g.S.LineSelector.selects c.args.selector.now) (g.P.LinePrinter.printed c.args.printer.now) c.loop-read.progress
+    let ended : IfSome mid (λ text. TakesLine c.args.terminator text false line left) =
+    subst (λ b. IfSome mid (λ text. TakesLine c.args.terminator text b line left)) c.in-Ok-false.field-0-test c.in-Ok-false.ensures.taken in
+    (told_at_end c.args.terminator c.args.extent (g.S.LineSelector.selects c.args.selector.now) (g.P.LinePrinter.printed c.args.printer.now) c.loop-read.progress
     (g.P.LinePrinter.printed c.loop-read.printer) c.loop-read.count (g.R.Read.remaining c.args.reader.now) mid left line c.loop-read.invariant.sound ended
     c.loop-read.invariant.stands).1
 
@@ -67,8 +67,8 @@ loop-read-preserved g c =
     let count = c.loop-read.count in
     let more = c.if-is_selected.count in
     let b = c.selects_more-is_selected.result in
-    let taken : IfSome mid (λ text. TakesLine text true line left) =
-    subst (λ b. IfSome mid (λ text. TakesLine text b line left)) c.in-Ok-true.field-0-test c.in-Ok-true.ensures.taken in
+    let taken : IfSome mid (λ text. TakesLine c.args.terminator text true line left) =
+    subst (λ b. IfSome mid (λ text. TakesLine c.args.terminator text b line left)) c.in-Ok-true.field-0-test c.in-Ok-true.ensures.taken in
     let passes : b ≡ (picks line && nat_lt 0 (e.most - count)) =
     c.selects_more-is_selected.ensures.value
     ∙ ap (λ (l : List ℕ). g.S.LineSelector.selects c.loop-read.selector l && nat_lt 0 (e.most - count)) c.deref.ensures.value
@@ -86,6 +86,20 @@ loop-read-preserved g c =
       size = omega (arith, ensured.next, inv.size);
       few = few_more e.most count more (picks line) b inv.few is passes;
       stands =
-          stands_next e picks (g.P.LinePrinter.printed c.args.printer.now) c.loop-read.progress c.take.new.self (g.P.LinePrinter.printed c.loop-read.printer)
+          stands_next c.args.terminator e picks (g.P.LinePrinter.printed c.args.printer.now) c.loop-read.progress c.take.new.self (g.P.LinePrinter.printed c.loop-read.printer)
           (g.P.LinePrinter.printed c.take.new.printer) count more line (g.R.Read.remaining c.args.reader.now) mid left b inv.stands taken passes is ensured.ok;
     }
+
+-- a line couldn't be read
+pub returns-in-Err-clause-begun : goal.returns-in-Err-clause-begun
+returns-in-Err-clause-begun g c =
+    begun c.args.terminator c.args.extent (g.S.LineSelector.selects c.args.selector.now) (g.P.LinePrinter.printed c.args.printer.now) c.loop-read.progress
+    (g.P.LinePrinter.printed c.loop-read.printer) c.loop-read.count (g.R.Read.remaining c.args.reader.now) (g.R.Read.remaining c.loop-read.reader)
+    c.loop-read.invariant.stands
+
+-- there are too many lines
+pub returns-clause-begun : goal.returns-clause-begun
+returns-clause-begun g c =
+    begun c.args.terminator c.args.extent (g.S.LineSelector.selects c.args.selector.now) (g.P.LinePrinter.printed c.args.printer.now) c.loop-read.progress
+    (g.P.LinePrinter.printed c.loop-read.printer) c.loop-read.count (g.R.Read.remaining c.args.reader.now) (g.R.Read.remaining c.loop-read.reader)
+    c.loop-read.invariant.stands

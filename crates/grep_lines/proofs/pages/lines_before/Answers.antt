@@ -13,15 +13,15 @@ returns c =
     let near : last + 1 ≡ last + 1 = omega arith in
     let shown = take (last + 1) page in
     let sized : length shown ≡ last + 1 = length-take-le (last + 1) page (omega (arith, found.0.high, place_sized, c.requires)) in
-    let ten : get_or page last 0 ≡ 10 =
-    sym (get_or-take c.args.place page last 0 (omega (arith, found.0.high, place_sized))) ∙ eqb-true _ 10 found.1 in
-    let ended : IsWhole shown = λ k e.
+    let ten : get_or page last 0 ≡ c.args.terminator =
+    sym (get_or-take c.args.place page last 0 (omega (arith, found.0.high, place_sized))) ∙ eqb-true _ c.args.terminator found.1 in
+    let ended : IsWhole c.args.terminator shown = λ k e.
     get_or-take (last + 1) page k 0 (omega (arith, e, sized)) ∙ ap (λ i. get_or page i 0) (omega (arith, e, sized)) ∙ ten in
     record {
       within = omega (arith, found.0.high, place_sized);
       whole = ended;
-      counted = c.count_newlines.ensures ∙ count_lines shown ended;
+      counted = c.count_terminators.ensures ∙ count_lines c.args.terminator shown ended;
       furthest = λ k from before is.
           found.0.after k (omega arith) (omega (arith, before, place_sized))
-          (eq-eqb (get_or (take c.args.place page) k 0) 10 (get_or-take c.args.place page k 0 before ∙ is));
+          (eq-eqb (get_or (take c.args.place page) k 0) c.args.terminator (get_or-take c.args.place page k 0 before ∙ is));
     }

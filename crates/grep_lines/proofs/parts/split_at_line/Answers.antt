@@ -12,7 +12,7 @@ returns-clause-selected c = λ picks.
     let front = c.split_at.result.0.now in
     let end = c.match-memrchr.end in
     let split = c.split_at.ensures in
-    let Goal : Type 0 = IsWhole front in
+    let Goal : Type 0 = IsWhole c.args.terminator front in
     let whole : Goal =
     elim c.match-memrchr.branch as (λ _. Goal) [
       | in-Some w ↦ λ k last.
@@ -22,7 +22,7 @@ returns-clause-selected c = λ picks.
           let size : length front ≡ end = omega (arith, ap length split.front, length-take-le end text (omega (arith, w.end-is, within, c.requires))) in
           ap (λ xs. get_or xs k 0) split.front ∙ get_or-take end text k 0 (omega (arith, last, size))
           ∙ ap (λ i. get_or text i 0) (omega (arith, last, size, w.end-is))
-          ∙ sym (get_or-take c.args.place text w.in-Some.last 0 within) ∙ eqb-true _ 10 found.1
+          ∙ sym (get_or-take c.args.place text w.in-Some.last 0 within) ∙ eqb-true _ c.args.terminator found.1
       | in-None w ↦ λ k last. absurd (omega (arith, last, ap length split.front, w.end-is, length-take-le end text (omega (arith, w.end-is))))
     ] in
-    selected_parts picks text front c.split_at.result.1.now (sym (take-append-drop end text) ∙ ap₂ ◌++◌ (sym split.front) (sym split.back)) whole
+    selected_parts c.args.terminator picks text front c.split_at.result.1.now (sym (take-append-drop end text) ∙ ap₂ ◌++◌ (sym split.front) (sym split.back)) whole

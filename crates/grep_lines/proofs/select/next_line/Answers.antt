@@ -8,8 +8,8 @@ use Rattle.grep_lines.specs.Selected.{TakesLine}
 use Rattle.grep_lines.proofs.LineLemmas.{kept_some, takes_cut, takes_whole}
 use Rattle.grep_lines.proofs.select.next_line.Goals as goal
 
-pub returns-then-index-eq10-clause-taken : goal.returns-then-index-eq10-clause-taken
-returns-then-index-eq10-clause-taken g c =
+pub returns-then-index-terminator-clause-taken : goal.returns-then-index-terminator-clause-taken
+returns-then-index-terminator-clause-taken g c =
     let old = g.R.Read.remaining c.args.reader.now in
     let new = g.R.Read.remaining c.read_until.new.self in
     let items = c.read_until.new.buf.items in
@@ -18,15 +18,15 @@ returns-then-index-eq10-clause-taken g c =
     let some : 0 < length items = omega (arith, read.ok, c.if-branch-eq0.false, c.read_until.new.buf.ok.0) in
     let mid = g.R.Read.remaining c.take_line.new.reader in
     let untaken : (c.take_line.new.line.items ≡ []) × Keeps old mid =
-    subst (λ b. MayTake b old mid c.take_line.new.line.items) c.if-branch.false c.in_ok-take_line.ensures.taken in
-    let told : IfSome old (λ xs. items ≡ take_through 10 xs) =
-    kept_some (λ xs. items ≡ take_through 10 xs) old mid untaken.1
-    (subst (λ zs. IfSome mid (λ xs. items ≡ zs ++ take_through 10 xs)) untaken.0 read.bytes) in
-    let dropped : DropsThrough old new 10 = kept_some (λ xs. new ≡ Some (drop_through 10 xs)) old mid untaken.1 read.rest in
+    subst (λ b. MayTake c.args.terminator b old mid c.take_line.new.line.items) c.if-branch.false c.in_ok-take_line.ensures.taken in
+    let told : IfSome old (λ xs. items ≡ take_through c.args.terminator xs) =
+    kept_some (λ xs. items ≡ take_through c.args.terminator xs) old mid untaken.1
+    (subst (λ zs. IfSome mid (λ xs. items ≡ zs ++ take_through c.args.terminator xs)) untaken.0 read.bytes) in
+    let dropped : DropsThrough old new c.args.terminator = kept_some (λ xs. new ≡ Some (drop_through c.args.terminator xs)) old mid untaken.1 read.rest in
     let at_last = get_or_read items (c.len-last.result - 1) c.index.result.now (omega (arith, sized, some)) c.index.ensures 0 in
-    let last : get_or items (length items - 1) 0 ≡ 10 = ap (λ n. get_or items (n - 1) 0) (sym sized) ∙ sym at_last ∙ c.if-index-eq10.true in
+    let last : get_or items (length items - 1) 0 ≡ c.args.terminator = ap (λ n. get_or items (n - 1) 0) (sym sized) ∙ sym at_last ∙ c.if-index-terminator.true in
     let kept : take (length items - 1) items ≡ c.truncate.new.self.items = sym (c.truncate.ensures.items ∙ ap (λ n. take (n - 1) items) sized) in
-    subst (λ line. IfSome old (λ xs. TakesLine xs true line new)) kept (takes_cut new items some old told dropped last)
+    subst (λ line. IfSome old (λ xs. TakesLine c.args.terminator xs true line new)) kept (takes_cut c.args.terminator new items some old told dropped last)
 
 pub returns-clause-taken : goal.returns-clause-taken
 returns-clause-taken g c =
@@ -38,10 +38,10 @@ returns-clause-taken g c =
     let some : 0 < length items = omega (arith, read.ok, c.if-branch-eq0.false, c.read_until.new.buf.ok.0) in
     let mid = g.R.Read.remaining c.take_line.new.reader in
     let untaken : (c.take_line.new.line.items ≡ []) × Keeps old mid =
-    subst (λ b. MayTake b old mid c.take_line.new.line.items) c.if-branch.false c.in_ok-take_line.ensures.taken in
-    let told : IfSome old (λ xs. items ≡ take_through 10 xs) =
-    kept_some (λ xs. items ≡ take_through 10 xs) old mid untaken.1
-    (subst (λ zs. IfSome mid (λ xs. items ≡ zs ++ take_through 10 xs)) untaken.0 read.bytes) in
-    let dropped : DropsThrough old new 10 = kept_some (λ xs. new ≡ Some (drop_through 10 xs)) old mid untaken.1 read.rest in
+    subst (λ b. MayTake c.args.terminator b old mid c.take_line.new.line.items) c.if-branch.false c.in_ok-take_line.ensures.taken in
+    let told : IfSome old (λ xs. items ≡ take_through c.args.terminator xs) =
+    kept_some (λ xs. items ≡ take_through c.args.terminator xs) old mid untaken.1
+    (subst (λ zs. IfSome mid (λ xs. items ≡ zs ++ take_through c.args.terminator xs)) untaken.0 read.bytes) in
+    let dropped : DropsThrough old new c.args.terminator = kept_some (λ xs. new ≡ Some (drop_through c.args.terminator xs)) old mid untaken.1 read.rest in
     let at_last = get_or_read items (c.len-last.result - 1) c.index.result.now (omega (arith, sized, some)) c.index.ensures 0 in
-    takes_whole new items some old told dropped (λ last. c.if-index-eq10.false (at_last ∙ ap (λ n. get_or items (n - 1) 0) sized ∙ last))
+    takes_whole c.args.terminator new items some old told dropped (λ last. c.if-index-terminator.false (at_last ∙ ap (λ n. get_or items (n - 1) 0) sized ∙ last))

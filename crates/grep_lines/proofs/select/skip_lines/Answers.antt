@@ -16,4 +16,4 @@ returns-clause-skipped g c =
     let filled = subst (FillKeeps _ (g.R.Read.remaining rested) (g.R.BufRead.consumable_len rested)) c.in-Ok.is c.fill_buf.follows.holds-at-none in
     let drops = c.consume.ensures.bytes in
     let moved = Consumes_shown _ _ _ _ shown end within c.in-Ok.ensures.front c.in-Ok.ensures.end filled.0 filled.1 drops in
-    skip_page (g.S.LineSelector.selects c.args.selector.now) shown found.result found.ensures.unselected end c.lines_before-end.result.1 are within _ _ moved.0
+    skip_page c.args.terminator (g.S.LineSelector.selects c.args.selector.now) shown found.result found.ensures.unselected end c.lines_before-end.result.1 are within _ _ moved.0

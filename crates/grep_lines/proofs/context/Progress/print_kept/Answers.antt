@@ -26,16 +26,19 @@ loop-line-preserved g c =
     let after = g.P.LinePrinter.printed c.print.new.printer in
     record {
       flushed = (
-        parts ++ (gap was.behind was.next ++ line_of (record { number = was.next; selected = false; line = line.items }) ∷ []),
-        prints_both (g.P.LinePrinter.printed c.args.printer.now) before after parts _ inv.flushed.1 (subst (λ bytes. Prints before after (gap was.behind was.next ++ line_of (record { number = was.next; selected = false; line = bytes }) ∷ [])) c.deref.ensures.value told),
+        parts ++ (gap was.behind was.next ++ line_of (record { number = was.next; place = was.place; selected = false; line = line.items }) ∷ []),
+        prints_both (g.P.LinePrinter.printed c.args.printer.now) before after parts _ inv.flushed.1 (subst (λ bytes. Prints before after (gap was.behind was.next ++ line_of (record { number = was.next; place = was.place; selected = false; line = bytes }) ∷ [])) c.deref.ensures.value told),
         λ m rest h.
             inv.flushed.2 m rest h
             ∙ ap (λ ps. parts ++ ps)
-            (ap₂ (λ (left : ℕ) (ls : List (List ℕ)). ahead_of e was.behind left was.next ls (m ∷ rest)) none (ap contents is)
-            ∙ ahead_kept e was.behind was.next line.items (contents popped) m rest size h
-            ∙ ap (λ ps. (gap was.behind was.next ++ line_of (record { number = was.next; selected = false; line = line.items }) ∷ []) ++ ps)
-            (ap (λ left. ahead_of e (Some (was.next + 1)) left (was.next + 1) (contents popped) (m ∷ rest)) (sym none) ∙ sym (ap (λ p. ahead e p (m ∷ rest)) new)))
-            ∙ sym (append_assoc parts (gap was.behind was.next ++ line_of (record { number = was.next; selected = false; line = line.items }) ∷ []) _),
+            (ap₂ (λ (left : ℕ) (ls : List (List ℕ)). ahead_of e was.behind left was.next was.place ls (m ∷ rest)) none (ap contents is)
+            ∙ ahead_kept e was.behind was.next was.place line.items (contents popped) m rest size h
+            ∙ ap (λ ps. (gap was.behind was.next ++ line_of (record { number = was.next; place = was.place; selected = false; line = line.items }) ∷ []) ++ ps)
+            (ap (λ left. ahead_of e (Some (was.next + 1)) left (was.next + 1) (was.place + length line.items + 1) (contents popped) (m ∷ rest)) (sym none)
+            ∙ ap (λ (bytes : List ℕ). ahead_of e (Some (was.next + 1)) was.left (was.next + 1) (was.place + length bytes + 1) (contents popped) (m ∷ rest))
+            (sym c.deref.ensures.value)
+            ∙ sym (ap (λ p. ahead e p (m ∷ rest)) new)))
+            ∙ sym (append_assoc parts (gap was.behind was.next ++ line_of (record { number = was.next; place = was.place; selected = false; line = line.items }) ∷ []) _),
       );
       sound = subst (λ p. IsSound e p) (sym new) (record { within = omega (arith, ap length is, inv.sound.within); idle = λ _. none });
       same = c.print.ensures.same ∙ inv.same;
