@@ -29,6 +29,9 @@ fn width(entry: &Entry) -> usize {
     let value = match entry.takes {
         Takes::Nothing => 0,
         Takes::Value(value) => value.len().saturating_add(1),
+        Takes::Choice(value) if entry.letter.is_some() => {
+            value.len().saturating_mul(2).saturating_add(5)
+        }
         Takes::Choice(value) => value.len().saturating_add(3),
     };
     entry.name.len().saturating_add(value).saturating_add(8)
@@ -36,9 +39,10 @@ fn width(entry: &Entry) -> usize {
 
 /// Writes an option's names and value.
 fn put_names<W: Write>(out: &mut W, entry: &Entry) -> io::Result<()> {
-    match entry.letter {
-        Some(letter) => write!(out, "  -{letter}, ")?,
-        None => out.write_all(b"      ")?,
+    match (entry.letter, entry.takes) {
+        (Some(letter), Takes::Choice(value)) => write!(out, "  -{letter}[{value}], ")?,
+        (Some(letter), _) => write!(out, "  -{letter}, ")?,
+        (None, _) => out.write_all(b"      ")?,
     }
     let name = entry.name;
     match entry.takes {
@@ -86,9 +90,12 @@ pub fn put_help<W: Write>(out: &mut W, program: &Program, options: &[Entry]) -> 
 fn put_manual<W: Write>(out: &mut W, options: &[Entry]) -> io::Result<()> {
     for entry in options {
         let name = entry.name;
-        match entry.letter {
-            Some(letter) => write!(out, ".It Fl {letter} , Fl -{name}")?,
-            None => write!(out, ".It Fl -{name}")?,
+        match (entry.letter, entry.takes) {
+            (Some(letter), Takes::Choice(value)) => {
+                write!(out, ".It Fl {letter} Ns Op Ar {value} , Fl -{name}")?;
+            }
+            (Some(letter), _) => write!(out, ".It Fl {letter} , Fl -{name}")?,
+            (None, _) => write!(out, ".It Fl -{name}")?,
         }
         match entry.takes {
             Takes::Nothing => writeln!(out)?,
@@ -135,7 +142,8 @@ fn put_zsh_option<W: Write>(out: &mut W, entry: &Entry) -> io::Result<()> {
     if let Some(letter) = entry.letter {
         match entry.takes {
             Takes::Value(value) => writeln!(out, "  '*-{letter}+[{help}]:{value}:' \\")?,
-            _ => writeln!(out, "  '-{letter}[{help}]' \\")?,
+            Takes::Choice(value) => writeln!(out, "  '-{letter}-[{help}]::{value}:' \\")?,
+            Takes::Nothing => writeln!(out, "  '-{letter}[{help}]' \\")?,
         }
     }
     match entry.takes {

@@ -3,7 +3,7 @@
 use crate::table::{Entry, Id, Program, Section, Takes};
 
 /// The options of `rcgrep`.
-pub static OPTIONS: [Entry; 32] = [
+pub static OPTIONS: [Entry; 37] = [
     Entry {
         id: Id::Regexp,
         section: Section::Patterns,
@@ -117,12 +117,28 @@ pub static OPTIONS: [Entry; 32] = [
         help: "Print each match alone, and no empty one.",
     },
     Entry {
+        id: Id::Replace,
+        section: Section::Output,
+        letter: None,
+        name: "replace",
+        takes: Takes::Value("TEMPLATE"),
+        help: "Print matches replaced: $1 or $name is a group, $0 the match, $$ a dollar sign.",
+    },
+    Entry {
         id: Id::LineNumber,
         section: Section::Output,
         letter: Some('n'),
         name: "line-number",
         takes: Takes::Nothing,
         help: "Print the number of each line before it.",
+    },
+    Entry {
+        id: Id::ByteOffset,
+        section: Section::Output,
+        letter: Some('b'),
+        name: "byte-offset",
+        takes: Takes::Nothing,
+        help: "Print the place of each line, or match with -o, before it, in bytes.",
     },
     Entry {
         id: Id::NoFilename,
@@ -163,6 +179,22 @@ pub static OPTIONS: [Entry; 32] = [
         name: "line-buffered",
         takes: Takes::Nothing,
         help: "Write each line at once.",
+    },
+    Entry {
+        id: Id::Json,
+        section: Section::Output,
+        letter: None,
+        name: "json",
+        takes: Takes::Nothing,
+        help: "Print records of JSON, as ripgrep does: begin, match, context, end, summary.",
+    },
+    Entry {
+        id: Id::Stats,
+        section: Section::Output,
+        letter: None,
+        name: "stats",
+        takes: Takes::Nothing,
+        help: "Print at the end how much was searched and found.",
     },
     Entry {
         id: Id::AfterContext,
@@ -219,6 +251,14 @@ pub static OPTIONS: [Entry; 32] = [
         name: "hidden",
         takes: Takes::Nothing,
         help: "In folders, search names that begin with a dot too.",
+    },
+    Entry {
+        id: Id::NullData,
+        section: Section::Files,
+        letter: Some('z'),
+        name: "null-data",
+        takes: Takes::Nothing,
+        help: "Lines end in a NUL byte, not in a newline.",
     },
     Entry {
         id: Id::Text,

@@ -93,6 +93,25 @@ impl<'w> Given<'w> {
         Ok(None)
     }
 
+    /// Takes an option whose letter ends a word, or has its value right behind it. Returns the option
+    /// if its value is the next word.
+    fn take_value(
+        &mut self,
+        entry: Entry,
+        word: &'w str,
+        rest: &'w str,
+    ) -> Result<Option<Awaiting<'w>>, WordsError<'w>> {
+        if !rest.is_empty() {
+            self.options.push((entry.id, Some(rest)))?;
+            return Ok(None);
+        }
+        if let Takes::Value(_) = entry.takes {
+            return Ok(Some(Awaiting { id: entry.id, word }));
+        }
+        self.options.push((entry.id, None))?;
+        Ok(None)
+    }
+
     /// Takes letters, of which the last one may have a value behind it. Returns the option if its
     /// value is the next word.
     fn take_letters(
@@ -109,13 +128,8 @@ impl<'w> Given<'w> {
             let Some(entry) = by_letter(table, letter) else {
                 return Err(WordsError::Unknown(word));
             };
-            if let Takes::Value(_) = entry.takes {
-                let rest = letters.as_str();
-                if rest.is_empty() {
-                    return Ok(Some(Awaiting { id: entry.id, word }));
-                }
-                self.options.push((entry.id, Some(rest)))?;
-                return Ok(None);
+            if entry.takes != Takes::Nothing {
+                return self.take_value(entry, word, letters.as_str());
             }
             self.options.push((entry.id, None))?;
         }
@@ -124,8 +138,9 @@ impl<'w> Given<'w> {
 }
 
 /// The options and operands that the words give. Letters may stand together, as in `-ne PATTERN`
-/// and `-A3`. The value of a long option stands behind `=`, or is the next word. No word behind `--`
-/// is an option, and `-` is none.
+/// and `-A3`. The value of a long option stands behind `=`, or is the next word. One that may be
+/// missing stands in the same word, as in `-i.bak` and `--in-place=.bak`. No word behind `--` is an
+/// option, and `-` is none.
 pub fn read_words<'w>(
     alloc: Global,
     table: &[Entry],

@@ -40,12 +40,16 @@ pub enum Id {
     Quiet,
     NoMessages,
     OnlyMatching,
+    Replace,
     LineNumber,
+    ByteOffset,
     NoFilename,
     WithFilename,
     MaxCount,
     Color,
     LineBuffered,
+    Json,
+    Stats,
     AfterContext,
     BeforeContext,
     Context,
@@ -53,6 +57,7 @@ pub enum Id {
     Include,
     Exclude,
     Hidden,
+    NullData,
     Text,
     NoBinary,
     InPlace,
@@ -70,7 +75,7 @@ pub enum Takes {
     Nothing,
     /// It takes one, with this name in help texts.
     Value(&'static str),
-    /// It takes one behind `=`, or none.
+    /// It takes one behind `=` or right behind the letter, or none.
     Choice(&'static str),
 }
 
