@@ -174,7 +174,7 @@ same_between a b c d f g WordEndHalfUnicode is = rw (same_word c d g, same_broke
 first_part : (n : ℕ) (xs : List ℕ) → slice_range xs 0 n ≡ take n xs
 first_part n xs = ap (λ k. take k xs) (omega arith)
 
-module _ (text : List ℕ) (start end : ℕ) (order : start ≤ end) (are : AreLinesOf text start end) where
+module _ (text : List ℕ) (start end : ℕ) (order : start ≤ end) (are : AreLinesOf 10 text start end) where
   abbrev line : List ℕ
   line = slice_range text start end
 

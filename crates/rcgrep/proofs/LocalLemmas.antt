@@ -195,7 +195,7 @@ local_law q text start end is short order are near =
     (piece_same text start end order inside) looks (answer (search_for q (whole piece))) refl
 
 -- the lines of a part of a text are lines of the text
-lines_of_part : (page : List ℕ) (reach start end : ℕ) → start ≤ end → end < reach → AreLinesOf page start end → AreLinesOf (take reach page) start end
+lines_of_part : (page : List ℕ) (reach start end : ℕ) → start ≤ end → end < reach → AreLinesOf 10 page start end → AreLinesOf 10 (take reach page) start end
 lines_of_part page reach start end order near are = record {
   before = λ k e. byte_of_part k (omega (arith, e, order, near)) (are.before k e);
   behind = byte_of_part end near are.behind;
@@ -240,7 +240,7 @@ module _ (r : Regex) (page : List ℕ) (reach : ℕ) (inside : reach ≤ length 
   abbrev first : ℕ
   first = start_or (length (take reach page)) (answer_by (regex_kind r) (search_for (sought r) (whole (take reach page))))
 
-  unmatched_by : IsLocalRegex r → (start end : ℕ) → start ≤ end → AreLinesOf page start end → end < first → has_match r (slice_range page start end) ≡ false
+  unmatched_by : IsLocalRegex r → (start end : ℕ) → start ≤ end → AreLinesOf 10 page start end → end < first → has_match r (slice_range page start end) ≡ false
   unmatched_by is start end order are near =
       let text = take reach page in
       let size : length text ≡ reach = length-take-le reach page inside in
@@ -254,7 +254,7 @@ module _ (r : Regex) (page : List ℕ) (reach : ℕ) (inside : reach ≤ length 
       ∙ local_law (sought r) text start end is.local (omega (arith, size, short)) order
       (lines_of_part page reach start end order (omega (arith, size, before, begins_inside (sought r) text found refl)) are) before
 
-  pub unmatched : ∥ IsLocalRegex r ∥₁ → (start end : ℕ) → start ≤ end → AreLinesOf page start end → end < first → has_match r (slice_range page start end) ≡ false
+  pub unmatched : ∥ IsLocalRegex r ∥₁ → (start end : ℕ) → start ≤ end → AreLinesOf 10 page start end → end < first → has_match r (slice_range page start end) ≡ false
   unmatched h start end order are near = ∥∥₁_elim h (hlevel props) (λ is. unmatched_by is start end order are near)
 
   inside_by : IsLocalRegex r → first ≤ length page

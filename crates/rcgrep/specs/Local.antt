@@ -50,5 +50,5 @@ start_or end (Some m) = m.start
 
 -- no line of a text that ends before its first match has a match
 abbrev pub LocalLaw : Type 0
-LocalLaw = (q : Sought) (text : List ℕ) (start end : ℕ) → IsLocal q → length text < 18446744073709551616 → start ≤ end → AreLinesOf text start end →
+LocalLaw = (q : Sought) (text : List ℕ) (start end : ℕ) → IsLocal q → length text < 18446744073709551616 → start ≤ end → AreLinesOf 10 text start end →
     end < start_or (length text) (answer (search_for q (whole text))) → is_some (answer (search_for q (whole (slice_range text start end)))) ≡ false

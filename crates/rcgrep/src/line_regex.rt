@@ -2,7 +2,8 @@
 ghost use Rattle.std.specs.Prelude.{◌≡◌, ◌<◌, ◌≤◌, IfOk, None, false, length};
 ghost use Rattle.rc_program.specs.Kinds.{answer_by};
 ghost use Rattle.rc_program.specs.Sought.{search_for};
-ghost use Rattle.api_meta.specs.Views.{regex_kind, sought};
+ghost use Rattle.rc_captures.specs.Captures.{IsCapturesFor};
+ghost use Rattle.api_meta.specs.Views.{regex_kind, regex_names, sought};
 ghost use Rattle.regex_cursor.specs.Output.{whole};
 ghost use Rattle.rcgrep.specs.Local.{start_or};
 ghost use Rattle.rcgrep.specs.Picked.{IsLine, IsLineFrom, found_from, has_match, is_picked};
@@ -10,8 +11,8 @@ ghost use Rattle.rcgrep.specs.Picked.{IsLine, IsLineFrom, found_from, has_match,
 use crate::patterns::Patterns;
 use grep_lines::LineSelector;
 use regex_cursor::Input;
-use regex_cursor::engines::meta::Cache;
-use regex_cursor::types::Match;
+use regex_cursor::engines::meta::{Cache, Captures};
+use regex_cursor::types::{Match, Span};
 use std::alloc::{AllocError, Global};
 use std::marker::Model;
 use std::simd::prelude::*;
@@ -143,6 +144,52 @@ impl<'p> LineRegex<'p> {
         let mut input = input_from(line, from);
         self.patterns.regex.search_with(&mut self.cache, &mut input)
     }
+
+    /// Captures for `find_captures`, without a match. An `Err` means out of memory.
+    pub fn create_captures(&self, alloc: Global) -> Result<Captures, AllocError>
+        ensures { IfOk result (IsCapturesFor (regex_names self.now.regex)) }
+    {
+        self.patterns.regex.create_captures(alloc)
+    }
+
+    /// Finds the match that `find_from` finds, with its groups.
+    pub fn find_captures(&mut self, line: &[u8], from: usize, caps: &mut Captures)
+        requires within { from ≤ length line.now }
+        requires made { IsCapturesFor (regex_names self.old.regex) caps.old }
+        ensures still_made { IsCapturesFor (regex_names self.new.regex) caps.new }
+        ensures regex { self.new.regex ≡ self.old.regex }
+        ensures inverted { self.new.is_inverted ≡ self.old.is_inverted }
+    {
+        let mut input = input_from(line, from);
+        self.patterns
+            .regex
+            .search_captures_with(&mut self.cache, &mut input, caps);
+    }
+
+    /// The matches in the line, empty ones among them. An empty match behind another one is one only
+    /// if it doesn't touch that one. An `Err` means out of memory.
+    pub fn all_matches(&mut self, alloc: Global, line: &[u8]) -> Result<Vec<Span>, AllocError>
+        ensures regex { self.new.regex ≡ self.old.regex }
+        ensures inverted { self.new.is_inverted ≡ self.old.is_inverted }
+    {
+        let mut matches = Vec::new(alloc);
+        let mut from = 0;
+        let mut last = None;
+        for _ in 0..=line.len() {
+            let Some(found) = self.find_from(line, from) else {
+                break;
+            };
+            from = found.end();
+            if found.is_empty() {
+                from = from.saturating_add(1);
+            }
+            if !found.is_empty() || last != Some(found.end()) {
+                matches.push(found.span())?;
+            }
+            last = Some(found.end());
+        }
+        Ok(matches)
+    }
 }
 
 /// The number of bytes in whole blocks before the first block with a byte past ASCII.
@@ -199,8 +246,8 @@ impl LineSelector for LineRegex<'_> {
         }
     }
 
-    fn next_candidate(&mut self, page: &[u8]) -> usize {
-        if self.is_inverted || self.reach == 0 || !self.patterns.is_local {
+    fn next_candidate(&mut self, terminator: u8, page: &[u8]) -> usize {
+        if terminator != b'\n' || self.is_inverted || self.reach == 0 || !self.patterns.is_local {
             return 0;
         }
         let reach = self.reach_in(page);

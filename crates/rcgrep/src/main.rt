@@ -3,11 +3,14 @@
 #![tactic(auto)]
 
 mod faults;
+mod json;
 mod line_regex;
 mod options;
 mod output;
 mod patterns;
 mod search;
+mod stats;
+mod template;
 mod texts;
 
 use crate::faults::{FAULT, report, report_refusal, report_unread};
@@ -72,19 +75,19 @@ fn patterns_of(rt: &HostRuntime, options: &Options<'_>, files: &[String]) -> Res
     let Ok(texts) = all_texts(rt.alloc(), &options.patterns, files) else {
         return Err(report(rt, "out of memory"));
     };
-    if has_newline(&texts) {
+    if !options.null_data && has_newline(&texts) {
         return Err(report(rt, "a pattern has a newline, and no line has one"));
     }
     let folds_case = options.ignore_case || (options.smart_case && !have_capital(&texts));
     let config = Config::new().case_insensitive(folds_case);
     if !options.is_fixed {
-        return build_texts(rt, &texts, &config, options.fit);
+        return build_texts(rt, &texts, &config, options.fit());
     }
     let Ok(patterns) = all_escaped(rt.alloc(), &texts) else {
         return Err(report(rt, "out of memory"));
     };
     match lent(rt.alloc(), &patterns) {
-        Ok(texts) => build_texts(rt, &texts, &config, options.fit),
+        Ok(texts) => build_texts(rt, &texts, &config, options.fit()),
         Err(_) => Err(report(rt, "out of memory")),
     }
 }
@@ -164,6 +167,7 @@ fn run_given(rt: &HostRuntime, given: &Given<'_>) -> u8 {
         }
         Err(Refusal::Generate(kind)) => generate(rt, kind),
         Err(Refusal::BadValue(value)) => report_usage(rt, "no option takes", value),
+        Err(Refusal::Clash) => report_usage(rt, "no record is printed with -c, -l, -L or -q", ""),
         Err(Refusal::NoPattern) => report_usage(rt, "no pattern", ""),
         Err(Refusal::Memory) => report(rt, "out of memory"),
     }

@@ -35,6 +35,8 @@ pub enum Fit {
     Any,
     Words,
     Line,
+    /// Like `Line`, in lines that may have newlines.
+    Text,
 }
 
 /// What is searched, and how it is printed.
@@ -54,7 +56,15 @@ pub struct Options<'w> {
     pub lists: Option<Report>,
     pub no_messages: bool,
     pub only_matching: bool,
+    /// The template that matches are replaced by, if they are.
+    pub template: Option<&'w str>,
+    /// Whether records of JSON are printed.
+    pub json: bool,
+    /// Whether statistics are printed.
+    pub stats: bool,
     pub numbers: bool,
+    /// Whether the place of each line, or match, is printed.
+    pub places: bool,
     /// Whether names of files are printed, if that is said.
     pub names: Option<bool>,
     /// The greatest number of selected lines of a file.
@@ -68,6 +78,8 @@ pub struct Options<'w> {
     pub include: Vec<&'w str>,
     pub exclude: Vec<&'w str>,
     pub hidden: bool,
+    /// Whether lines end in a NUL byte.
+    pub null_data: bool,
     pub text: bool,
     pub no_binary: bool,
     /// The names of files; `-` is the standard input. There is at least one.
@@ -85,6 +97,8 @@ pub enum Refusal<'w> {
     Generate(&'w str),
     /// This value of an option isn't one of those that it takes.
     BadValue(&'w str),
+    /// Records are asked for, and something else in their place.
+    Clash,
     /// A pattern is missing.
     NoPattern,
     /// Out of memory.
@@ -133,7 +147,11 @@ impl<'w> Options<'w> {
             lists: None,
             no_messages: false,
             only_matching: false,
+            template: None,
+            json: false,
+            stats: false,
             numbers: false,
+            places: false,
             names: None,
             most: u64::MAX,
             color: When::Never,
@@ -145,6 +163,7 @@ impl<'w> Options<'w> {
             include: Vec::new(alloc),
             exclude: Vec::new(alloc),
             hidden: false,
+            null_data: false,
             text: false,
             no_binary: false,
             files: Vec::new(alloc),
@@ -179,9 +198,12 @@ impl<'w> Options<'w> {
             Id::NoMessages => self.no_messages = true,
             Id::OnlyMatching => self.only_matching = true,
             Id::LineNumber => self.numbers = true,
+            Id::ByteOffset => self.places = true,
             Id::NoFilename => self.names = Some(false),
             Id::WithFilename => self.names = Some(true),
             Id::LineBuffered => self.line_buffered = true,
+            Id::Json => self.json = true,
+            Id::Stats => self.stats = true,
             _ => return false,
         }
         true
@@ -192,6 +214,7 @@ impl<'w> Options<'w> {
         match id {
             Id::Recursive => self.recursive = true,
             Id::Hidden => self.hidden = true,
+            Id::NullData => self.null_data = true,
             Id::Text => self.text = true,
             Id::NoBinary => self.no_binary = true,
             _ => return false,
@@ -205,6 +228,7 @@ impl<'w> Options<'w> {
             Id::Regexp => self.patterns.push(value)?,
             Id::File => self.pattern_files.push(value)?,
             Id::MaxCount => self.most = number(value)?,
+            Id::Replace => self.template = Some(value),
             Id::AfterContext => self.after = Some(number(value)?),
             Id::BeforeContext => self.before = Some(number(value)?),
             Id::Context => self.around = Some(number(value)?),
@@ -267,6 +291,9 @@ impl<'w> Options<'w> {
             options.set(id, value)?;
         }
         options.take_operands(&given.operands)?;
+        if options.json && options.report() != Report::Lines {
+            return Err(Refusal::Clash);
+        }
         Ok(options)
     }
 
@@ -282,6 +309,20 @@ impl<'w> Options<'w> {
             Report::Count
         } else {
             Report::Lines
+        }
+    }
+
+    /// The byte in which lines end.
+    pub fn terminator(&self) -> u8 {
+        if self.null_data { 0 } else { b'\n' }
+    }
+
+    /// The part of a line that a match has to be.
+    pub fn fit(&self) -> Fit {
+        if self.null_data && self.fit == Fit::Line {
+            Fit::Text
+        } else {
+            self.fit
         }
     }
 

@@ -69,6 +69,7 @@ fn fitted(alloc: Global, hir: Hir, fit: Fit) -> Result<Hir, AllocError>
         Fit::Any => return Ok(hir),
         Fit::Words => (Look::WordStartHalfUnicode, Look::WordEndHalfUnicode),
         Fit::Line => (Look::StartLF, Look::EndLF),
+        Fit::Text => (Look::Start, Look::End),
     };
     let mut members = Vec::new(alloc);
     members.push(Hir::look(before))?;

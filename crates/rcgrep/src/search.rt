@@ -1,9 +1,12 @@
 //! File search: the files, or the standard input, line by line.
 
+use crate::json::{Recorder, Records};
 use crate::line_regex::LineRegex;
 use crate::options::{Options, Report};
 use crate::output::{Output, Printer, Style, put_count};
 use crate::patterns::Patterns;
+use crate::stats::Stats;
+use crate::template::Template;
 use grep_files::{Choice, FoundFile, Identity, Walk};
 use grep_lines::{Extent, LinePrinter, PrintError, next_selected, print_selected};
 use memchr::memchr;
@@ -11,12 +14,16 @@ use std::alloc::Global;
 use std::fs::File;
 use std::io;
 use std::io::{BufRead, BufReader, BufWriter, Read, Write};
+use std::time::{Duration, Instant};
 
 /// The length of the pages in which a file is read, in bytes.
 const PAGE: usize = 65_536;
 
 /// The name of the standard input, in what is printed.
 const STDIN: &str = "(standard input)";
+
+/// Its name in records.
+const STDIN_RECORD: &str = "<stdin>";
 
 /// The message for a file that is searched and written to.
 const IS_OUTPUT: &str = "input file is also the output";
@@ -46,6 +53,7 @@ impl From<PrintError> for Fault {
 struct Job<'o, 'w> {
     alloc: Global,
     options: &'o Options<'w>,
+    template: Option<&'o Template<'w>>,
     /// The file to which lines are written, if they are written to a file.
     output: Option<Identity>,
     is_colored: bool,
@@ -59,26 +67,8 @@ fn is_binary<R: BufRead>(reader: &mut R) -> bool {
     }
 }
 
-/// The number of selected lines of a reader: at most `most`, and then the rest isn't read.
-fn count_lines<R: BufRead>(
-    alloc: Global,
-    selector: &mut LineRegex<'_>,
-    reader: &mut R,
-    most: u64,
-) -> io::Result<u64> {
-    let mut line = Vec::new(alloc);
-    let mut count: u64 = 0;
-    for _ in 0..u64::MAX {
-        if count >= most || next_selected(reader, selector, &mut line)?.is_none() {
-            return Ok(count);
-        }
-        count = count.saturating_add(1);
-    }
-    Ok(count)
-}
-
-/// Prints the selected lines of a reader: at most `most`, and then the rest isn't read. Returns how
-/// many there were.
+/// Prints the selected lines of a reader, without their places: at most `most`, and then the rest
+/// isn't read. Returns how many there were.
 fn print_lines<R: BufRead, W: Write + Drop>(
     alloc: Global,
     selector: &mut LineRegex<'_>,
@@ -86,6 +76,7 @@ fn print_lines<R: BufRead, W: Write + Drop>(
     printer: &mut Printer<'_, W>,
     most: u64,
 ) -> Result<u64, Fault> {
+    let terminator = printer.style.terminator;
     let mut line = Vec::new(alloc);
     let mut count: u64 = 0;
     let mut number: u64 = 0;
@@ -93,14 +84,14 @@ fn print_lines<R: BufRead, W: Write + Drop>(
         if count >= most {
             return Ok(count);
         }
-        let read = match next_selected(reader, selector, &mut line) {
+        let read = match next_selected(reader, selector, terminator, &mut line) {
             Ok(Some(read)) => read,
             Ok(None) => return Ok(count),
             Err(fault) => return Err(Fault::Read(fault)),
         };
         number = number.saturating_add(read);
         count = count.saturating_add(1);
-        if let Err(fault) = printer.print_line(selector, number, true, &line) {
+        if let Err(fault) = printer.print_line(selector, number, 0, true, &line) {
             return Err(Fault::Write(fault));
         }
     }
@@ -108,6 +99,29 @@ fn print_lines<R: BufRead, W: Write + Drop>(
 }
 
 impl Job<'_, '_> {
+    /// The number of selected lines of a reader: at most `most`, and then the rest isn't read.
+    fn count_lines<R: BufRead, W: Write + Drop>(
+        &self,
+        selector: &mut LineRegex<'_>,
+        reader: &mut R,
+        out: &mut Output<W>,
+        most: u64,
+    ) -> io::Result<u64> {
+        let terminator = self.options.terminator();
+        let mut line = Vec::new(self.alloc);
+        let mut count: u64 = 0;
+        for _ in 0..u64::MAX {
+            if count >= most || next_selected(reader, selector, terminator, &mut line)?.is_none() {
+                return Ok(count);
+            }
+            count = count.saturating_add(1);
+            if out.stats.is_some() {
+                out.count_line(self.alloc, selector, self.options.invert, &line)?;
+            }
+        }
+        Ok(count)
+    }
+
     /// Prints the lines of a reader, with those around them if that is asked for, and returns how
     /// many were selected.
     fn put_lines<R: BufRead, W: Write + Drop>(
@@ -117,31 +131,75 @@ impl Job<'_, '_> {
         out: &mut Output<W>,
         name: &str,
     ) -> Result<u64, Fault> {
-        let style = Style::of(self.options, self.is_colored, name);
+        let style = Style::of(
+            self.alloc,
+            self.options,
+            self.template,
+            self.is_colored,
+            name,
+        );
         let most = self.options.most;
-        let Some((before, after)) = self.options.context() else {
-            let mut printer = Printer {
-                out,
-                style,
-                is_apart: false,
-            };
-            return print_lines(self.alloc, selector, reader, &mut printer, most);
-        };
-        let extent = Extent {
-            before: usize::try_from(before).unwrap_or(usize::MAX),
-            after,
-            most,
-        };
         let has_groups = out.has_groups;
         let mut printer = Printer {
             out,
             style,
             is_apart: has_groups,
         };
-        let count = print_selected(self.alloc, reader, selector, &mut printer, extent)?;
+        if !style.separates && !style.places {
+            return print_lines(self.alloc, selector, reader, &mut printer, most);
+        }
+        let extent = self.extent();
+        let terminator = style.terminator;
+        let count = print_selected(
+            self.alloc,
+            reader,
+            selector,
+            &mut printer,
+            terminator,
+            extent,
+        )?;
         drop(printer);
-        out.has_groups = has_groups || count > 0;
+        out.has_groups = has_groups || (style.separates && count > 0);
         Ok(count)
+    }
+
+    /// Prints the records of a reader's lines, and returns whether one was selected. The last one is
+    /// left to `Records::finish`.
+    fn put_records<R: BufRead, W: Write + Drop>(
+        &self,
+        selector: &mut LineRegex<'_>,
+        reader: &mut R,
+        out: &mut Output<W>,
+        name: &str,
+    ) -> Result<bool, Fault> {
+        let terminator = self.options.terminator();
+        let mut recorder = Recorder {
+            alloc: self.alloc,
+            out,
+            name,
+            terminator,
+            is_inverted: self.options.invert,
+        };
+        let extent = self.extent();
+        let count = print_selected(
+            self.alloc,
+            reader,
+            selector,
+            &mut recorder,
+            terminator,
+            extent,
+        )?;
+        Ok(count > 0)
+    }
+
+    /// How many lines are printed around a selected one, and how many are selected.
+    fn extent(&self) -> Extent {
+        let (before, after) = self.options.context().unwrap_or((0, 0));
+        Extent {
+            before: usize::try_from(before).unwrap_or(usize::MAX),
+            after,
+            most: self.options.most,
+        }
     }
 
     /// Prints what is asked for of a reader, and returns whether a line was selected.
@@ -154,11 +212,14 @@ impl Job<'_, '_> {
         report: Report,
     ) -> Result<bool, Fault> {
         let most = match report {
+            Report::Lines if self.options.json => {
+                return self.put_records(selector, reader, out, name);
+            }
             Report::Lines => return Ok(self.put_lines(selector, reader, out, name)? > 0),
             Report::Count => self.options.most,
             _ => self.options.most.min(1),
         };
-        let count = match count_lines(self.alloc, selector, reader, most) {
+        let count = match self.count_lines(selector, reader, out, most) {
             Ok(count) => count,
             Err(fault) => return Err(Fault::Read(fault)),
         };
@@ -192,9 +253,8 @@ impl Job<'_, '_> {
         }
     }
 
-    /// Searches one reader, in pages, and returns whether a line was selected. A binary file is
-    /// passed over in a folder, and else its lines aren't printed: that one is selected is told on
-    /// the standard error.
+    /// Searches one reader, in pages, and returns whether a line was selected. It counts what was
+    /// searched, if that is asked for.
     fn search<R: Read + Drop, W: Write + Drop>(
         &self,
         rt: &HostRuntime,
@@ -204,12 +264,46 @@ impl Job<'_, '_> {
         name: &str,
         is_in_folder: bool,
     ) -> Result<bool, Fault> {
-        let mut reader = match BufReader::with_capacity(self.alloc, PAGE, inner) {
+        let begun = self.now(rt);
+        let before = out.stats;
+        out.stats = before.map(|_| Stats::new());
+        let made = BufReader::with_capacity(self.alloc, PAGE, inner.take(u64::MAX));
+        let mut reader = match made {
             Ok(reader) => reader,
             Err(fault) => return Err(Fault::Read(fault)),
         };
+        let found = self.search_reader(rt, selector, &mut reader, out, name, is_in_folder);
+        let read = u64::MAX - reader.get_ref().limit();
+        drop(reader);
+        let is_any = matches!(found, Ok(true));
+        match out.end_file(name, read, is_any, elapsed(rt, begun), before) {
+            Ok(()) => found,
+            Err(fault) => Err(Fault::Write(fault)),
+        }
+    }
+
+    /// The time, if times are counted.
+    fn now(&self, rt: &HostRuntime) -> Option<Instant> {
+        if self.options.stats || self.options.json {
+            Instant::now(rt).ok()
+        } else {
+            None
+        }
+    }
+
+    /// Searches one reader for `search`. A binary file is passed over in a folder, and else its
+    /// lines aren't printed: that one is selected is told on the standard error.
+    fn search_reader<R: BufRead, W: Write + Drop>(
+        &self,
+        rt: &HostRuntime,
+        selector: &mut LineRegex<'_>,
+        reader: &mut R,
+        out: &mut Output<W>,
+        name: &str,
+        is_in_folder: bool,
+    ) -> Result<bool, Fault> {
         let mut report = self.options.report();
-        if !self.options.text && is_binary(&mut reader) {
+        if !self.options.text && !self.options.null_data && is_binary(reader) {
             if is_in_folder {
                 return Ok(false);
             }
@@ -220,11 +314,20 @@ impl Job<'_, '_> {
                 report = Report::Binary;
             }
         }
-        let is_any = self.put_report(selector, &mut reader, out, name, report)?;
+        let is_any = self.put_report(selector, reader, out, name, report)?;
         if is_any && report == Report::Binary {
             let _ = writeln!(rt.stderr(), "rcgrep: {name}: binary file matches");
         }
         Ok(is_any)
+    }
+
+    /// The name of the standard input, in what is printed.
+    fn stdin_name(&self) -> &'static str {
+        if self.options.json {
+            STDIN_RECORD
+        } else {
+            STDIN
+        }
     }
 
     /// Whether the lines of this file would be written to the file itself.
@@ -245,7 +348,7 @@ impl Job<'_, '_> {
             if self.is_output(Identity::of_stdin(rt)) {
                 return Err(Fault::IsOutput);
             }
-            return self.search(rt, selector, rt.stdin(), out, STDIN, false);
+            return self.search(rt, selector, rt.stdin(), out, self.stdin_name(), false);
         }
         let opened = match File::open(rt, path) {
             Ok(opened) => opened,
@@ -326,13 +429,31 @@ impl Job<'_, '_> {
         patterns: &Patterns,
         walk: &mut Walk<'_>,
     ) -> io::Result<u8> {
+        let begun = self.now(rt);
+        let counts = self.options.stats || self.options.json;
         let mut out = Output {
             writer: BufWriter::new(self.alloc, rt.stdout())?,
             has_groups: false,
+            stats: if counts { Some(Stats::new()) } else { None },
+            buffer: Vec::new(self.alloc),
+            records: if self.options.json {
+                Some(Records::new(self.alloc))
+            } else {
+                None
+            },
         };
         let status = self.search_by(rt, patterns, walk, &mut out)?;
+        out.put_total(elapsed(rt, begun))?;
         out.writer.flush()?;
         Ok(status)
+    }
+}
+
+/// How long it is since then, or nothing if that isn't known.
+fn elapsed(rt: &HostRuntime, begun: Option<Instant>) -> Duration {
+    match begun {
+        Some(begun) => begun.elapsed(rt).unwrap_or(Duration::ZERO),
+        None => Duration::ZERO,
     }
 }
 
@@ -379,9 +500,14 @@ pub fn search_all(
         return Ok(status_of(false, false));
     }
     let alloc = rt.alloc();
+    let template = match options.template {
+        Some(text) => Some(Template::new(alloc, text)?),
+        None => None,
+    };
     let job = Job {
         alloc,
         options,
+        template: template.as_ref(),
         output: output_of(rt, options),
         is_colored,
     };
