@@ -399,7 +399,8 @@ impl<W: Write + Drop> Output<W> {
 
     /// Prints the bytes of the buffer, and counts them.
     pub fn put_buffer(&mut self) -> io::Result<()> {
-        self.count_bytes(self.buffer.len());
+        let count = self.buffer.len();
+        self.count_bytes(count);
         self.writer.write_all(&self.buffer)
     }
 

@@ -50,10 +50,10 @@ impl From<PrintError> for Fault {
 
 /// How lines are searched and printed, and where to.
 #[derive(Clone, Copy)]
-struct Job<'o, 'w> {
+struct Job<'o, 't, 'w> {
     alloc: Global,
     options: &'o Options<'w>,
-    template: Option<&'o Template<'w>>,
+    template: Option<&'t Template<'w>>,
     /// The file to which lines are written, if they are written to a file.
     output: Option<Identity>,
     is_colored: bool,
@@ -98,7 +98,7 @@ fn print_lines<R: BufRead, W: Write + Drop>(
     Ok(count)
 }
 
-impl Job<'_, '_> {
+impl Job<'_, '_, '_> {
     /// The number of selected lines of a reader: at most `most`, and then the rest isn't read.
     fn count_lines<R: BufRead, W: Write + Drop>(
         &self,

@@ -4,6 +4,7 @@ use Rattle.rc_program.specs.Kinds.{answer_by}
 use Rattle.rc_program.specs.Sought.{search_for}
 use Rattle.api_meta.specs.Views.{regex_kind, sought}
 use Rattle.regex_cursor.specs.Output.{whole}
+use Rattle.grep_lines.specs.Lines.{AreLinesOf}
 use Rattle.rcgrep.specs.Local.{start_or}
 use Rattle.rcgrep.specs.Picked.{has_match, is_picked}
 use Rattle.rcgrep.specs.Selecting.{Selecting}
@@ -36,5 +37,6 @@ returns-clause-unselected c = λ start end order near are.
     ∙ sym (ap (λ (s : Selecting). start_or (length text) (answer_by (regex_kind s.regex) (search_for (sought s.regex) (whole text)))) c.self.view_is) in
     sym (ap (λ (s : Selecting). is_picked s.is_inverted (has_match s.regex piece)) c.self.view_is)
     ∙ ap (λ b. is_picked b (has_match r piece)) c.if-self.false
-    ∙ unmatched r page reach (omega (arith, c.reach_in-reach.ensures)) c.reach_in-reach.type_inv (inner.patterns.now.local c.if-not-self.false) start end order are
+    ∙ unmatched r page reach (omega (arith, c.reach_in-reach.ensures)) c.reach_in-reach.type_inv (inner.patterns.now.local c.if-not-self.false) start end order
+    (subst (λ t. AreLinesOf t page start end) c.if-terminator-eq10.false are)
     (subst (λ n. end < n) told near)
