@@ -38,5 +38,5 @@ returns-clause-unselected c = λ start end order near are.
     sym (ap (λ (s : Selecting). is_picked s.is_inverted (has_match s.regex piece)) c.self.view_is)
     ∙ ap (λ b. is_picked b (has_match r piece)) c.if-self.false
     ∙ unmatched r page reach (omega (arith, c.reach_in-reach.ensures)) c.reach_in-reach.type_inv (inner.patterns.now.local c.if-not-self.false) start end order
-    (subst (λ t. AreLinesOf t page start end) c.if-terminator-eq10.false are)
+    (subst (λ t. AreLinesOf t page start end) c.if-terminator-ne10.false are)
     (subst (λ n. end < n) told near)
