@@ -8,7 +8,7 @@ use Rattle.live_matches.specs.declared.entries.Kept.{Kept}
 use Rattle.live_matches.specs.Entries.{AreBehind, AreBelow, Rise, counted_back, entries_of, last_end, mirror, most_of, moved_by, reach_of}
 
 -- the last of a list
-last_at : {X : Type 0} (xs : List X) (i : ℕ) (x : X) → i + 1 ≡ length xs → slice_get xs i ≡ Some x →
+pub last_at : {X : Type 0} (xs : List X) (i : ℕ) (x : X) → i + 1 ≡ length xs → slice_get xs i ≡ Some x →
     (init : List X) × (xs ≡ init ++ x ∷ [])
 last_at [] i x h e = absurd (none-some x e)
 last_at (y ∷ []) zero x h e = ([], ap (λ z. z ∷ []) (same_Some y x e))
@@ -83,7 +83,7 @@ edited_one len removed inserted e over order =
     let b : len - removed + inserted - e.found.start ≡ len - e.found.start - removed + inserted = omega (arith, over, order) in
     ap₂ (λ s t. record { found = record { pattern = e.found.pattern; start = s; end = t }; ahead = e.ahead }) a b
 
-behind_split : (at : ℕ) (es fs : List Entry) → AreBehind at (es ++ fs) → AreBehind at es × AreBehind at fs
+pub behind_split : (at : ℕ) (es fs : List Entry) → AreBehind at (es ++ fs) → AreBehind at es × AreBehind at fs
 behind_split at [] fs a = (tt, a)
 behind_split at (e ∷ es) fs a = let r = behind_split at es fs a.2 in ((a.0, a.1, r.0), r.1)
 

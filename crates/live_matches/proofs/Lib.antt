@@ -2,6 +2,7 @@ mod Gaps
 mod Moves
 mod Listed
 mod Nexts
+mod Drawns
 mod Updates
 mod Searches
 mod Lives

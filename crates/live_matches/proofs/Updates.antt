@@ -1,14 +1,17 @@
 -- An edit of the text: what the gap, the mark and the search leave.
-use Rattle.std.proofs.Common.{◌≡◌, ℕ, suc, ◌+◌, ◌-◌, ◌<◌, ◌≤◌, List, [], ◌∷◌, ◌++◌, length, map, Option, None, refl, sym, ap, ap₂, subst, ◌∙◌, arith, append_assoc, length-append}
+use Rattle.std.proofs.Common.{◌≡◌, ℕ, suc, ◌+◌, ◌-◌, ◌<◌, ◌≤◌, List, [], ◌∷◌, ◌++◌, length, map, Option, Some, None, refl, sym, ap, ap₂, subst, ◌∙◌, arith, append_assoc, length-append}
 use Rattle.rc_text.specs.declared.types.MatchKind.{MatchKind}
 use Rattle.rc_program.specs.Answer.{Search}
 use Rattle.live_matches.specs.declared.entry.Changed.{Changed}
 use Rattle.live_matches.specs.declared.entry.Edit.{Edit}
 use Rattle.live_matches.specs.declared.entry.Entry.{Entry}
 use Rattle.live_matches.specs.Entries.{AreBehind, AreBelow, FitsEdit, Gapped, IsSettledTo, IsSkipped, all_of, last_end, len_after, moved_with}
-use Rattle.live_matches.specs.Lists.{AreEntries, AreFirst, IsChanged, IsSearchedOn, Meets, mark_after, place_of}
+use Rattle.live_matches.specs.Lists.{AreEntries, AreFirst, IsSearchedOn, Meets, mark_after, place_of}
 use Rattle.live_matches.specs.Live.{IsEdited}
+use Rattle.live_matches.specs.Drawn.{AreLaid, Follow, IsSplit}
+use Rattle.live_matches.proofs.Gaps.{behind_split}
 use Rattle.live_matches.proofs.Listed.{all_split, kept}
+use Rattle.live_matches.proofs.Moves.{lies}
 use Rattle.live_matches.proofs.Nexts.{behind, ends_inside, meets, sized}
 
 -- a list of which the moved one has two parts
@@ -26,6 +29,13 @@ map_split f (x ∷ xs) (y ∷ ys) zs e =
         tail_of : List Entry → List Entry
         tail_of [] = []
         tail_of (c ∷ cs) = cs
+
+-- each begins where the one before ends, or later
+follow : (kind : MatchKind) (s : Search) (c : List ℕ) (last : Option ℕ) (es : List Entry) → AreFirst kind s c last es → Follow (length c) (place_of last) es
+follow kind s c last [] first = tt
+follow kind s c last (e ∷ es) first =
+    let h = (lies kind s c last e.found first.0.found).0 in
+    (h.0, h.2, h.3, follow kind s c (Some e.found.end) es first.1)
 
 module _ (kind : MatchKind) (s : Search) (old new : List ℕ) (edit : Edit) (edited : IsEdited edit old new) (g0 g1 g2 : Gapped) (mark : Option ℕ)
     (are : AreEntries kind s old None (all_of g0)) (long : g0.len ≡ length old) (settled : IsSettledTo edit.replaced.start g0 g1)
@@ -97,9 +107,20 @@ module _ (kind : MatchKind) (s : Search) (old new : List ℕ) (edit : Edit) (edi
         let l6 = length_moved r.1 in
         omega (arith, l1, l2, l3, l4, l5, l6)
 
-    pub changed : (g4 : Gapped) (c : Changed) → IsSearchedOn g3 g4 → c.first ≡ length g1.before → c.dropped ≡ length g1.after - length g4.after →
-        c.added ≡ length g4.before - length g1.before → IsChanged edit (all_of g0) (all_of g4) c
-    changed g4 c on first dropped added =
+    pub laid : (g4 : Gapped) → AreEntries kind s new None (all_of g4) → g4.len ≡ length new → length new + 1 < 18446744073709551616 →
+        AreLaid edit (all_of g0) (all_of g4) (length old) g4.len
+    laid g4 all len fits = record {
+      before = follow kind s old None (all_of g0) are.first;
+      after = rw len (follow kind s new None (all_of g4) all.first);
+      order = edited.order;
+      inside = edited.inside;
+      len = len ∙ sized kind s old new edit edited;
+      fits = omega (arith, len, fits);
+    }
+
+    pub split : (g4 : Gapped) (c : Changed) → IsSearchedOn g3 g4 → c.first ≡ length g1.before → c.dropped ≡ length g1.after - length g4.after →
+        c.added ≡ length g4.before - length g1.before → IsSplit edit (all_of g0) (all_of g4) c
+    split g4 c on first dropped added =
         let r = map_split (moved_with edit) g2.after on.gone g4.after (sym (ap (λ (g : Gapped). g.after) now) ∙ on.after) in
         let whole : g1.after ≡ (skip.dropped ++ r.0) ++ r.1 = skip.split ∙ ap (λ es. skip.dropped ++ es) r.2 ∙ sym (append_assoc skip.dropped r.0 r.1) in
         let l1 = ap length whole in
@@ -110,13 +131,17 @@ module _ (kind : MatchKind) (s : Search) (old new : List ℕ) (edit : Edit) (edi
         let l5 = ap length front in
         let l6 = length-append g1.before on.anew in
         record {
-          kept = g1.before;
-          gone = skip.dropped ++ r.0;
-          anew = on.anew;
-          rest = r.1;
-          old_is = sym settled.all ∙ ap (λ es. g1.before ++ es) whole;
-          new_is = ap₂ (λ xs ys. xs ++ ys) front (sym r.4) ∙ append_assoc g1.before on.anew (map (moved_with edit) r.1);
-          first = first;
-          dropped = omega (arith, dropped, l1, l2, l3, l4);
-          added = omega (arith, added, l5, l6);
+          changed = record {
+            kept = g1.before;
+            gone = skip.dropped ++ r.0;
+            anew = on.anew;
+            rest = r.1;
+            old_is = sym settled.all ∙ ap (λ es. g1.before ++ es) whole;
+            new_is = ap₂ (λ xs ys. xs ++ ys) front (sym r.4) ∙ append_assoc g1.before on.anew (map (moved_with edit) r.1);
+            first = first;
+            dropped = omega (arith, dropped, l1, l2, l3, l4);
+            added = omega (arith, added, l5, l6);
+          };
+          below = settled.below;
+          behind = (behind_split edit.replaced.end r.0 r.1 (subst (AreBehind edit.replaced.end) r.2 is_behind)).1;
         }

@@ -1,3 +1,4 @@
+pub mod Drawn
 pub mod Entries
 pub mod Lists
 pub mod Live

@@ -105,7 +105,13 @@ impl Entries {
         if index < self.before.len() {
             return Some(self.before[index].entry);
         }
-        let index = index - self.before.len();
+        self.get_after(index - self.before.len())
+    }
+
+    /// The entry after the gap with this index, in order, or `None` if there are no more.
+    pub fn get_after(&self, index: usize) -> Option<Entry>
+        ensures { result ≡ slice_get self.now.after index }
+    {
         if index < self.after.len() {
             Some(self.after[self.after.len() - 1 - index].mirrored(self.len))
         } else {

@@ -1,6 +1,7 @@
 //! Live matches: the list of a text's matches, kept under edits.
 #![tactic(auto)]
 
+mod changes;
 mod entries;
 pub mod entry;
 pub mod iter;

@@ -44,6 +44,7 @@ impl LiveMatches {
     ghost use Rattle.rc_program.specs.Matches.{AreInOrder, begin_of, end_of};
     ghost use Rattle.live_matches.specs.Reading.{IsAbove, IsCut, IsDownTo, IsLastBefore, IsNextFrom, matches_left, touches};
     ghost use Rattle.rc_text.specs.Text.{Keeps};
+    ghost use Rattle.live_matches.specs.Drawn.{IsDrawn};
     ghost use Rattle.live_matches.specs.Lists.{IsChanged};
     ghost use Rattle.live_matches.specs.Live.{IsCacheOf, IsLive, IsStale, IsWhole, WasLive, listed};
 
@@ -112,6 +113,8 @@ impl LiveMatches {
         ensures keeps { Keeps input.old input.new }
         ensures live { IfOk result (λ _. IsLive regex.now input.old.content self.new) }
         ensures changed { IfOk result (IsChanged edit self.old.entries self.new.entries) }
+        ensures drawn { IfOk result (λ c.
+            IsDrawn edit (listed self.old) (listed self.new) c.span) }
         ensures stale { IfErr result (λ _. IsStale self.new) }
     {
         content_fits(input);

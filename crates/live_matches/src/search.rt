@@ -4,10 +4,12 @@ ghost use Rattle.rc_program.specs.Matches.{begin_of, end_of, is_again};
 ghost use Rattle.rc_reach.specs.Fixed.{IsFixed};
 ghost use Rattle.rc_reach.specs.Live.{found_by};
 ghost use Rattle.api_meta.specs.Views.{regex_kind};
+ghost use Rattle.live_matches.specs.Drawn.{IsDrawn};
 ghost use Rattle.live_matches.specs.Entries.{all_of};
-ghost use Rattle.live_matches.specs.Lists.{AreEntries, AreFirst, IsChanged, IsEntry, IsSearchedOn, Meets, mark_after, next_after, place_of};
+ghost use Rattle.live_matches.specs.Lists.{AreEntries, AreFirst, IsChanged, IsEntry, IsSearchedOn, Meets, founds, mark_after, next_after, place_of};
 ghost use Rattle.live_matches.specs.Live.{Goes, IsCacheOf, IsOver, WereEntries, seeks};
 
+use crate::changes::{Ahead, change_of};
 use crate::entries::{Entries, is_before};
 use crate::entry::{Changed, Edit, Entry};
 use rc_text::input::content_fits;
@@ -134,20 +136,20 @@ pub fn update<C: Cursor>(
         input.old.content None (all_of entries.new)) }
     ensures len { IfOk result (λ _. entries.new.len ≡ length input.old.content) }
     ensures changed { IfOk result (IsChanged edit (all_of entries.old) (all_of entries.new)) }
+    ensures drawn { IfOk result (λ c. IsDrawn edit (founds (all_of entries.old))
+        (founds (all_of entries.new)) c.span) }
 {
     content_fits(input);
     entries.settle_to(edit.replaced.start)?;
+    let ahead = Ahead::of(entries);
     let first = entries.count_before();
     let after = entries.count_after();
     let last = entries.last_end();
     let mark = entries.skip_to(last, edit.replaced.end, LOOKS_BEHIND);
     entries.edit(edit);
     search_on(entries, mark_after(mark, edit), regex, cache, input)?;
-    Ok(Changed {
-        first,
-        dropped: after - entries.count_after(),
-        added: entries.count_before() - first,
-    })
+    let dropped = after - entries.count_after();
+    Ok(change_of(entries, &ahead, edit, first, dropped))
 }
 
 /// The mark in the text after an edit, if it is behind all that the edit may change.
