@@ -3,6 +3,8 @@ mod Moves
 mod Listed
 mod Nexts
 mod Drawns
+mod Joins
+mod Wholes
 mod Updates
 mod Searches
 mod Lives

@@ -47,7 +47,7 @@ module _ (kind : MatchKind) (s : Search) where
   skipped_some c p (d ∷ gone) rest now e are =
       skipped_some c d.found.end gone rest now e (record { first = are.first.1; ended = are.ended })
 
-  none_of_none : (gone rest : List Entry) → gone ++ rest ≡ [] → (gone ≡ []) × (rest ≡ [])
+  pub none_of_none : (gone rest : List Entry) → gone ++ rest ≡ [] → (gone ≡ []) × (rest ≡ [])
   none_of_none [] rest e = (refl, e)
   none_of_none (d ∷ gone) rest e = absurd (let l = ap length e in omega (arith, l))
 

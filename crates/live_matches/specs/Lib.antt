@@ -2,4 +2,5 @@ pub mod Drawn
 pub mod Entries
 pub mod Lists
 pub mod Live
+pub mod Ranges
 pub mod Reading

@@ -147,6 +147,15 @@ impl Entries {
         }
     }
 
+    /// Puts the entries after the gap of another list in place of those of this list. Both are of
+    /// one text.
+    pub fn take_after(&mut self, next: Entries)
+        requires { next.len ≡ self.old.len }
+        ensures { self.new ≡ record self.old { after = next.after } }
+    {
+        self.after = next.after;
+    }
+
     /// Takes the first entry after the gap from the list.
     pub fn take_next(&mut self) -> Option<Entry>
         ensures { MatchOption result ((self.old.after ≡ []) × (self.new ≡ self.old))

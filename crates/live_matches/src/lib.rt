@@ -4,10 +4,13 @@
 mod changes;
 mod entries;
 pub mod entry;
+pub mod input;
 pub mod iter;
 pub mod live;
+mod ranges;
 mod search;
 
 pub use entry::{Changed, Edit};
+pub use input::whole_input;
 pub use iter::LiveMatchesIter;
 pub use live::LiveMatches;

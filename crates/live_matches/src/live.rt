@@ -5,6 +5,7 @@ ghost use Rattle.live_matches.specs.Reading.{begins_before, ends_by};
 use crate::entries::Entries;
 use crate::entry::{Changed, Edit};
 use crate::iter::LiveMatchesIter;
+use crate::ranges::{begin_of_range, join, search_to};
 use crate::search::{search_on, update};
 use rc_text::input::{content_fits, high};
 use regex_cursor::engines::meta::{Cache, Regex};
@@ -40,13 +41,14 @@ impl Model for LiveMatches {
 }
 
 impl LiveMatches {
-    ghost use Rattle.std.specs.Prelude.{◌≡◌, ℕ, IfErr, IfOk, filter, length, nat_eq, slice_get};
+    ghost use Rattle.std.specs.Prelude.{◌≡◌, ◌<◌, ◌≤◌, ℕ, IfErr, IfOk, filter, length, nat_eq, slice_get};
     ghost use Rattle.rc_program.specs.Matches.{AreInOrder, begin_of, end_of};
     ghost use Rattle.live_matches.specs.Reading.{IsAbove, IsCut, IsDownTo, IsLastBefore, IsNextFrom, matches_left, touches};
     ghost use Rattle.rc_text.specs.Text.{Keeps};
     ghost use Rattle.live_matches.specs.Drawn.{IsDrawn};
     ghost use Rattle.live_matches.specs.Lists.{IsChanged};
     ghost use Rattle.live_matches.specs.Live.{IsCacheOf, IsLive, IsStale, IsWhole, WasLive, listed};
+    ghost use Rattle.live_matches.specs.Ranges.{IsRange};
 
     /// Returns the list of the matches in the content of the input, in a cache that was made for
     /// the regex. The input has to be a new one, over the whole text. An `Err` means out of memory.
@@ -68,6 +70,73 @@ impl LiveMatches {
         };
         live.rebuild(regex, cache, input)?;
         Ok(live)
+    }
+
+    /// Returns the list of the matches in a range of the content, with the whole content to read:
+    /// those that a search from the start of the range finds, as if a match had ended there, up to
+    /// one that ends at the end of the range or later. So lists of ranges that lie side by side can
+    /// be made apart from each other, and `join` makes one list of them. An `Err` means out of
+    /// memory.
+    pub fn of_range<C: Cursor>(
+        alloc: Global,
+        regex: &Regex,
+        cache: &mut Cache,
+        input: &mut Input<C>,
+        range: Span,
+    ) -> Result<LiveMatches, AllocError>
+        requires made { IsCacheOf regex.now cache.old }
+        requires whole { IsWhole input.old }
+        requires inside { range.start ≤ length input.old.content }
+        ensures cache { IsCacheOf regex.now cache.new }
+        ensures keeps { Keeps input.old input.new }
+        ensures range { IfOk result (IsRange regex.now input.old.content range) }
+    {
+        content_fits(input);
+        let mut entries = Entries::new(alloc, high(input));
+        let start = begin_of_range(range);
+        let done = search_to(&mut entries, start, None, range.end, regex, cache, input);
+        input.set_start(0);
+        done?;
+        Ok(LiveMatches {
+            entries,
+            is_stale: false,
+        })
+    }
+
+    /// Adds the list of the next range. This list has to be that of the range from the start of the
+    /// text to the start of the next one. It is then that of the range up to the end of the next
+    /// one, and the list of the whole text if that is after the text. It searches on to the first
+    /// match that ends where one of the next range does. An `Err` means out of memory, and leaves
+    /// the list stale.
+    pub fn join<C: Cursor>(
+        &mut self,
+        next: LiveMatches,
+        range: Span,
+        regex: &Regex,
+        cache: &mut Cache,
+        input: &mut Input<C>,
+    ) -> Result<(), AllocError>
+        requires made { IsCacheOf regex.now cache.old }
+        requires whole { IsWhole input.old }
+        requires behind { 0 < range.start }
+        requires first { IsRange regex.now input.old.content
+            (record { start = 0; end = range.start }) self.old }
+        requires next { IsRange regex.now input.old.content range next }
+        ensures cache { IsCacheOf regex.now cache.new }
+        ensures keeps { Keeps input.old input.new }
+        ensures joined { IfOk result (λ _. IsRange regex.now input.old.content
+            (record { start = 0; end = range.end }) self.new) }
+        ensures live { IfOk result (λ _. length input.old.content < range.end
+            → IsLive regex.now input.old.content self.new) }
+        ensures stale { IfErr result (λ _. IsStale self.new) }
+    {
+        content_fits(input);
+        let done = join(&mut self.entries, next.entries, range, regex, cache, input);
+        input.set_start(0);
+        if done.is_err() {
+            self.make_stale();
+        }
+        done
     }
 
     /// Makes the list anew, as `new` does, also if it is stale. An `Err` means out of memory, and

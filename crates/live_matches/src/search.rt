@@ -167,7 +167,7 @@ fn mark_after(mark: Option<usize>, edit: Edit) -> Option<usize>
 }
 
 /// Where the next match is sought, if the one before ended at `last`.
-fn place_of(last: Option<usize>) -> usize
+pub fn place_of(last: Option<usize>) -> usize
     ensures { result ≡ place_of last }
 {
     match last {
@@ -177,7 +177,7 @@ fn place_of(last: Option<usize>) -> usize
 }
 
 /// Whether the mark is there, and at this place.
-fn is_at(mark: Option<usize>, end: usize) -> bool
+pub fn is_at(mark: Option<usize>, end: usize) -> bool
     ensures { IsTrue result → mark ≡ Some end }
 {
     match mark {
