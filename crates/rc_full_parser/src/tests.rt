@@ -1,5 +1,6 @@
 //! Worked examples of marks.
 
+use crate::characters::cases;
 use crate::marks::{Mark, MarkSettings, Piece, first_mark};
 use rc_full_lists::items::Item;
 use rc_tokens::refusal::Refusal;
@@ -186,4 +187,59 @@ fn groups(rt: HostRuntime) {
     for text in ["(?<1>a)", "(?xx)a", "(?)", "(?x", "(?=a)", "(?P=a)", "(?<a"] {
         assert!(rt; is_refused(alloc, PLAIN, text), "{text}");
     }
+}
+
+/// Whether the class of all that folds with the character has these ranges, or if there are none the
+/// character stands for itself.
+fn are_cases(alloc: Global, unicode: bool, c: char, wanted: &[(u32, u32)]) -> bool {
+    match cases(alloc, unicode, true, c) {
+        Ok(Some(class)) => {
+            if class.len() != wanted.len() {
+                return false;
+            }
+            for i in 0..wanted.len() {
+                let (start, end) = wanted[i];
+                if class[i].start != start || class[i].end != end {
+                    return false;
+                }
+            }
+            true
+        }
+        Ok(None) => wanted.is_empty(),
+        Err(_) => false,
+    }
+}
+
+#[test]
+fn folded_characters(rt: HostRuntime) {
+    let alloc = rt.alloc();
+    assert!(rt;
+        are_cases(
+            alloc,
+            true,
+            'k',
+            &[(0x4B, 0x4B), (0x6B, 0x6B), (0x212A, 0x212A)]
+        )
+    );
+    assert!(rt;
+        are_cases(
+            alloc,
+            true,
+            's',
+            &[(0x53, 0x53), (0x73, 0x73), (0x17F, 0x17F)]
+        )
+    );
+    assert!(rt;
+        are_cases(
+            alloc,
+            true,
+            '\u{DF}',
+            &[(0xDF, 0xDF), (0x1E9E, 0x1E9E), (0x1_DF95, 0x1_DF95)]
+        )
+    );
+    assert!(rt; are_cases(alloc, true, '\u{3C3}', &[(0x3A3, 0x3A3), (0x3C2, 0x3C3)]));
+    assert!(rt; are_cases(alloc, true, '5', &[]));
+    assert!(rt; are_cases(alloc, false, 'k', &[(0x4B, 0x4B), (0x6B, 0x6B)]));
+    assert!(rt; are_cases(alloc, false, '\u{DF}', &[]));
+    assert!(rt; matches!(cases(alloc, true, false, 'k'), Ok(None)));
 }
