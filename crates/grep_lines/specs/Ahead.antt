@@ -18,7 +18,7 @@ later e left number place [] = []
 later e left number place (m ∷ rest) =
     if m.selected || (nat_lt 0 left || list_any is_selected (take e.before rest))
     then record { number = number; place = place; selected = m.selected; line = m.line }
-        ∷ later e (left_behind e m left) (number + 1) (place + length m.line + 1) rest
+    ∷ later e (left_behind e m left) (number + 1) (place + length m.line + 1) rest
     else later e (left_behind e m left) (number + 1) (place + length m.line + 1) rest
 
 -- a line that isn't selected

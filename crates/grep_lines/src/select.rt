@@ -39,11 +39,7 @@ pub trait LineSelector {
 /// Reads the next line into `line`, without its terminator, replacing its content, if the buffer of
 /// the reader contains the line and its terminator. Returns whether it does; otherwise nothing is
 /// consumed, and `line` is empty.
-fn take_line<R: BufRead>(
-    reader: &mut R,
-    terminator: u8,
-    line: &mut Vec<u8>,
-) -> io::Result<bool>
+fn take_line<R: BufRead>(reader: &mut R, terminator: u8, line: &mut Vec<u8>) -> io::Result<bool>
     ensures err { OnErr result (Keeps (R.remaining reader.old) (R.remaining reader.new)) }
     ensures err_empty { OnErr result (line.new.items ≡ []) }
     ensures retried { IfErr result (λ e. error_kind e ≢ ErrorKind.Interrupted) }
@@ -70,11 +66,7 @@ fn take_line<R: BufRead>(
 ///
 /// An `Err` is one of the reader, or out of memory for the line. What was read of the line is in
 /// `line` then: no byte is lost.
-pub fn next_line<R: BufRead>(
-    reader: &mut R,
-    terminator: u8,
-    line: &mut Vec<u8>,
-) -> io::Result<bool>
+pub fn next_line<R: BufRead>(reader: &mut R, terminator: u8, line: &mut Vec<u8>) -> io::Result<bool>
     ensures empty { IfOk result (λ more. more ≡ false → line.new.items ≡ []) }
     ensures none_lost { OnErr result (Consumes (R.remaining reader.old)
         (R.remaining reader.new) line.new.items) }
