@@ -1,5 +1,5 @@
 -- Searches that ask first whether a match begins where the first one may.
-use Rattle.std.proofs.Common.{◌≡◌, ◌↔◌, ◌∙◌, ℕ, ◌+◌, ◌-◌, ◌<◌, ◌≤◌, Bool, true, false, not, ◌||◌, true≢false, List, length, Option, Some, None, Result, Ok, Err, IfOk, sym, subst, ap, ap₂, refl, arith, inl, inr, ⊎_elim, slice_get, slice_range, take, min, max}
+use Rattle.std.proofs.Common.{◌≡◌, ◌↔◌, ◌∙◌, ℕ, ◌+◌, ◌-◌, ◌<◌, ◌≤◌, Bool, true, false, not, ◌||◌, true≢false, List, length, Option, Some, None, Result, Ok, Err, IfOk, sym, subst, ap, ap₂, refl, arith, inl, inr, ⊎_elim, slice_get, slice_range, take}
 use Rattle.std.specs.Prelude.{slice_index}
 use Rattle.std.proofs.lemmas.Bool.{cases_lt}
 use Rattle.std.proofs.lemmas.List.{get_or-take, length-take-le}
@@ -28,17 +28,11 @@ use Rattle.rc_determinize.specs.Laws.{may_end_at}
 use Rattle.rc_program.specs.Kinds.{IsAnswerBy, answer_by}
 use Rattle.rc_text.specs.declared.types.MatchKind.{MatchKind}
 use Rattle.rc_text.specs.declared.types.MatchKind.TheVariants.{All as all_matches, LeftmostFirst as leftmost_first, LeftmostLongest as leftmost_longest}
-use Rattle.rc_dfa.specs.Machine.{Machine, IsAsked}
-use Rattle.rc_dfa.specs.Ended.{HasEnded}
-use Rattle.rc_dfa.specs.declared.ended.Ended.{Ended}
-use Rattle.rc_dfa.specs.declared.ended.Ended.TheVariants.{Found as Finds, Idle, Quit, GaveUp}
-use Rattle.rc_dfa.specs.declared.ended.Met.{Met}
+use Rattle.rc_dfa.specs.Machine.{Machine}
 use Rattle.rc_dfa_search.specs.declared.search.Aim.{Aim}
 use Rattle.rc_dfa_search.specs.Aims.{AreHalvesOf, search_for}
-use Rattle.rc_dfa_search.specs.Ends.{told_of}
 use Rattle.rc_dfa_search.specs.Leftmost.{IsLeftmost}
 use Rattle.rc_dfa_search.specs.Machines.{IsCase}
-use Rattle.rc_dfa_search.proofs.LeftmostLemmas.{leftmost_law}
 use Rattle.rc_dfa_search.proofs.LegLemmas.{free_case}
 use Rattle.rc_dfa_search.proofs.ToldLemmas.{kept_search}
 use Rattle.rc_dfa_search.specs.Firsts.{AsksFirst, starting_at}
@@ -188,21 +182,6 @@ as_any aim hs terminator s goes =
 
 -- ONE RUN
 
--- what was met is the end of the match that begins at the position
-abbrev pub IsMetHere : MatchKind → Search → ℕ → Option Met → Type 0
-IsMetHere kind s from None = None ≡ answer_by kind (starting_at from s)
-IsMetHere kind s from (Some met) = (from ≤ met.at) × (met.at ≤ s.hi)
-    × ((let f : Found = record { pattern = met.pattern; start = from; end = met.at } in Some f) ≡ answer_by kind (starting_at from s))
-
-pub met_so : (kind : MatchKind) (s : Search) (from : ℕ) (met : Met) (pattern end : ℕ) → IsMetHere kind s from (Some met) → pattern ≡ met.pattern →
-    end ≡ min (max met.at from) s.hi →
-    (let f : Found = record { pattern = pattern; start = from; end = end } in Some f) ≡ answer_by kind (starting_at from s)
-met_so kind s from met pattern end h same is =
-    let low = h.0 in
-    let high = h.1 in
-    let there : end ≡ met.at = omega (arith, is, low, high) in
-    ap₂ (λ (p e : ℕ). let f : Found = record { pattern = p; start = from; end = e } in Some f) same there ∙ h.2
-
 module _ (AreOf : Machine → Machine → Type 0) (aim : Aim) (hs : List Re) (terminator : ℕ) (of : AreHalvesOf AreOf aim hs terminator) (s : Searched)
     (goes : AsksFirst aim s.anchored) (from : ℕ) (above : low s ≤ from) (below : from ≤ high s) where
   abbrev S : Search
@@ -223,24 +202,6 @@ module _ (AreOf : Machine → Machine → Type 0) (aim : Aim) (hs : List Re) (te
 
   pub may : (at : ℕ) → may_end_at (starting_at from S) at ≡ true
   may at = ap (λ b. not b || is_boundary s.content at) goes.all
-
-  met_here : (e : Ended) → HasEnded of.ahead (text_of terminator s) (high s) from Yes false false e → IfOk (told_of e) (IsMetHere aim.kind S from)
-  met_here (Finds None) h = sym (leftmost_law.none hs aim.kind of.ahead of.back Yes (starting_at from S) from goes.kind case_here (leftmost_law.begins hs aim.kind of.ahead of.back Yes (starting_at from S) case_here) h)
-  met_here (Finds (Some met)) h =
-      let r = leftmost_law.at_start hs aim.kind of.ahead of.back Yes (starting_at from S) from h.0 met.at goes.kind case_here
-      (leftmost_law.begins hs aim.kind of.ahead of.back Yes (starting_at from S) case_here) h.2 (may met.at) refl in
-      (r.0, r.1, sym (r.2 ∙ ap (λ (p : ℕ). let f : Found = record { pattern = p; start = from; end = met.at } in Some f) h.1))
-  met_here (Idle i) h = absurd (true≢false (sym h.0))
-  met_here (Quit b p) h = tt
-  met_here (GaveUp p memory) h = tt
-
-  -- in code
-  pub here_told : (e : Ended) → ((m n : Machine) → AreOf m n → IsAsked m Yes → HasEnded m (text_of m.setting.terminator s) (high s) from Yes false false e) →
-      IfOk (told_of e) (IsMetHere aim.kind S from)
-  here_told e ends =
-      let ms = of.machines in
-      met_here e (subst (λ x. HasEnded of.ahead (text_of x s) (high s) from Yes false false e) (ap (λ (m : Machine). m.setting.terminator) ms.ahead)
-      (ends of.ahead of.back of.are_of tt))
 
 -- IN CODE
 

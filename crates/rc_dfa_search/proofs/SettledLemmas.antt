@@ -238,6 +238,14 @@ first_settles_some aim hs terminator s goes from above p q r le_p le_q none None
 first_settles_some aim hs terminator s goes from above p q r le_p le_q none (Some m) so here =
     first_settles aim hs terminator s goes from above p q r le_p le_q none m here
 
+-- what is settled there is the answer there
+pub settled_here : (aim : Aim) (hs : List Re) (terminator : ℕ) (s : Searched) (from : ℕ) → low s ≤ from → (r : ℕ) (o : Option Found) →
+    IsAnswerBelow aim.kind (starting_at from (search_for aim hs terminator s)) r o → o ≡ answer_by aim.kind (starting_at from (search_for aim hs terminator s))
+settled_here aim hs terminator s from above r o h =
+    let q = search_for aim hs terminator s in
+    let inside = inside_of aim hs terminator s in
+    sym (h (starting_at from q) (moved_inside from q q 0 inside above (itself q 0) inside) (itself (starting_at from q) r))
+
 -- no match begins before the start for the first needle
 pub none_first : (aim : Aim) (hs : List Re) (terminator : ℕ) (s : Searched) (guard : Guard) (start : Start) →
     Some start.needle ≡ option_map (λ (h : Hit). h.start) (find_needle (guard_needles guard) s.content (low s) (high s)) →

@@ -13,8 +13,10 @@ ghost use Rattle.rc_needles.specs.Tables.{BeginsWithByte, numbered};
 ghost use Rattle.rc_program.specs.Kinds.{IsAnswerBy, answer_by};
 ghost use Rattle.rc_dfa_search.specs.Aims.{AreHalvesOf, search_for};
 ghost use Rattle.rc_dfa_search.specs.Firsts.{AsksFirst, starting_at};
+ghost use Rattle.rc_dfa_search.specs.Reaches.{IsAnswerBelow};
 
 use crate::guarded::find_guarded;
+use crate::reach::Settled;
 use crate::search::{Aim, find, id_of, told};
 use rc_dfa::halves::Halves;
 use rc_literals::guard::{Guard, next_start};
@@ -164,36 +166,38 @@ fn start_by<C: Cursor>(
     first_start(input, needles, from, end)
 }
 
-/// Returns the match that begins at the position `from`, if one does, by an anchored run. An `Err`
-/// says why the DFA has no answer.
+/// Returns the match that begins at the position `from`, if one does, by an anchored run, and how
+/// many bytes settle that. An `Err` says why the DFA has no answer.
 #[inline(always)]
-fn find_here<H: Halves, C: Cursor>(
+pub(crate) fn settle_here<H: Halves, C: Cursor>(
     halves: &H,
     cache: &mut H::Cache,
     input: &mut Input<C>,
     from: usize,
     bound: usize,
-) -> Result<Option<Match>, MatchError>
+) -> Result<Settled, MatchError>
     requires cache { H.IsCache halves.now cache.old }
     requires low { low input.old ≤ from }
     requires bound { bound ≡ high input.old }
     requires within { from ≤ bound }
     ensures cache { H.IsCache halves.now cache.new }
     ensures keeps { Keeps input.old input.new }
-    ensures found { (aim : Aim) (hs : List Re) (terminator : ℕ)
+    ensures settled { (aim : Aim) (hs : List Re) (terminator : ℕ)
         → AreHalvesOf (H.AreOf halves.now) aim hs terminator → AsksFirst aim input.old.anchored
-        → IfOk result (λ found. found ≡ answer_by aim.kind
-        (starting_at from (search_for aim hs terminator input.old))) }
-    ensures within { IfOk result (λ found. IfSome found
+        → IfOk result (λ o. IsAnswerBelow aim.kind
+        (starting_at from (search_for aim hs terminator input.old)) o.reach o.found) }
+    ensures within { IfOk result (λ o. IfSome o.found
         (λ m. (m.start ≡ from) × (m.start ≤ m.end) × (m.end ≤ bound))) }
 {
     let run = halves.run_forwards(cache, input, Anchored::Yes, from, false, false, 0);
+    let reach = run.read;
     let Some(met) = told(run.ended)? else {
-        return Ok(None);
+        return Ok(Settled { found: None, reach });
     };
     let end = met.at.max(from).min(bound);
     let pattern = id_of(met.pattern, end)?;
-    Ok(Some(Match::new(pattern, Span { start: from, end })))
+    let found = Some(Match::new(pattern, Span { start: from, end }));
+    Ok(Settled { found, reach })
 }
 
 /// Returns the match that `find` returns if the span begins at `from`. The input's span stays as it
@@ -292,7 +296,8 @@ fn find_by_first<H: Halves, C: Cursor>(
         let Some(from) = start_by(input, needles, are_fast, at, hi) else {
             return Ok(None);
         };
-        if let Some(found) = find_here(halves, cache, input, from, hi)? {
+        let here = settle_here(halves, cache, input, from, hi)?;
+        if let Some(found) = here.found {
             return Ok(Some(found));
         }
         if left == 0 || from >= hi {

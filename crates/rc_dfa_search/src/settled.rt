@@ -16,10 +16,10 @@ ghost use Rattle.rc_dfa_search.specs.Firsts.{AsksFirst, starting_at};
 ghost use Rattle.rc_dfa_search.specs.Legs.{ComesOn};
 ghost use Rattle.rc_dfa_search.specs.Reaches.{HasRunBelow, IsAnswerBelow, IsGivenBelow, IsEnding, NoneBeginBelow, TellsReach};
 
-use crate::first::{NEAR, begin_none};
+use crate::first::{NEAR, begin_none, settle_here};
 use crate::guarded::{Leg, leg_of};
 use crate::reach::{Settled, find_settled};
-use crate::search::{Aim, id_of, run_backwards, told};
+use crate::search::{Aim, id_of, run_backwards};
 use rc_dfa::ended::Met;
 use rc_dfa::halves::Halves;
 use rc_literals::guard::{Guard, Start, next_start};
@@ -55,17 +55,6 @@ enum Ending {
     Ends { met: Met, reach: usize },
 }
 
-/// Returns how many bytes the longest needle has.
-#[inline(always)]
-fn longest_of(guard: Guard) -> usize
-    ensures { result ≡ longest (guard_needles guard.entry) }
-{
-    match guard {
-        Guard::Begins(needles) => needles.max_needle_len(),
-        Guard::Holds(needs) => needs.needles.max_needle_len(),
-    }
-}
-
 /// Runs forwards from the position `from` up to `bound`, and returns how far it came and looked.
 /// The run may rest, from `rest_from` on. An `Err` says why the DFA has no answer.
 #[inline(always)]
@@ -95,40 +84,6 @@ fn read_leg<H: Halves, C: Cursor>(
         leg,
         read: run.read,
     })
-}
-
-/// Returns the match that begins at the position `from`, if one does, by an anchored run, and how
-/// many bytes settle that. An `Err` says why the DFA has no answer.
-#[inline(always)]
-fn settle_here<H: Halves, C: Cursor>(
-    halves: &H,
-    cache: &mut H::Cache,
-    input: &mut Input<C>,
-    from: usize,
-    bound: usize,
-) -> Result<Settled, MatchError>
-    requires cache { H.IsCache halves.now cache.old }
-    requires low { low input.old ≤ from }
-    requires bound { bound ≡ high input.old }
-    requires within { from ≤ bound }
-    ensures cache { H.IsCache halves.now cache.new }
-    ensures keeps { Keeps input.old input.new }
-    ensures settled { (aim : Aim) (hs : List Re) (terminator : ℕ)
-        → AreHalvesOf (H.AreOf halves.now) aim hs terminator → AsksFirst aim input.old.anchored
-        → IfOk result (λ o. IsAnswerBelow aim.kind
-        (starting_at from (search_for aim hs terminator input.old)) o.reach o.found) }
-    ensures within { IfOk result (λ o. IfSome o.found
-        (λ m. (m.start ≡ from) × (m.start ≤ m.end) × (m.end ≤ bound))) }
-{
-    let run = halves.run_forwards(cache, input, Anchored::Yes, from, false, false, 0);
-    let reach = run.read;
-    let Some(met) = told(run.ended)? else {
-        return Ok(Settled { found: None, reach });
-    };
-    let end = met.at.max(from).min(bound);
-    let pattern = id_of(met.pattern, end)?;
-    let found = Some(Match::new(pattern, Span { start: from, end }));
-    Ok(Settled { found, reach })
 }
 
 /// Returns the end of the match of the least start, and how many bytes tell it: up to the last
@@ -262,9 +217,8 @@ fn settle_on<H: Halves, C: Cursor>(
     }
 }
 
-/// Returns the match, and how many bytes settle it, from the start for the first needle on. If each
-/// match begins with a needle, it first tries an anchored run there. If none begins there, it goes
-/// on from needle to needle.
+/// Returns the match, and how many bytes settle it, from the start for the first needle on. It first
+/// tries an anchored run there. If no match begins there, it goes on from needle to needle.
 #[inline(always)]
 fn settle_from<H: Halves, C: Cursor>(
     halves: &H,
@@ -272,10 +226,12 @@ fn settle_from<H: Halves, C: Cursor>(
     input: &mut Input<C>,
     aim: Aim,
     guard: Guard,
+    longest_len: usize,
     start: Start,
 ) -> Result<Settled, MatchError>
     requires cache { H.IsCache halves.now cache.old }
     requires goes { AsksFirst aim input.old.anchored }
+    requires longest { longest_len ≡ longest (guard_needles guard) }
     requires first { Some start.needle ≡ option_map (λ h. h.start) (find_needle
         (guard_needles guard) input.old.content (low input.old) (high input.old)) }
     requires begins { BeginsFor guard input.old.content (low input.old) start }
@@ -292,17 +248,14 @@ fn settle_from<H: Halves, C: Cursor>(
 {
     content_fits(input);
     let at = start.from;
-    let longest_len = longest_of(guard);
     let reach = start.needle.saturating_add(longest_len);
-    if let Guard::Begins(_) = guard {
-        let bound = high(input);
-        let here = settle_here(halves, cache, input, at, bound)?;
-        if here.found.is_some() {
-            return Ok(Settled {
-                found: here.found,
-                reach: reach.max(here.reach),
-            });
-        }
+    let bound = high(input);
+    let here = settle_here(halves, cache, input, at, bound)?;
+    if here.found.is_some() {
+        return Ok(Settled {
+            found: here.found,
+            reach: reach.max(here.reach),
+        });
     }
     settle_on(
         halves,
@@ -316,10 +269,10 @@ fn settle_from<H: Halves, C: Cursor>(
 }
 
 /// Returns the match that `find` returns, and how many bytes settle it, by needles that guard the
-/// patterns: each match begins with one of them, or contains one. These are the bytes at which the
-/// runs forwards looked, and those up to the needle from which the last one began, with the longest
-/// needle from there on. Without a match the end of the slice may have been looked at. An `Err` says
-/// why the DFA has no answer.
+/// patterns: each match begins with one of them, or contains one. The longest has `longest_len`
+/// bytes. These are the bytes at which the runs forwards looked, and those up to the needle from
+/// which the last one began, with the longest needle from there on. Without a match the end of the
+/// slice may have been looked at. An `Err` says why the DFA has no answer.
 #[inline(always)]
 pub fn find_settled_guarded<H: Halves, C: Cursor>(
     halves: &H,
@@ -327,9 +280,11 @@ pub fn find_settled_guarded<H: Halves, C: Cursor>(
     input: &mut Input<C>,
     aim: Aim,
     guard: Guard,
+    longest_len: usize,
 ) -> Result<Settled, MatchError>
     requires cache { H.IsCache halves.now cache.old }
     requires tells { TellsReach aim }
+    requires longest { longest_len ≡ longest (guard_needles guard) }
     ensures cache { H.IsCache halves.now cache.new }
     ensures keeps { Keeps input.old input.new }
     ensures settled { (hs : List Re) (terminator : ℕ)
@@ -345,13 +300,20 @@ pub fn find_settled_guarded<H: Halves, C: Cursor>(
     if from > bound || input.get_anchored().is_anchored() {
         return find_settled(halves, cache, input, aim);
     }
+    if let Guard::Holds(_) = guard {
+        let start = Skipped {
+            at: from,
+            reach: from,
+        };
+        return settle_on(halves, cache, input, aim, guard, longest_len, start);
+    }
     let Some(start) = next_start(input, guard, from, bound) else {
         return Ok(Settled {
             found: None,
             reach: usize::MAX,
         });
     };
-    settle_from(halves, cache, input, aim, guard, start)
+    settle_from(halves, cache, input, aim, guard, longest_len, start)
 }
 
 /// Returns the match, and how many bytes settle it, if each match begins with a needle. If a byte

@@ -130,19 +130,6 @@ module _ (e : Engine) (patterns : ℕ) {AreOf : Machine → Machine → Type 0} 
       told (hlevel props) (λ x hs. IsAnswerBelow x.kind (search_for x hs e.program.terminator s) o.reach o.found) tells
       (λ hs same h. subst (λ places. IsAnswerBelow e.kind (search_over places e.program.terminator e.program.passes_over s) o.reach o.found) (sym same) h)
 
-  past_in : (found : Option Found) (reach : ℕ) →
-      ((hs : List Re) → places_of e.program.places.items ≡ program hs → AreHalvesOf AreOf a hs e.program.terminator → IfSome found (λ m. m.end ≤ reach)) →
-      IfSome found (λ m. m.end ≤ reach)
-  past_in None reach tells = tt
-  past_in (Some m) reach tells = told (hlevel props) (λ x hs. m.end ≤ reach) tells (λ hs same h. h)
-
-  pub tables_past : (r : Result Settled MatchError) →
-      ((hs : List Re) → places_of e.program.places.items ≡ program hs → AreHalvesOf AreOf a hs e.program.terminator →
-      IfOk r (λ o. IfSome o.found (λ m. m.end ≤ o.reach))) →
-      IfOk r (λ o. IfSome o.found (λ m. m.end ≤ o.reach))
-  tables_past (Err x) tells = tt
-  tables_past (Ok o) tells = past_in o.found o.reach tells
-
   -- one forwards that stops early tells whether there is a match
   pub tables_tell_any : (o : Option HalfFound) →
       ((hs : List Re) → places_of e.program.places.items ≡ program hs → AreHalvesOf AreOf (record a { earliest = true }) hs e.program.terminator →

@@ -2,7 +2,7 @@
 ghost use Rattle.rc_text.specs.declared.types.Anchored.TheVariants.{No};
 ghost use Rattle.rc_program.specs.Places.{places_of};
 ghost use Rattle.rc_strategy.specs.Needed.{NeedsConfine};
-ghost use Rattle.rc_strategy.specs.Routes.{Serves, ServesAll};
+ghost use Rattle.rc_strategy.specs.Routes.{AreLongest, Serves, ServesAll};
 ghost use Rattle.rc_strategy.specs.Slots.{IsOfPatterns, NamesGroups};
 ghost use Rattle.rc_strategy.specs.Lengths.{BoundsWalks};
 ghost use Rattle.rc_strategy.specs.Tables.{MayBeLazyFor, MayBeTablesFor};
@@ -10,7 +10,7 @@ ghost use Rattle.rc_strategy.specs.Tables.{MayBeLazyFor, MayBeTablesFor};
 use crate::cache::Cache;
 use crate::lengths::Lengths;
 use crate::question::{Question, half_of};
-use crate::route::{Route, anchored_route, free_route};
+use crate::route::{LongestLiterals, Route, anchored_route, free_route};
 use crate::slots::fill_slots;
 use crate::tables::{are_fast, tables_of};
 use rc_captures::captures;
@@ -60,6 +60,8 @@ pub struct Engines {
     pub(crate) needs: Option<Needs>,
     /// Whether the search for the prefix literals is fast.
     pub(crate) sought_fast: bool,
+    /// How many bytes the longest literals have.
+    pub(crate) longest: LongestLiterals,
     /// How DFA searches go that aren't anchored.
     pub(crate) free_route: Route,
     /// How anchored DFA searches go.
@@ -71,6 +73,7 @@ pub struct Engines {
     ghost bound: { BoundsWalks spans (places_of engine.program.places.items) },
     ghost needed: { NeedsConfine needs
         (places_of engine.program.places.items) engine.program.terminator },
+    ghost measured: { AreLongest engine.literals needs longest },
     ghost free: { Serves engine.kind spans No free_route },
     ghost anchored: { ServesAll engine.kind spans anchored_route },
 }
@@ -140,6 +143,7 @@ impl Engines {
     {
         let tables = tables_of(alloc, &engine, needs.is_some(), patterns, limits)?;
         let sought_fast = are_fast(&engine.literals);
+        let longest = LongestLiterals::new(&engine.literals, &needs);
         let free_route = free_route(engine.kind, &spans);
         let anchored_route = anchored_route(engine.kind, &spans);
         Ok(Engines {
@@ -150,6 +154,7 @@ impl Engines {
             spans,
             needs,
             sought_fast,
+            longest,
             free_route,
             anchored_route,
         })

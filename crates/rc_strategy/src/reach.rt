@@ -38,6 +38,7 @@ impl Engines {
     ghost use Rattle.rc_text.specs.declared.types.Anchored.TheVariants.{No};
     ghost use Rattle.rc_program.specs.Places.{places_of};
     ghost use Rattle.rc_needles.specs.Guards.{Guards};
+    ghost use Rattle.rc_needles.specs.Needles.{longest};
     ghost use Rattle.rc_needles.specs.Prefilters.{needles_of};
     ghost use Rattle.rc_pikevm_search.specs.Engine.{engine_search};
     ghost use Rattle.rc_dfa_search.specs.Reaches.{IsAnswerBelow, TellsReach};
@@ -102,6 +103,7 @@ impl Engines {
         requires tells { TellsReach (aim_of self.now.engine self.now.patterns) }
         requires guards { Guards (places_of self.now.engine.program.places.items)
             self.now.engine.program.terminator (needles_of needles.now) }
+        requires longest { self.now.longest.prefix ≡ longest (needles_of needles.now) }
         ensures cache { H.IsCache halves.now cache.new }
         ensures keeps { Keeps input.old input.new }
         ensures settled { IfOk result (λ o. IsAnswerBelow self.now.engine.kind
@@ -111,7 +113,9 @@ impl Engines {
         let aim = self.aim();
         let settled = find_settled_near(halves, cache, input, aim, needles);
         if let Err(MatchError::Quit { .. }) = settled {
-            return find_settled_guarded(halves, cache, input, aim, Guard::Begins(needles));
+            let guard = Guard::Begins(needles);
+            let longest_len = self.longest.prefix;
+            return find_settled_guarded(halves, cache, input, aim, guard, longest_len);
         }
         settled
     }
@@ -136,7 +140,8 @@ impl Engines {
     {
         let aim = self.aim();
         if let Some(guard) = self.guard() {
-            return find_settled_guarded(halves, cache, input, aim, guard);
+            let longest_len = self.longest.of_guard(guard);
+            return find_settled_guarded(halves, cache, input, aim, guard, longest_len);
         }
         match guards_of(&self.engine.literals) {
             Some(needles) => self.settle_past_quit(halves, cache, input, needles),

@@ -1,13 +1,18 @@
 //! Meta strategy: which DFA serves a search, and how the search goes.
 ghost use Rattle.rc_text.specs.declared.types.Anchored.TheVariants.{No};
+ghost use Rattle.std.specs.Prelude.{◌≡◌, ℕ, List, Some};
+ghost use Rattle.rc_literals.specs.declared.guard.Needs.{Needs as NeedsOf};
+ghost use Rattle.rc_needles.specs.Needles.{longest};
+ghost use Rattle.rc_needles.specs.Prefilters.{needles_of};
+ghost use Rattle.rc_pikevm_search.specs.Choices.{guarding};
 ghost use Rattle.rc_strategy.specs.Routes.{Serves, ServesAll};
 
 use crate::engines::Engines;
 use crate::lengths::Lengths;
 use rc_dense_dfa::dense::Dense;
 use rc_lazy_dfa::lazy::Lazy;
-use rc_literals::guard::Guard;
-use rc_pikevm_search::literals::guards_of;
+use rc_literals::guard::{Guard, Needs};
+use rc_pikevm_search::literals::{Literals, guards_of};
 use rc_text::cursor::Cursor;
 use rc_text::input::Input;
 use rc_text::types::{Anchored, MatchKind};
@@ -36,6 +41,62 @@ pub(crate) enum Route {
     Along,
 }
 
+/// How many bytes the longest literals have by which searches go from literal to literal.
+#[derive(Clone, Copy)]
+pub(crate) struct LongestLiterals {
+    /// The longest prefix literal. It is 0 if there is none.
+    pub(crate) prefix: usize,
+    /// The longest required literal. It is 0 if there is none.
+    pub(crate) required: usize,
+}
+
+/// Returns how many bytes the longest prefix literal has.
+fn longest_prefix(literals: &Literals) -> usize
+    ensures { (needles : List (List ℕ)) → guarding literals.now ≡ Some needles
+        → result ≡ longest needles }
+{
+    match guards_of(literals) {
+        Some(needles) => needles.max_needle_len(),
+        None => 0,
+    }
+}
+
+/// Returns how many bytes the longest required literal has.
+fn longest_required(needs: &Option<Needs>) -> usize
+    ensures { (n : NeedsOf) → needs.now ≡ Some n → result ≡ longest (needles_of n.needles) }
+{
+    match needs {
+        Some(needs) => needs.needles.max_needle_len(),
+        None => 0,
+    }
+}
+
+impl LongestLiterals {
+    ghost use Rattle.std.specs.Prelude.{◌≡◌};
+    ghost use Rattle.rc_strategy.specs.Routes.{AreLongest, longest_for};
+
+    /// Those of these prefix literals and of these required ones.
+    pub(crate) fn new(literals: &Literals, needs: &Option<Needs>) -> LongestLiterals
+        ensures { AreLongest literals.now needs.now result }
+    {
+        LongestLiterals {
+            prefix: longest_prefix(literals),
+            required: longest_required(needs),
+        }
+    }
+
+    /// Returns how many bytes the longest literal of the guard has.
+    #[inline(always)]
+    pub(crate) fn of_guard(self, guard: Guard) -> usize
+        ensures { result ≡ longest_for self guard.entry }
+    {
+        match guard {
+            Guard::Begins(_) => self.prefix,
+            Guard::Holds(_) => self.required,
+        }
+    }
+}
+
 /// Returns how an anchored search goes.
 pub(crate) fn anchored_route(kind: MatchKind, lengths: &Lengths) -> Route
     ensures { ServesAll kind lengths.now result }
@@ -62,10 +123,12 @@ pub(crate) fn free_route(kind: MatchKind, lengths: &Lengths) -> Route
 }
 
 impl Engines {
-    ghost use Rattle.std.specs.Prelude.{◌≡◌};
+    ghost use Rattle.std.specs.Prelude.{◌≡◌, IfSome};
+    ghost use Rattle.rc_needles.specs.Needles.{longest};
+    ghost use Rattle.rc_literals.specs.Guard.{guard_needles};
     ghost use Rattle.rc_strategy.specs.Lengths.{IsHeld};
     ghost use Rattle.rc_strategy.specs.Route.{GoesBy};
-    ghost use Rattle.rc_strategy.specs.Routes.{MayGuard, Serves};
+    ghost use Rattle.rc_strategy.specs.Routes.{MayGuard, Serves, longest_for};
 
     /// Returns which DFA a search uses: the DFA if there is one; else the lazy DFA, if there is one
     /// and `has_states` says that a cache has its states.
@@ -100,7 +163,9 @@ impl Engines {
     /// search for them is fast, else required ones.
     #[inline(always)]
     pub(crate) fn guard(&self) -> Option<Guard>
-        ensures { MayGuard self.now.engine result }
+        ensures guard { MayGuard self.now.engine result }
+        ensures longest { IfSome result
+            (λ guard. longest_for self.now.longest guard ≡ longest (guard_needles guard)) }
     {
         if self.sought_fast {
             if let Some(needles) = guards_of(&self.engine.literals) {

@@ -13,6 +13,7 @@ use Rattle.rc_text.specs.Text.{Searched}
 use Rattle.rc_dfa_search.proofs.NeedleLemmas.{none_void}
 use Rattle.rc_dfa_search.proofs.ToldLemmas.{kept_low, kept_then}
 use Rattle.rc_dfa_search.proofs.BeginLemmas.{found_here, found_later, no_first, none_on, not_begun}
+use Rattle.rc_dfa_search.proofs.SettledLemmas.{settled_here}
 use Rattle.rc_dfa_search.specs.Firsts.{AsksFirst, starting_at}
 use Rattle.rc_dfa_search.proofs.first.find_by_first.Given.{Over}
 use Rattle.rc_dfa_search.proofs.first.find_by_first.Goals as goal
@@ -60,6 +61,13 @@ within g c from is =
 after : (g : Over) (c : After-start_by g) → Keeps c.args.input.now c.start_by.new.input
 after g c = kept_then c.args.input.now c.runs.input c.start_by.new.input c.runs.invariant.keeps c.start_by.ensures.keeps
 
+-- the place is in the bounds
+above_low : (g : Over) (c : After-start_by g) (from : ℕ) → c.start_by.result ≡ Some from → low c.start_by.new.input ≤ from
+above_low g c from is =
+    let same = same_low g c in
+    let kept = kept_low c.args.input.now c.start_by.new.input (after g c) in
+    let above = (within g c from is).0 in omega (arith, same, kept, above)
+
 pub returns-in_default-clause-found : goal.returns-in_default-clause-found
 returns-in_default-clause-found g c hs terminator of guards =
     let k = (goal.at.returns-in_default-clause-found g c).After-start_by in
@@ -70,24 +78,26 @@ returns-in_default-clause-found g c hs terminator of guards =
     no_first c.args.aim hs terminator s s (itself s) c.requires.goes c.low-lo.result c.high-hi.result
     (same_low g k) c.high-hi.ensures.value (λ x low le. all x low (omega (arith, le)))
 
-pub returns-in-Some-2-clause-found : goal.returns-in-Some-2-clause-found
-returns-in-Some-2-clause-found g c hs terminator of guards =
-    let k = (goal.at.returns-in-Some-2-clause-found g c).After-start_by in
+pub returns-in-Some-found-clause-found : goal.returns-in-Some-found-clause-found
+returns-in-Some-found-clause-found g c hs terminator of guards =
+    let k = (goal.at.returns-in-Some-found-clause-found g c).After-start_by in
     let s = c.args.input.now in
     let u = c.start_by.new.input in
     let kept = after g k in
     let goes = subst (AsksFirst c.args.aim) (sym kept.anchored) c.requires.goes in
     found_here c.args.aim hs terminator s s (itself s) c.requires.goes c.low-lo.result c.high-hi.result
     (same_low g k) c.high-hi.ensures.value c.in-Some.from (within g k c.in-Some.from c.in-Some.is).0 (passed g k hs terminator of guards c.in-Some.from c.in-Some.is)
-    u kept c.in-Some-2.found
-    (subst (λ o. o ≡ answer_by c.args.aim.kind (starting_at c.in-Some.from (search_for c.args.aim hs terminator u))) c.in-Some-2.is (c.in_ok-found.ensures.found c.args.aim hs terminator of goes))
+    u kept c.in-Some-found.found
+    (subst (λ o. o ≡ answer_by c.args.aim.kind (starting_at c.in-Some.from (search_for c.args.aim hs terminator u))) c.in-Some-found.is
+    (settled_here c.args.aim hs terminator u c.in-Some.from (above_low g k c.in-Some.from c.in-Some.is) c.in_ok-here.here.reach c.in_ok-here.here.found
+    (c.in_ok-here.ensures.settled c.args.aim hs terminator of goes)))
 
 pub returns-then-left-eq0-clause-found : goal.returns-then-left-eq0-clause-found
 returns-then-left-eq0-clause-found g c hs terminator of guards =
     let k = (goal.at.returns-then-left-eq0-clause-found g c).After-start_by in
     let s = c.args.input.now in
-    let v = c.find_here.new.input in
-    let kept = kept_then s c.start_by.new.input v (after g k) c.in_ok-found.ensures.keeps in
+    let v = c.settle_here.new.input in
+    let kept = kept_then s c.start_by.new.input v (after g k) c.in_ok-here.ensures.keeps in
     found_later c.args.aim hs terminator s s (itself s) c.requires.goes c.low-lo.result c.high-hi.result
     (same_low g k) c.high-hi.ensures.value c.in-Some.from (within g k c.in-Some.from c.in-Some.is).0 (passed g k hs terminator of guards c.in-Some.from c.in-Some.is)
     v kept c.find_on.result (c.find_on.ensures.found hs terminator of guards)
@@ -103,8 +113,8 @@ runs-preserved g c =
     let above = w.0 in
     let short = c.if-from-hi.false in
     record {
-      cache = c.in_ok-found.ensures.cache;
-      keeps = kept_then s u c.find_here.new.input kept c.in_ok-found.ensures.keeps;
+      cache = c.in_ok-here.ensures.cache;
+      keeps = kept_then s u c.settle_here.new.input kept c.in_ok-here.ensures.keeps;
       low = omega (arith, above);
       high = omega (arith, short);
       passed = λ hs terminator of guards x low lt.
@@ -115,7 +125,8 @@ runs-preserved g c =
                 subst (λ z. HasNoWalkFrom (search_for c.args.aim hs terminator s) z) e
                 (not_begun c.args.aim hs terminator s s (itself s) c.requires.goes c.low-lo.result c.high-hi.result (same_low g k) c.high-hi.ensures.value
                 u kept c.in-Some.from w.2
-                (subst (λ o. o ≡ answer_by c.args.aim.kind (starting_at c.in-Some.from (search_for c.args.aim hs terminator u))) c.in_default-2.is
-                (c.in_ok-found.ensures.found c.args.aim hs terminator of goes)))
+                (subst (λ o. o ≡ answer_by c.args.aim.kind (starting_at c.in-Some.from (search_for c.args.aim hs terminator u))) c.in_default-found.is
+                (settled_here c.args.aim hs terminator u c.in-Some.from (above_low g k c.in-Some.from c.in-Some.is) c.in_ok-here.here.reach c.in_ok-here.here.found
+                (c.in_ok-here.ensures.settled c.args.aim hs terminator of goes))))
           ];
     }

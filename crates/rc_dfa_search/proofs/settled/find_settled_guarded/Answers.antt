@@ -10,8 +10,8 @@ use Rattle.rc_dfa_search.proofs.SettledLemmas.{inside_of}
 use Rattle.rc_dfa_search.proofs.ToldLemmas.{kept_low}
 use Rattle.rc_dfa_search.proofs.settled.find_settled_guarded.Goals as goal
 
-pub returns-in_default-clause-settled : goal.returns-in_default-clause-settled
-returns-in_default-clause-settled g c hs terminator of guards =
+pub returns-in_default-next_start-clause-settled : goal.returns-in_default-next_start-clause-settled
+returns-in_default-next_start-clause-settled g c hs terminator of guards =
     let aim = c.args.aim in
     let s = c.args.input.now in
     let tells = c.requires.tells in
@@ -27,4 +27,4 @@ returns-in_default-clause-settled g c hs terminator of guards =
     answer_far aim.kind (search_for aim hs terminator s) 18446744073709551615 None (inside_of aim hs terminator s) (omega (arith, fits))
     (sym (none_given (g.H.Halves.AreOf c.args.halves.now) aim hs terminator of s by (low s) (high s) refl refl ordered
     (none_left (g.H.Halves.AreOf c.args.halves.now) aim hs terminator of s by (low s) (high s) refl refl ordered c.high-bound.new.input keeps (low s) ordered (λ r h. h)
-    (λ x above below. c.in_default.ensures.passed (program hs) terminator aim.passes_over guards x (omega (arith, low_is, above)) (omega (arith, value, below))))))
+    (λ x above below. c.in_default-next_start.ensures.passed (program hs) terminator aim.passes_over guards x (omega (arith, low_is, above)) (omega (arith, value, below))))))

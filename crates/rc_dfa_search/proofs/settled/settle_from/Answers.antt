@@ -1,5 +1,4 @@
-use Rattle.std.proofs.Common.{◌∙◌, ℕ, List, IfOk, arith, subst, sym, refl}
-use Rattle.rc_text.specs.Text.{Keeps}
+use Rattle.std.proofs.Common.{◌∙◌, ℕ, List, IfOk, arith, subst, sym}
 use Rattle.rc_pattern.specs.Re.{Re}
 use Rattle.rc_program.specs.Program.{program}
 use Rattle.rc_literals.specs.Guard.{IsGuard}
@@ -10,7 +9,7 @@ use Rattle.rc_dfa_search.proofs.SettledLemmas.{first_settles_some, none_first}
 use Rattle.rc_dfa_search.proofs.ToldLemmas.{kept_search, kept_then}
 use Rattle.rc_dfa_search.proofs.settled.settle_from.Given.{Over}
 use Rattle.rc_dfa_search.proofs.settled.settle_from.Goals as goal
-use Rattle.rc_dfa_search.proofs.settled.settle_from.Goals.{After-saturating_add-reach, in-Begins+in_ok-here+else-is_some, in_default}
+use Rattle.rc_dfa_search.proofs.settled.settle_from.Goals.{After-saturating_add-reach}
 
 -- no match begins before the start
 passed : (g : Over) (c : After-saturating_add-reach g) (hs : List Re) (terminator : ℕ) → IsGuard (program hs) terminator c.args.guard →
@@ -18,7 +17,7 @@ passed : (g : Over) (c : After-saturating_add-reach g) (hs : List Re) (terminato
 passed g c hs terminator guards =
     let fits = c.content_fits.ensures in
     none_first c.args.aim hs terminator c.args.input.now c.args.guard c.args.start c.requires.first c.requires.begins c.requires.within c.saturating_add-reach.result
-    (omega (arith, c.saturating_add-reach.ensures, c.longest_of-longest_len.ensures, fits)) guards
+    (omega (arith, c.saturating_add-reach.ensures, c.requires.longest, fits)) guards
 
 pub returns-then-is_some-clause-settled : goal.returns-then-is_some-clause-settled
 returns-then-is_some-clause-settled g c hs terminator of guards =
@@ -37,12 +36,8 @@ returns-clause-settled g c hs terminator of guards =
     let k = (goal.at.returns-clause-settled g c).After-saturating_add-reach in
     let aim = c.args.aim in
     let s = c.args.input.now in
-    let keeps : Keeps s c.match-guard.input = elim c.match-guard.branch [
-      | in-Begins+in_ok-here+else-is_some w ↦
-          subst (Keeps s) (sym w.input-is) (kept_then s w.high-bound.new.input w.settle_here.new.input w.high-bound.ensures.keeps w.settle_here.ensures.keeps)
-      | in_default w ↦ subst (Keeps s) (sym w.input-is) (record { content = refl; span = refl; slice = refl; anchored = refl; earliest = refl })
-    ] in
-    let same = kept_search aim hs terminator s c.match-guard.input keeps in
+    let keeps = kept_then s c.high-bound.new.input c.settle_here.new.input c.high-bound.ensures.keeps c.settle_here.ensures.keeps in
+    let same = kept_search aim hs terminator s c.settle_here.new.input keeps in
     subst (λ q. IfOk c.settle_on.result (λ o. IsAnswerBelow aim.kind q o.reach o.found)) same
     (c.settle_on.ensures.settled hs terminator of guards
     (subst (λ q. NoneBeginBelow q c.saturating_add-reach.result c.args.start.from) (sym same) (passed g k hs terminator guards)))

@@ -11,7 +11,7 @@ pub returns-in-Some-clause-reply : goal.returns-in-Some-clause-reply
 returns-in-Some-clause-reply g c =
     let e = c.args.self.now in
     let p = e.engine.program in
-    let guards = subst (λ o. MatchOption o ⊤ (IsGuard (places_of p.places.items) p.terminator)) c.in-Some.is c.guard-guard.ensures in
+    let guards = subst (λ o. MatchOption o ⊤ (IsGuard (places_of p.places.items) p.terminator)) c.in-Some.is c.guard-guard.ensures.guard in
     tables_reply e.engine e.patterns c.args.input.now c.requires.own c.args.question c.aim_for-aim.result c.aim_for-aim.ensures c.find_by_guard.result
     (λ hs same h. c.find_by_guard.ensures.found hs p.terminator h (subst (λ ps. IsGuard ps p.terminator c.in-Some.guard) same guards))
 

@@ -13,7 +13,7 @@ pub returns-in-Some-clause-settled : goal.returns-in-Some-clause-settled
 returns-in-Some-clause-settled g c =
     let e = c.args.self.now in
     let p = e.engine.program in
-    let guards = subst (λ o. MatchOption o ⊤ (IsGuard (places_of p.places.items) p.terminator)) c.in-Some.is c.guard.ensures in
+    let guards = subst (λ o. MatchOption o ⊤ (IsGuard (places_of p.places.items) p.terminator)) c.in-Some.is c.guard.ensures.guard in
     tables_settle e.engine e.patterns c.args.input.now c.aim-aim.result c.requires.own c.aim-aim.ensures c.find_settled_guarded.result
     (λ hs same h. c.find_settled_guarded.ensures.settled hs p.terminator h (subst (λ ps. IsGuard ps p.terminator c.in-Some.guard) same guards))
 

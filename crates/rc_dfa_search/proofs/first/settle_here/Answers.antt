@@ -6,9 +6,9 @@ use Rattle.rc_dfa_search.specs.Aims.{AreHalvesOf, search_for}
 use Rattle.rc_dfa_search.specs.Firsts.{AsksFirst, starting_at}
 use Rattle.rc_dfa_search.specs.Reaches.{IsAnswerBelow}
 use Rattle.rc_dfa_search.proofs.SettledLemmas.{IsMetBelow, here_below, met_below_so}
-use Rattle.rc_dfa_search.proofs.settled.settle_here.Given.{Over}
-use Rattle.rc_dfa_search.proofs.settled.settle_here.Goals as goal
-use Rattle.rc_dfa_search.proofs.settled.settle_here.Goals.{In_ok-met}
+use Rattle.rc_dfa_search.proofs.first.settle_here.Given.{Over}
+use Rattle.rc_dfa_search.proofs.first.settle_here.Goals as goal
+use Rattle.rc_dfa_search.proofs.first.settle_here.Goals.{In_ok-met}
 
 -- what the run met
 met_here : (g : Over) (c : In_ok-met g) (aim : Aim) (hs : List Re) (terminator : ℕ) → AreHalvesOf (g.H.Halves.AreOf c.args.halves.now) aim hs terminator →
