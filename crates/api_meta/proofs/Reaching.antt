@@ -175,24 +175,19 @@ pub regex_bounded : (r : Regex) → All HasBounds (regex_patterns r)
 regex_bounded r = ∥∥₁_elim r.well_formed (hlevel (props, bounds_prop)) (All-weaker IsWellFormed HasBounds (λ h f. f.bounded) (regex_patterns r))
 
 -- by what the code tells
-pub by_values : (r : Regex) (i : Searched) (o : Option Found) (start : Option ℕ) (hirs : List Hir) (most reach : ℕ) → slice_end i + 1 < 2 ^ 64 →
-    o ≡ answer_by (regex_kind r) (search_for (sought r) i) → IfSome o (IsWithinBounds i) → start ≡ last_start (regex_kind r) i o → hirs ≡ r.hirs.items →
-    most ≡ reach_after start (longest_after (Some 0) (map meaning hirs)) → reach ≡ min most (slice_end i + 1) →
+pub by_values : (r : Regex) (i : Searched) (o : Option Found) (start : Option ℕ) (most reach : ℕ) → slice_end i + 1 < 2 ^ 64 →
+    o ≡ answer_by (regex_kind r) (search_for (sought r) i) → IfSome o (IsWithinBounds i) → start ≡ last_start (regex_kind r) i o →
+    most ≡ reach_after start r.longest → reach ≡ min most (slice_end i + 1) →
     EndsSettled (regex_kind r) (search_for (sought r) i) o reach × IsNear (regex_kind r) (regex_patterns r) o reach
-by_values r i o start hirs most reach fits is bounds starts same mosts reaches =
+by_values r i o start most reach fits is bounds starts mosts reaches =
     let hs = regex_patterns r in
-    let longest : longest_after (Some 0) (map meaning hirs) ≡ greatest_len hs = ap (λ xs. longest_after (Some 0) (map meaning xs)) same ∙ longest_is hs in
+    let longest : r.longest ≡ greatest_len hs = r.measured ∙ longest_is hs in
     let all : most ≡ reach_after (last_start (regex_kind r) i o) (greatest_len hs) = mosts ∙ ap₂ reach_after starts longest in
     let e : min (reach_after (last_start (regex_kind r) i o) (greatest_len hs)) (slice_end i + 1) ≡ reach =
     sym (reaches ∙ ap (λ k. min k (slice_end i + 1)) all) in (
       subst (EndsSettled (regex_kind r) (search_for (sought r) i) o) e (settles (sought r) (regex_kind r) i o (regex_bounded r) fits is bounds),
       subst (IsNear (regex_kind r) hs o) e (is_near hs (regex_kind r) i o (slice_end i + 1)),
     )
-
-pub no_start : (kind : MatchKind) (i : Searched) → anchored_start i ≡ last_start kind i None
-no_start all_matches i = refl
-no_start leftmost_first i = refl
-no_start leftmost_longest i = refl
 
 -- an input that is kept is searched alike
 pub kept : (q : Sought) (i j : Searched) → Keeps i j → search_for q j ≡ search_for q i

@@ -22,6 +22,7 @@ ghost use Rattle.rc_build.specs.TextRefusals.{AllRead, IsTextRefusal, texts_of};
 ghost use Rattle.api_meta.specs.Views.{builder_settings, builder_syntax, regex_patterns, regex_settings};
 ghost use Rattle.rc_parser.specs.Settings.{default_settings, settings_of as syntax_of};
 
+use crate::reach::greatest_length;
 use crate::regex::Regex;
 use rc_build::build::build_all;
 use rc_build::texts::parse_all;
@@ -161,12 +162,14 @@ pub(crate) fn build(alloc: Global, config: &Config, hirs: &[Hir]) -> Result<Rege
     )?;
     let hirs = built.hirs;
     let engines = engines_of(alloc, config, &hirs, built.engine)?;
+    let longest = greatest_length(&hirs);
     let config = config.try_clone(alloc)?;
     Ok(Regex {
         config,
         hirs,
         engines,
         info: built.info,
+        longest,
     })
 }
 

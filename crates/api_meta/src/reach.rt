@@ -71,10 +71,9 @@ impl Regex {
             result.found result.reach }
     {
         let settled = self.engines.find_settled(&mut cache.inner, input);
-        let reached = self.reached(settled.found, input);
-        let reach = reached.reach.min(settled.reach);
+        let reach = self.reach_of(settled.found, input).min(settled.reach);
         Reached {
-            found: reached.found,
+            found: settled.found,
             reach,
         }
     }
@@ -107,45 +106,34 @@ impl Regex {
             (match_of caps.new) result }
     {
         self.search_captures_with(cache, input, caps);
-        self.reached(caps.get_match(), input).reach
+        self.reach_of(caps.get_match(), input)
     }
 
-    /// A match that a search of the input found, with how many bytes settle it.
-    fn reached<C: Cursor>(&self, found: Option<Match>, input: &mut Input<C>) -> Reached
+    /// How many bytes settle what a search of the input found, as far as the lengths of the
+    /// patterns tell.
+    fn reach_of<C: Cursor>(&self, found: Option<Match>, input: &mut Input<C>) -> usize
         requires answer { found
             ≡ answer_by (regex_kind self.now) (search_for (sought self.now) input.old) }
         requires bounds { IfSome found (IsWithinBounds input.old) }
         ensures keeps { Keeps input.old input.new }
-        ensures found { result.found ≡ found }
         ensures settled { EndsSettled (regex_kind self.now)
-            (search_for (sought self.now) input.old) found result.reach }
-        ensures within { result.reach ≤ slice_end input.old + 1 }
-        ensures near { IsNear (regex_kind self.now) (regex_patterns self.now) found result.reach }
+            (search_for (sought self.now) input.old) found result }
+        ensures within { result ≤ slice_end input.old + 1 }
+        ensures near { IsNear (regex_kind self.now) (regex_patterns self.now) found result }
     {
-        match found {
-            None => {
-                let most = reach_after(anchored_start(input), &self.hirs);
-                let reach = up_to_slice_end(input, most);
-                Reached { found: None, reach }
-            }
-            Some(found) => {
-                let most = reach_after(self.last_start(found, input), &self.hirs);
-                let reach = up_to_slice_end(input, most);
-                Reached {
-                    found: Some(found),
-                    reach,
-                }
-            }
-        }
+        let most = reach_after(self.last_start(found, input), self.longest);
+        up_to_slice_end(input, most)
     }
 
-    /// The last start that decides a search of the input that found this match.
-    fn last_start<C: Cursor>(&self, found: Match, input: &Input<C>) -> Option<usize>
-        ensures { result ≡ last_start (regex_kind self.now) input.now (Some found) }
+    /// The last start that decides a search of the input that found this.
+    fn last_start<C: Cursor>(&self, found: Option<Match>, input: &Input<C>) -> Option<usize>
+        ensures { result ≡ last_start (regex_kind self.now) input.now found }
     {
-        match self.get_config().get_match_kind() {
-            MatchKind::All => anchored_start(input),
-            MatchKind::LeftmostFirst | MatchKind::LeftmostLongest => Some(found.start()),
+        match (self.get_config().get_match_kind(), found) {
+            (MatchKind::LeftmostFirst | MatchKind::LeftmostLongest, Some(found)) => {
+                Some(found.start())
+            }
+            (_, _) => anchored_start(input),
         }
     }
 }
@@ -161,11 +149,12 @@ fn anchored_start<C: Cursor>(input: &Input<C>) -> Option<usize>
     }
 }
 
-/// How many bytes settle a search for these patterns, if `start` is the last start that decides it.
-fn reach_after(start: Option<usize>, hirs: &[Hir]) -> usize
-    ensures { result ≡ reach_after start (longest_after (Some 0) (map meaning hirs.now)) }
+/// How many bytes settle a search, if `start` is the last start that decides it, and `longest` the
+/// greatest length of the patterns.
+fn reach_after(start: Option<usize>, longest: Option<usize>) -> usize
+    ensures { result ≡ reach_after start longest }
 {
-    match (start, greatest_length(hirs)) {
+    match (start, longest) {
         (Some(start), Some(longest)) => {
             start.saturating_add(longest).saturating_add(LOOKS_AHEAD)
         }
@@ -175,7 +164,7 @@ fn reach_after(start: Option<usize>, hirs: &[Hir]) -> usize
 }
 
 /// The greatest length of these patterns, in bytes, or `None` if one of them has none.
-fn greatest_length(hirs: &[Hir]) -> Option<usize>
+pub(crate) fn greatest_length(hirs: &[Hir]) -> Option<usize>
     ensures { result ≡ longest_after (Some 0) (map meaning hirs.now) }
 {
     let mut longest = Some(0);

@@ -1,6 +1,6 @@
 //! Regex: a list of patterns, built, and its searches.
 
-ghost use Rattle.std.specs.Prelude.{◌≡◌, ◌≤◌, ◌+◌, All, IfSome, None, false, length, map};
+ghost use Rattle.std.specs.Prelude.{◌≡◌, ◌≤◌, ◌+◌, All, IfSome, None, Some, false, length, map};
 ghost use Rattle.rc_pattern.specs.Properties.{common};
 ghost use Rattle.rc_pattern.specs.Weight.{list_weight};
 ghost use Rattle.rc_pattern.specs.WellFormed.{IsWellFormed};
@@ -11,6 +11,7 @@ ghost use Rattle.rc_pikevm_search.specs.Choices.{guarding};
 ghost use Rattle.rc_strategy.specs.Plans.{IsLazyFor};
 ghost use Rattle.api_meta.specs.Plans.{plan_by};
 ghost use Rattle.api_meta.specs.Counts.{static_groups};
+ghost use Rattle.api_meta.specs.Reaching.{longest_after};
 ghost use Rattle.rc_pattern.specs.Meaning.{meaning};
 ghost use Rattle.rc_settings.specs.Settings.{settings_of, program_settings, auto_prefilter_of, prefilter_of, match_kind_of};
 
@@ -40,10 +41,13 @@ pub struct Regex {
     pub(crate) hirs: Vec<Hir>,
     pub(crate) engines: Engines,
     pub(crate) info: GroupInfo,
+    /// The greatest length of the patterns in bytes, or `None` if one of them has none.
+    pub(crate) longest: Option<usize>,
     ghost fits: { Fits (program_settings (settings_of config)) (match_kind_of (settings_of config))
         (map meaning hirs.items) engines.engine info },
     ghost planned: { ∥ IfSome engines.lazy
         (IsLazyFor (plan_by (map meaning hirs.items) (settings_of config))) ∥₁ },
+    ghost measured: { longest ≡ longest_after (Some 0) (map meaning hirs.items) },
     ghost well_formed: { ∥ All IsWellFormed (map meaning hirs.items) ∥₁ },
     // No needles, if none are asked for.
     ghost unguarded: { auto_prefilter_of (settings_of config) ≡ false

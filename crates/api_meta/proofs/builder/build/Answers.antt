@@ -1,4 +1,4 @@
-use Rattle.std.proofs.Common.{◌≡◌, ◌∙◌, ◌≤◌, IfSome, ap, arith, map, refl, subst, sym}
+use Rattle.std.proofs.Common.{◌≡◌, ◌∙◌, ◌≤◌, IfSome, Some, ap, arith, map, refl, subst, sym}
 use Rattle.std.specs.Prelude.{All}
 use Rattle.rc_pattern.specs.Meaning.{meaning}
 use Rattle.rc_pattern.specs.WellFormed.{IsWellFormed}
@@ -14,6 +14,7 @@ use Rattle.rc_build.specs.Refusals.{IsBuildable}
 use Rattle.rc_build.proofs.Runnable.{bounded}
 use Rattle.rc_strategy.specs.Plans.{IsLazyFor}
 use Rattle.api_meta.specs.Plans.{plan_by}
+use Rattle.api_meta.specs.Reaching.{longest_after}
 use Rattle.api_meta.proofs.builder.build.Goals as goal
 
 pub engines_of-requires : goal.engines_of-requires
@@ -54,3 +55,7 @@ invariant_of-result-clause-planned c =
     ∣ subst (λ xs. IfSome engines.lazy (IsLazyFor (plan_by xs (all_of c.in_ok-config.config)))) same
     (subst (λ s. IfSome engines.lazy (IsLazyFor (plan_by (map meaning c.deref.result.now) s))) (sym c.in_ok-config.ensures)
     c.in_ok-engines.ensures.planned) ∣₁
+
+pub invariant_of-result-clause-measured : goal.invariant_of-result-clause-measured
+invariant_of-result-clause-measured c =
+    c.greatest_length-longest.ensures ∙ ap (λ xs. longest_after (Some 0) (map meaning xs)) c.deref-2.ensures.value

@@ -18,19 +18,19 @@ answers : (g : Over) (c : After-find_settled-settled g) →
     answer_by (regex_kind c.args.self.now) (search_for (sought c.args.self.now) c.args.input.now) ≡ c.find_settled-settled.result.found
 answers g c = settled_answer c.args.self.now c.args.input.now c.find_settled-settled.result c.find_settled-settled.ensures.settled
 
-pub reached-reached-requires-clause-answer : goal.reached-reached-requires-clause-answer
-reached-reached-requires-clause-answer g c =
+pub reach_of-requires-clause-answer : goal.reach_of-requires-clause-answer
+reach_of-requires-clause-answer g c =
     let r = c.args.self.now in
     let same = kept (sought r) c.args.input.now c.find_settled-settled.new.input c.find_settled-settled.ensures.keeps in
-    sym (ap (answer_by (regex_kind r)) same ∙ answers g (goal.at.reached-reached-requires-clause-answer g c).After-find_settled-settled)
+    sym (ap (answer_by (regex_kind r)) same ∙ answers g (goal.at.reach_of-requires-clause-answer g c).After-find_settled-settled)
 
-pub reached-reached-requires-clause-bounds : goal.reached-reached-requires-clause-bounds
-reached-reached-requires-clause-bounds g c =
+pub reach_of-requires-clause-bounds : goal.reach_of-requires-clause-bounds
+reach_of-requires-clause-bounds g c =
     same_bounds c.args.input.now c.find_settled-settled.new.input c.find_settled-settled.ensures.keeps c.find_settled-settled.result.found c.find_settled-settled.ensures.within
 
 pub returns-clause-found : goal.returns-clause-found
 returns-clause-found g c =
-    c.reached-reached.ensures.found ∙ sym (answers g (goal.at.returns-clause-found g c).After-find_settled-settled)
+    sym (answers g (goal.at.returns-clause-found g c).After-find_settled-settled)
 
 pub returns-clause-settled : goal.returns-clause-settled
 returns-clause-settled g c =
@@ -38,20 +38,19 @@ returns-clause-settled g c =
     let q = sought r in
     let kind = regex_kind r in
     let i = c.args.input.now in
-    let m = c.reached-reached.result.reach in
+    let m = c.reach_of.result in
     let same = kept q i c.find_settled-settled.new.input c.find_settled-settled.ensures.keeps in
-    let length = reach_law.match kind (search_for q i) m (subst (IsWalkSettled kind m) same c.reached-reached.ensures.settled.settled) in
+    let length = reach_law.match kind (search_for q i) m (subst (IsWalkSettled kind m) same c.reach_of.ensures.settled.settled) in
     subst (λ k. IsSettled kind k (search_for q i)) (sym c.min-reach.ensures)
     (least_settled r i c.find_settled-settled.result m c.find_settled-settled.ensures.settled length)
 
 pub returns-clause-within : goal.returns-clause-within
 returns-clause-within g c =
     let o = c.find_settled-settled.result in
-    let past = past_least o.found c.reached-reached.result.reach o.reach c.reached-reached.ensures.settled.past c.find_settled-settled.ensures.past in
+    let past = past_least o.found c.reach_of.result o.reach c.reach_of.ensures.settled.past c.find_settled-settled.ensures.past in
     let slice = same_slice c.args.input.now c.find_settled-settled.new.input c.find_settled-settled.ensures.keeps in
-    let most = c.reached-reached.ensures.within in (
-      subst (λ k. IfSome c.reached-reached.result.found (λ (f : Found). f.end ≤ k)) (sym c.min-reach.ensures)
-          (subst (λ x. IfSome x (λ (f : Found). f.end ≤ min c.reached-reached.result.reach o.reach)) (sym c.reached-reached.ensures.found) past),
+    let most = c.reach_of.ensures.within in (
+      subst (λ k. IfSome o.found (λ (f : Found). f.end ≤ k)) (sym c.min-reach.ensures) past,
       omega (arith, c.min-reach.ensures, most, slice),
     )
 
@@ -59,9 +58,7 @@ pub returns-clause-near : goal.returns-clause-near
 returns-clause-near g c =
     let r = c.args.self.now in
     let o = c.find_settled-settled.result in
-    subst (λ x. IsNear (regex_kind r) (regex_patterns r) x c.min-reach.result) (sym c.reached-reached.ensures.found)
-    (near_more (regex_patterns r) (regex_kind r) o.found c.reached-reached.result.reach c.min-reach.result (omega (arith, c.min-reach.ensures))
-    c.reached-reached.ensures.near)
+    near_more (regex_patterns r) (regex_kind r) o.found c.reach_of.result c.min-reach.result (omega (arith, c.min-reach.ensures)) c.reach_of.ensures.near
 
 pub returns-clause-cache : goal.returns-clause-cache
 returns-clause-cache g c =
