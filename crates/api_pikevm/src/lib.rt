@@ -7,5 +7,6 @@
 pub mod builder;
 pub mod cache;
 pub mod iterators;
+pub mod reach;
 pub mod search;
 pub mod vm;
