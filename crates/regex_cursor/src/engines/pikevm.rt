@@ -3,6 +3,7 @@
 pub use api_pikevm::builder::Builder;
 pub use api_pikevm::cache::Cache;
 pub use api_pikevm::iterators::FindMatches;
+pub use api_pikevm::reach::{Reached, search_reach};
 pub use api_pikevm::search::{find_iter, is_match, search, search_slots};
 pub use api_pikevm::vm::PikeVM;
 pub use rc_captures::captures::Captures;
