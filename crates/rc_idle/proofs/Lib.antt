@@ -1,0 +1,2 @@
+pub mod EnteredLemmas
+pub mod IdleLemmas
