@@ -7,3 +7,4 @@ pub mod Preferred
 pub mod PatternSpans
 pub mod LentRuns
 pub mod Reaching
+pub mod Partials

@@ -8,4 +8,5 @@ pub mod Plans
 pub mod Preferred
 pub mod Reached
 pub mod Reaching
+pub mod Partials
 pub mod Laws

@@ -8,6 +8,7 @@ pub mod finder;
 pub mod iterators;
 pub mod laws;
 pub mod lists;
+pub mod partial;
 pub mod reach;
 pub mod regex;
 mod seeker;
