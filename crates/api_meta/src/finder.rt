@@ -4,6 +4,7 @@ ghost use Rattle.api_meta.specs.Caches.{IsCacheFor};
 ghost use Rattle.api_meta.specs.Views.{regex_patterns, regex_settings};
 
 use crate::cache::Cache;
+use crate::partial::Partial;
 use crate::reach::Reached;
 use crate::regex::Regex;
 use rc_captures::captures::Captures;
@@ -54,7 +55,9 @@ impl<'r> Finder<'r> {
     ghost use Rattle.rc_text.specs.Found.{half_of};
     ghost use Rattle.rc_text.specs.Bounds.{IsWithinBounds};
     ghost use Rattle.rc_text.specs.Text.{Keeps, high, low, slice_end};
+    ghost use Rattle.rc_reach.specs.Partial.{IsPartial};
     ghost use Rattle.rc_reach.specs.Settled.{IsSettled};
+    ghost use Rattle.api_meta.specs.Partials.{IsOnward, partial_of};
     ghost use Rattle.api_meta.specs.Reached.{IsNear};
     ghost use Rattle.rc_text.specs.declared.types.MatchKind.TheVariants.{LeftmostFirst};
 
@@ -110,6 +113,18 @@ impl<'r> Finder<'r> {
             result.found result.reach }
     {
         self.regex.search_reach_with(&mut self.cache, input)
+    }
+
+    /// Returns what the content that is here tells of a search, if more bytes may follow it, as
+    /// `Regex::search_partial_with` does. It takes no memory.
+    pub fn find_partial<C: Cursor>(&mut self, input: &mut Input<C>) -> Partial
+        ensures regex { self.new ≡ self.old }
+        ensures keeps { Keeps input.old input.new }
+        ensures told { IsPartial (regex_kind self.old) (search_for (sought self.old) input.old)
+            (partial_of result) }
+        ensures onward { IsOnward input.old result }
+    {
+        self.regex.search_partial_with(&mut self.cache, input)
     }
 
     /// Returns the pattern and the end of the match that `find` finds. It takes no memory.
