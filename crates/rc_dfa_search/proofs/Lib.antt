@@ -28,3 +28,4 @@ pub mod JumpLemmas
 pub mod BeginLemmas
 pub mod ReachLemmas
 pub mod SettledLemmas
+pub mod IdleLemmas

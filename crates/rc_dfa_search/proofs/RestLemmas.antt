@@ -223,7 +223,7 @@ module _ (kind : MatchKind) (left : IsLeftmost kind) (W : Pair → List Pair) (E
 
 -- OVER THE BYTE PROGRAM
 
-same_none : (W V : Pair → List Pair) (E F : Pair → Type 0) (f : List Pair) (o q : Option (List Pair)) → Finds W E [] f o → Finds V F [] f q →
+pub same_none : (W V : Pair → List Pair) (E F : Pair → Type 0) (f : List Pair) (o q : Option (List Pair)) → Finds W E [] f o → Finds V F [] f q →
     option_map last_of o ≡ option_map last_of q → HasNoWalk V F [] f → HasNoWalk W E [] f
 same_none W V E F f None q a b e none = a
 same_none W V E F f (Some w) None a b e none = absurd (none-some (last_of w) (sym e))

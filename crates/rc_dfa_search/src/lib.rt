@@ -5,6 +5,7 @@ pub mod build;
 mod early;
 pub mod first;
 pub mod guarded;
+pub mod idle;
 pub mod laws;
 pub mod literals;
 pub mod reach;

@@ -30,10 +30,10 @@ use rc_text::types::{Anchored, Match, MatchError, Span};
 
 /// How far a forward run came, and how far it looked.
 #[derive(Clone, Copy)]
-struct ReadLeg {
-    leg: Leg,
+pub(crate) struct ReadLeg {
+    pub(crate) leg: Leg,
     /// It looked at no byte from this position on.
-    read: usize,
+    pub(crate) read: usize,
 }
 
 /// A position before which no match begins.
@@ -58,7 +58,7 @@ enum Ending {
 /// Runs forwards from the position `from` up to `bound`, and returns how far it came and looked.
 /// The run may rest, from `rest_from` on. An `Err` says why the DFA has no answer.
 #[inline(always)]
-fn read_leg<H: Halves, C: Cursor>(
+pub(crate) fn read_leg<H: Halves, C: Cursor>(
     halves: &H,
     cache: &mut H::Cache,
     input: &mut Input<C>,

@@ -1,0 +1,61 @@
+//! Idle positions: how far a DFA tells that no match begins, whatever follows. Positions are in
+//! bytes of the whole content.
+ghost use Rattle.std.specs.Prelude.{◌≡◌, ◌≤◌, ℕ, List, IfOk};
+ghost use Rattle.rc_text.specs.Text.{Keeps, low, high};
+ghost use Rattle.rc_pattern.specs.Re.{Re};
+ghost use Rattle.rc_dfa_search.specs.Aims.{AreHalvesOf, search_for};
+ghost use Rattle.rc_dfa_search.specs.Firsts.{AsksFirst};
+ghost use Rattle.rc_dfa_search.specs.Reaches.{NoneBeginBelow};
+ghost use Rattle.rc_text.specs.declared.types.MatchKind.TheVariants.{LeftmostFirst};
+
+use crate::guarded::Leg;
+use crate::search::Aim;
+use crate::settled::read_leg;
+use rc_dfa::halves::Halves;
+use rc_text::cursor::Cursor;
+use rc_text::input::{Input, content_fits, high, low};
+use rc_text::types::MatchError;
+
+/// Returns a position at which nothing is under way: no match begins before it, in this content and
+/// in each other one that has the same bytes before it. It is where the search begins, or a later
+/// position at which a run forwards rests.
+///
+/// The runs look for it in the later half of what is left, and come closer to the end each time. If
+/// none rests there, they look in more of it. An `Err` says why the DFA has no answer.
+pub fn last_idle<H: Halves, C: Cursor>(
+    halves: &H,
+    cache: &mut H::Cache,
+    input: &mut Input<C>,
+    aim: Aim,
+) -> Result<usize, MatchError>
+    requires cache { H.IsCache halves.now cache.old }
+    requires goes { AsksFirst aim input.old.anchored }
+    requires preferred { aim.kind ≡ LeftmostFirst }
+    requires ordered { low input.old ≤ high input.old }
+    ensures cache { H.IsCache halves.now cache.new }
+    ensures keeps { Keeps input.old input.new }
+    ensures idle { (hs : List Re) (terminator : ℕ)
+        → AreHalvesOf (H.AreOf halves.now) aim hs terminator
+        → IfOk result (λ k. NoneBeginBelow (search_for aim hs terminator input.old) k k) }
+    ensures within { IfOk result (λ k. (low input.old ≤ k) × (k ≤ high input.old)) }
+{
+    content_fits(input);
+    let bound = high(input);
+    let mut at = low(input);
+    let mut stride = (bound - at + 1) / 2;
+    'runs: loop {
+        let came = read_leg(halves, cache, input, at, bound, at.saturating_add(stride))?;
+        match came.leg {
+            Leg::Rested(i) if at < i => {
+                stride = stride.min((bound - i + 1) / 2);
+                at = i;
+            }
+            _ => {
+                if stride <= 1 {
+                    return Ok(at);
+                }
+                stride /= 2;
+            }
+        }
+    }
+}
