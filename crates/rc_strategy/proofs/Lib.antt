@@ -16,3 +16,4 @@ pub mod HeldLemmas
 pub mod StartLemmas
 pub mod OverlapLemmas
 pub mod ReachLemmas
+pub mod PartialLemmas

@@ -8,6 +8,7 @@ pub mod laws;
 pub mod lengths;
 mod longest;
 mod overlap;
+pub mod partial;
 mod pass;
 mod question;
 pub mod reach;
