@@ -6,7 +6,7 @@ ghost use Rattle.rc_text.specs.Text.{Keeps};
 use crate::cache::Cache;
 use crate::regex::Regex;
 use rc_text::cursor::Cursor;
-use rc_text::input::{Input, low, move_to, position};
+use rc_text::input::{Input, move_to, position};
 use rc_text::types::Match;
 
 /// What the content that is here tells of a search, if more may follow it.
@@ -20,7 +20,8 @@ pub enum Partial {
 
 impl Regex {
     ghost use Rattle.rc_program.specs.Sought.{search_for};
-    ghost use Rattle.rc_reach.specs.Partial.{IsPartial};
+    ghost use Rattle.std.specs.Prelude.{IfSome};
+    ghost use Rattle.rc_reach.specs.Partial.{IsPartial, final};
     ghost use Rattle.rc_text.specs.Text.{Keeps};
     ghost use Rattle.api_meta.specs.Caches.{IsCacheFor};
     ghost use Rattle.api_meta.specs.Partials.{IsOnward, partial_of};
@@ -33,6 +34,9 @@ impl Regex {
     /// they go on with it; if one of them ends before, it ends there too. The match is final if its
     /// reach ends in the content, as `search_reach_with` tells it. Otherwise a search of a content
     /// that goes on may begin at the position that is returned.
+    ///
+    /// If a DFA searches for a leftmost-first match, and none is passed over, that is about the last
+    /// position at which nothing is under way. Otherwise it is where this search begins.
     pub fn search_partial_with<C: Cursor>(&self, cache: &mut Cache, input: &mut Input<C>) -> Partial
         requires made { IsCacheFor (regex_patterns self.now) (regex_settings self.now) cache.old }
         ensures cache { IsCacheFor (regex_patterns self.now) (regex_settings self.now) cache.new }
@@ -41,14 +45,26 @@ impl Regex {
             (partial_of result) }
         ensures onward { IsOnward input.old result }
     {
-        let from = low(input);
-        let reached = self.search_reach_with(cache, input);
-        if let Some(found) = reached.found {
-            if has_bytes(input, reached.reach) {
-                return Partial::Final(found);
-            }
+        if let Some(found) = self.final_match(cache, input) {
+            return Partial::Final(found);
         }
-        Partial::From(from)
+        Partial::From(self.engines.undecided_from(&mut cache.inner, input))
+    }
+
+    /// Returns the match, if the content has all bytes that settle it.
+    fn final_match<C: Cursor>(&self, cache: &mut Cache, input: &mut Input<C>) -> Option<Match>
+        requires made { IsCacheFor (regex_patterns self.now) (regex_settings self.now) cache.old }
+        ensures cache { IsCacheFor (regex_patterns self.now) (regex_settings self.now) cache.new }
+        ensures keeps { Keeps input.old input.new }
+        ensures told { IfSome result (λ m. IsPartial (regex_kind self.now)
+            (search_for (sought self.now) input.old) (final m)) }
+    {
+        let reached = self.search_reach_with(cache, input);
+        let found = reached.found?;
+        if !has_bytes(input, reached.reach) {
+            return None;
+        }
+        Some(found)
     }
 }
 
