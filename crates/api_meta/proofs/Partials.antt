@@ -1,11 +1,10 @@
 -- What the beginning of a content tells.
-use Rattle.std.proofs.Common.{◌≡◌, ℕ, ◌≤◌, false, length, Option, Some, sym, ◌∙◌, arith}
+use Rattle.std.proofs.Common.{◌≡◌, ℕ, ◌≤◌, length, Option, Some, sym, ◌∙◌}
 use Rattle.rc_text.specs.Found.{Found}
 use Rattle.rc_text.specs.declared.types.MatchKind.{MatchKind}
 use Rattle.rc_program.specs.Answer.{Search}
 use Rattle.rc_program.specs.Kinds.{answer_by}
-use Rattle.rc_program.proofs.KindLemmas.{kinds_law}
-use Rattle.rc_reach.specs.Partial.{IsPartial, final, from_place}
+use Rattle.rc_reach.specs.Partial.{IsPartial, final}
 use Rattle.rc_reach.specs.Settled.{IsSettled}
 use Rattle.rc_dfa_search.proofs.SettledLemmas.{agrees_less}
 
@@ -14,11 +13,3 @@ pub is_final : (kind : MatchKind) (s : Search) (o : Option Found) (m : Found) (r
     r ≤ length s.text.content → IsPartial kind s (final m)
 is_final kind s o m r found some settled le t on =
     settled t on.0 (agrees_less s t r (length s.text.content) le on.1) ∙ sym found ∙ some
-
--- no match begins before the search does
-pub from_start : (kind : MatchKind) (s : Search) → IsPartial kind s (from_place s.lo)
-from_start kind s t on m found =
-    let spelled = kinds_law.spelled kind false t m (sym found) in
-    let low = spelled.is_start.0 in
-    let same = on.1.lo in
-    omega (arith, low, same)
