@@ -6,6 +6,7 @@ use Rattle.rc_program.specs.Sought.{text_of}
 use Rattle.rc_determinize.specs.States.{State, best_at}
 use Rattle.rc_dfa.specs.Machine.{Machine, Leads, IsAsked, is_dead}
 use Rattle.rc_dfa.specs.Runs.{IsByte, MayRead, RunEnd, met_last, stopped_at, idle_at}
+use Rattle.rc_table_search.specs.declared.run.Stand.{Stand}
 use Rattle.rc_table_search.specs.Walks.{HasByte, Reaches, Walk, byte_at, cell_of, left_of, next_of, begun, plain, leapt, found}
 use Rattle.rc_table_search.specs.Ways.{EndsBy, IsBounded, IsNext, IsOn, LiesWithin, beside_at, offset_of, span}
 use Rattle.rc_table_search.proofs.SpanLemmas.{beside_same, left_on, next_here, on_here, place_next}
@@ -176,6 +177,12 @@ module _ (d : Table) (q : Request) (i row b : ℕ) (noted : Option (ℕ × ℕ))
       rested m states d (text_of terminator q.seen) q ok (i + 1) (row_of cell) (noted_by cell i noted)
       (subst (λ k. IsHere m states d (text_of terminator q.seen) q k (row_of cell) (noted_by cell i noted)) at y) forwards none
       (subst (λ way. IsOn way (i + 1) q.bound) (sym forwards) within) idle
+
+-- the same of a run that stands there
+pub rests_here : (d : Table) (q : Request) (i : ℕ) (stand : Stand) → Stands d q i stand → IsOn q.backwards i q.bound → q.backwards ≡ false →
+    is_some stand.noted ≡ false → slice_index_or d.idles.items (stand.row / d.width) false ≡ true → Ends d q i (Idle i)
+rests_here d q i stand x within forwards none idle m states terminator ok asked =
+    rested m states d (text_of terminator q.seen) q ok i stand.row stand.noted (x m states terminator ok asked) forwards none within idle
 
 -- AT THE BOUNDS
 

@@ -354,6 +354,7 @@ pub(crate) fn table_of(
         ends: parts.rows.ends,
         tells: parts.tells,
         idles: parts.idles,
+        rests,
         exits,
         skips,
         leaps,

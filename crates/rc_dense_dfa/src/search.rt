@@ -1,12 +1,12 @@
 //! Search: runs a DFA over a text, forwards to the end of a match or backwards to its start.
-ghost use Rattle.std.specs.Prelude.{◌≡◌, ◌+◌, ◌-◌, ◌<◌, ◌≤◌, true, false, not, IfSome, List, ℕ, length, slice_range};
+ghost use Rattle.std.specs.Prelude.{◌≡◌, ◌+◌, ◌-◌, ◌<◌, ◌≤◌, ◌/◌, true, false, not, is_some, IfSome, IsTrue, List, ℕ, length, slice_index_or, slice_range};
 ghost use Rattle.rc_text.specs.Text.{Keeps, high, low, slice_end};
 ghost use Rattle.rc_program.specs.Sought.{text_of};
 ghost use Rattle.rc_determinize.specs.States.{State};
 ghost use Rattle.rc_dfa.specs.Machine.{IsAsked, Machine};
 ghost use Rattle.rc_dfa.specs.Runs.{IsByte};
 ghost use Rattle.rc_table_search.specs.Walks.{first_of, next_of};
-ghost use Rattle.rc_table_search.specs.Ways.{EndsBy, IsBeside, IsBounded, IsNext, IsOn, LiesWithin, beside_at};
+ghost use Rattle.rc_table_search.specs.Ways.{EndsBy, IsBeside, IsBounded, IsNext, IsOn, LiesWithin, beside_at, span};
 ghost use Rattle.rc_dense_dfa.specs.Tables.{IsTable};
 ghost use Rattle.rc_dense_dfa.specs.Searches.{Request, Ends, InRow, IsLeg, MayEnd, Stands, run_end};
 
@@ -35,6 +35,22 @@ fn stops_of(extent: Extent) -> Stops
             usize::MAX
         },
     }
+}
+
+/// Returns the position up to which a search reads before it looks whether it rests: where it may,
+/// and 1, 2, 4, .. bytes after that. If the rows at which it may have a mark, it needs no such look.
+#[inline(always)]
+fn reach<W: Way>(table: &Table, at: usize, end: usize, extent: Extent) -> usize
+    requires left { 0 < span W.BACKWARDS at end }
+    requires rests { extent.may_rest ≡ true → W.BACKWARDS ≡ false }
+    ensures left { 0 < span W.BACKWARDS at result }
+    ensures on { IsOn W.BACKWARDS result end }
+{
+    if !extent.may_rest || table.rests {
+        return end;
+    }
+    let gap = at.saturating_sub(extent.rest_from).max(1);
+    at.saturating_add(gap).max(extent.rest_from).min(end)
 }
 
 /// Reads the byte next to the position, whatever its cell. If it may rest, the search does so after
@@ -68,6 +84,15 @@ fn step<W: Way>(table: &Table, byte: u8, at: usize, stand: Stand, extent: Extent
         return Progress::Over(Outcome::Idle(after), after);
     }
     Progress::Through(Stand { row, noted })
+}
+
+/// Whether nothing was found, and the only walks are those that begin there or later.
+#[inline(always)]
+fn is_idle_at(table: &Table, stand: Stand) -> bool
+    ensures { IsTrue result → (is_some stand.noted ≡ false)
+        × (slice_index_or table.now.idles.items (stand.row / table.now.width) false ≡ true) }
+{
+    stand.noted.is_none() && is_idle(table, stand.row)
 }
 
 /// Returns the place of a piece from which on a run reads it. Forwards it is that of the first exit
@@ -144,7 +169,8 @@ fn cross<W: Way, C: Cursor>(
     let mut stand = begin;
     let mut at = from;
     while at != end {
-        let piece = piece_on::<W, C>(input, at, end);
+        let until = reach::<W>(table, at, end, extent);
+        let piece = piece_on::<W, C>(input, at, until);
         let start = start::<W>(piece, at);
         let (place, next) = read::<W>(table, piece, start, stand, extent);
         stand = next;
@@ -157,6 +183,8 @@ fn cross<W: Way, C: Cursor>(
                 }
                 Progress::Over(outcome, read) => return Progress::Over(outcome, read),
             }
+        } else if extent.may_rest && at >= extent.rest_from && is_idle_at(table, stand) {
+            return Progress::Over(Outcome::Idle(at), at);
         }
     }
     Progress::Through(stand)

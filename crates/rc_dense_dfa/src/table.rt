@@ -25,6 +25,8 @@ pub struct Table {
     pub tells: Vec<usize>,
     /// For each row, whether nothing is under way in its state but walks that begin there or later.
     pub idles: Vec<bool>,
+    /// Whether such rows have `SKIP`.
+    pub rests: bool,
     /// For each row, its exits, so that a search skips all other bytes. Reverse searches read each
     /// byte, so their table has none.
     pub exits: Vec<Exits>,

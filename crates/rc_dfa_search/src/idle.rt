@@ -21,7 +21,8 @@ use rc_text::types::MatchError;
 /// position at which a run forwards rests.
 ///
 /// The runs look for it in the later half of what is left, and come closer to the end each time. If
-/// none rests there, they look in more of it. An `Err` says why the DFA has no answer.
+/// none rests there, they look in more of it. So where no long match is under way, they read the
+/// content about once. An `Err` says why the DFA has no answer.
 pub fn last_idle<H: Halves, C: Cursor>(
     halves: &H,
     cache: &mut H::Cache,
@@ -54,7 +55,7 @@ pub fn last_idle<H: Halves, C: Cursor>(
                 if stride <= 1 {
                     return Ok(at);
                 }
-                stride /= 2;
+                stride = (stride / 8).max(1);
             }
         }
     }

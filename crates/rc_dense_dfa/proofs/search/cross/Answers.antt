@@ -1,30 +1,40 @@
-use Rattle.std.proofs.Common.{rules, ◌≡◌, ◌≢◌, ◌+◌, ◌<◌, ◌≤◌, ◌∙◌, ℕ, Bool, true, false, length, slice_range, sym, subst, ap, arith}
+use Rattle.std.proofs.Common.{rules, ◌≡◌, ◌+◌, ◌<◌, ◌≤◌, ◌∙◌, length, slice_range, sym, subst, ap, arith}
+use Rattle.rc_table_search.specs.declared.run.Extent.{Extent}
 use Rattle.rc_table_search.specs.Walks.{first_of, left_of}
 use Rattle.rc_table_search.specs.Ways.{IsNext, IsOn, LiesWithin, span}
-use Rattle.rc_table_search.proofs.SpanLemmas.{between, first_here, next_here, piece_fits}
+use Rattle.rc_table_search.proofs.SpanLemmas.{between, first_here, left_on, next_here, on_both, piece_fits, read_here, span_within}
 use Rattle.rc_dense_dfa.specs.Searches.{Stands}
+use Rattle.rc_dense_dfa.proofs.SearchLemmas.{rests_here}
 use Rattle.rc_dense_dfa.proofs.search.cross.Goals as goal
-use Rattle.rc_dense_dfa.proofs.search.cross.Goals.{After-start-start}
+use Rattle.rc_dense_dfa.proofs.search.cross.Goals.{After-piece_on-piece, After-reach-until, After-read-place, After-start-start}
+
+-- where the content ends
+long : (g : _) (c : After-reach-until g) → length c.loop-at.input.content ≡ length g.course.seen.content
+long g c = ap length (c.loop-at.invariant.keeps.content ∙ c.requires.1.1.1.1.1.0.content)
 
 pub piece_on-piece-requires-clause-within : goal.piece_on-piece-requires-clause-within
 piece_on-piece-requires-clause-within g c =
     let few = c.requires.1.1.1.1.1.1.1.1.1.0 in
     let le = between g.W.Way.BACKWARDS c.args.from c.loop-at.at c.args.end (length g.course.seen.content) c.loop-at.invariant.on c.loop-at.invariant.within few.0 few.1 in
-    let same = ap length (c.loop-at.invariant.keeps.content ∙ c.requires.1.1.1.1.1.0.content) in
+    let same = long g (goal.at.piece_on-piece-requires-clause-within g c).After-reach-until in
     omega (arith, le, same)
 
 pub piece_on-piece-requires-clause-fits : goal.piece_on-piece-requires-clause-fits
 piece_on-piece-requires-clause-fits g c =
     let few = c.requires.1.1.1.1.1.1.1.1.1.0 in
-    let same = ap length (c.loop-at.invariant.keeps.content ∙ c.requires.1.1.1.1.1.0.content) in
-    omega (arith, few.1, same)
+    let until = left_on g.W.Way.BACKWARDS c.loop-at.at c.reach-until.result c.reach-until.ensures.left in
+    let on = on_both g.W.Way.BACKWARDS c.args.from c.loop-at.at c.reach-until.result c.loop-at.invariant.on until in
+    let le = between g.W.Way.BACKWARDS c.args.from c.reach-until.result c.args.end (length g.course.seen.content) on c.reach-until.ensures.on few.0 few.1 in
+    let same = long g (goal.at.piece_on-piece-requires-clause-fits g c).After-reach-until in
+    omega (arith, le, same)
 
-some_left : (backwards : Bool) (i k : ℕ) → IsOn backwards i k → i ≢ k → 0 < span backwards i k
-some_left false i k on ne = omega (arith, on, ne)
-some_left true i k on ne = omega (arith, on, ne)
-
-left : (g : _) (c : After-start-start g) → 0 < span g.W.Way.BACKWARDS c.loop-at.at c.args.end
-left g c = some_left g.W.Way.BACKWARDS c.loop-at.at c.args.end c.loop-at.invariant.within c.loop-at-test.true
+-- some byte is left, and the piece has no more than are left
+left : (g : _) (c : After-start-start g) → (0 < span g.W.Way.BACKWARDS c.loop-at.at c.args.end)
+    × (length c.piece_on-piece.result.now ≤ span g.W.Way.BACKWARDS c.loop-at.at c.args.end)
+left g c =
+    let until = left_on g.W.Way.BACKWARDS c.loop-at.at c.reach-until.result c.reach-until.ensures.left in
+    let le = span_within g.W.Way.BACKWARDS c.loop-at.at c.reach-until.result c.args.end until c.reach-until.ensures.on in
+    (omega (arith, le, c.reach-until.ensures.left), omega (arith, le, c.piece_on-piece.ensures.short))
 
 -- it is a piece of what is searched, and not beyond the bound
 bytes : (g : _) (c : After-start-start g) → c.piece_on-piece.result.now
@@ -37,24 +47,26 @@ bytes g c =
 
 within : (g : _) (c : After-start-start g) → LiesWithin g.W.Way.BACKWARDS c.start-start.result (length c.piece_on-piece.result.now) g.course.bound
 within g c =
+    let few = left g c in
     subst (LiesWithin g.W.Way.BACKWARDS c.start-start.result (length c.piece_on-piece.result.now)) c.requires.1.1.1.1.1.1.1.0
     (subst (λ n. LiesWithin g.W.Way.BACKWARDS n (length c.piece_on-piece.result.now) c.args.end) (sym c.start-start.ensures)
-    (first_here g.W.Way.BACKWARDS (length c.piece_on-piece.result.now) c.loop-at.at c.args.end (left g c) c.piece_on-piece.ensures.short).1)
+    (first_here g.W.Way.BACKWARDS (length c.piece_on-piece.result.now) c.loop-at.at c.args.end few.0 few.1).1)
 
 fits : (g : _) (c : After-start-start g) → c.start-start.result + length c.piece_on-piece.result.now ≤ 18446744073709551615
 fits g c =
+    let few = left g c in
     let from : c.args.from ≤ 18446744073709551615 = let k = c.ranges.from.fits in omega (arith, k) in
     let end : c.args.end ≤ 18446744073709551615 = let k = c.ranges.end.fits in omega (arith, k) in
     let at = between g.W.Way.BACKWARDS c.args.from c.loop-at.at c.args.end 18446744073709551615 c.loop-at.invariant.on c.loop-at.invariant.within from end in
-    let le = piece_fits g.W.Way.BACKWARDS (length c.piece_on-piece.result.now) c.loop-at.at c.args.end 18446744073709551615 (left g c)
-    c.piece_on-piece.ensures.short at end in
+    let le = piece_fits g.W.Way.BACKWARDS (length c.piece_on-piece.result.now) c.loop-at.at c.args.end 18446744073709551615 few.0 few.1 at end in
     omega (arith, le, c.start-start.ensures)
 
 pub read-place-requires : goal.read-place-requires
 read-place-requires g c κs within_κs =
     let d = (goal.at.read-place-requires g c).After-start-start in
     let r = c.requires.1.1 in
-    let first = first_here g.W.Way.BACKWARDS (length c.piece_on-piece.result.now) c.loop-at.at c.args.end (left g d) c.piece_on-piece.ensures.short in
+    let few = left g d in
+    let first = first_here g.W.Way.BACKWARDS (length c.piece_on-piece.result.now) c.loop-at.at c.args.end few.0 few.1 in
     let from = ap (λ n. n + first_of g.W.Way.BACKWARDS (length c.piece_on-piece.result.now)) c.start-start.ensures ∙ first.0 in
     let here = subst (λ i. Stands c.args.table.now g.course i c.loop-at.stand) (sym from) c.loop-at.invariant.stands in
     (search rules, (r.0, (c.loop-at.invariant.row, (here, (r.1.1.1.1.0, (bytes g d, (within g d, fits g d)))))))
@@ -90,4 +102,21 @@ step-requires g c κs within_κs =
           ),
         ),
       ),
+    )
+
+pub returns-then-is_idle_at-clause-leg : goal.returns-then-is_idle_at-clause-leg
+returns-then-is_idle_at-clause-leg g c =
+    let d = (goal.at.returns-then-is_idle_at-clause-leg g c).After-start-start in
+    let q = g.course in
+    let r = c.requires.1.1 in
+    let given = r.1.1.1.1 in
+    let few = left g d in
+    let place = c.read-place.result.0 in
+    let on = (read_here g.W.Way.BACKWARDS (length c.piece_on-piece.result.now) c.loop-at.at c.args.end place few.0 few.1 c.read-place.ensures.read).1 in
+    let within = subst (IsOn g.W.Way.BACKWARDS (c.start-start.result + place)) given.1.0
+    (subst (λ n. IsOn g.W.Way.BACKWARDS (n + place) c.args.end) (sym c.start-start.ensures) on) in
+    let idle = c.is_idle_at.ensures c.if-is_idle_at.true in (
+      rests_here c.args.table.now q (c.start-start.result + place) c.read-place.result.1 c.read-place.ensures.stands
+          (subst (λ b. IsOn b (c.start-start.result + place) q.bound) (sym r.0) within) (r.0 ∙ given.1.1.1.1.1 c.if-extent.true) idle.0 idle.1,
+      ap (λ (e : Extent). e.may_rest) (sym given.1.1.1.1.0) ∙ c.if-extent.true,
     )
