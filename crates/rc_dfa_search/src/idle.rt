@@ -45,7 +45,8 @@ pub fn last_idle<H: Halves, C: Cursor>(
     let mut at = low(input);
     let mut stride = (bound - at + 1) / 2;
     'runs: loop {
-        let came = read_leg(halves, cache, input, at, bound, at.saturating_add(stride))?;
+        let rest_from = at.saturating_add(stride.saturating_sub(1));
+        let came = read_leg(halves, cache, input, at, bound, rest_from)?;
         match came.leg {
             Leg::Rested(i) if at < i => {
                 stride = stride.min((bound - i + 1) / 2);
