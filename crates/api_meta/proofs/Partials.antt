@@ -1,15 +1,93 @@
 -- What the beginning of a content tells.
-use Rattle.std.proofs.Common.{◌≡◌, ℕ, ◌≤◌, length, Option, Some, sym, ◌∙◌}
+use Rattle.std.proofs.Common.{◌≡◌, ◌≢◌, ℕ, ◌+◌, ◌-◌, ◌^◌, ◌<◌, ◌≤◌, false, All, length, max, min, Option, Some, IfSome, sym, subst, ◌∙◌, refl, ⊎_elim, arith}
+use Rattle.std.proofs.lemmas.Bool.{cases_lt}
 use Rattle.rc_text.specs.Found.{Found}
 use Rattle.rc_text.specs.declared.types.MatchKind.{MatchKind}
+use Rattle.rc_text.specs.declared.types.MatchKind.TheVariants.{All as all_matches}
+use Rattle.rc_text.specs.Text.{Searched, high, low, slice_end}
+use Rattle.rc_pattern.specs.WellFormed.{HasBounds}
 use Rattle.rc_program.specs.Answer.{Search}
 use Rattle.rc_program.specs.Kinds.{answer_by}
-use Rattle.rc_reach.specs.Partial.{IsPartial, final}
-use Rattle.rc_reach.specs.Settled.{IsSettled}
+use Rattle.rc_program.specs.Sought.{Sought, search_for}
+use Rattle.rc_program.proofs.KindLemmas.{kinds_law}
+use Rattle.rc_reach.proofs.BoundLemmas.{length_law}
+use Rattle.rc_reach.proofs.LawLemmas.{reach_law}
+use Rattle.rc_reach.specs.Laws.{greatest_len}
+use Rattle.rc_reach.specs.Partial.{IsPartial, final, from_place}
+use Rattle.rc_reach.specs.Settled.{AgreesBelow, IsSettled}
 use Rattle.rc_dfa_search.proofs.SettledLemmas.{agrees_less}
+use Rattle.api_meta.proofs.Reaching.{longest_is, regex_bounded, search_inside}
+use Rattle.api_meta.specs.Views.{regex_kind, regex_patterns, sought}
+use Rattle.api_meta.specs.declared.regex.Regex.{Regex}
 
 -- a match that is settled by bytes that are here
 pub is_final : (kind : MatchKind) (s : Search) (o : Option Found) (m : Found) (r : ℕ) → o ≡ answer_by kind s → o ≡ Some m → IsSettled kind r s →
     r ≤ length s.text.content → IsPartial kind s (final m)
 is_final kind s o m r found some settled le t on =
     settled t on.0 (agrees_less s t r (length s.text.content) le on.1) ∙ sym found ∙ some
+
+-- if each of two positions is one before which no match begins, the later is
+pub later_from : (kind : MatchKind) (s : Search) (a b : ℕ) → IsPartial kind s (from_place a) → IsPartial kind s (from_place b) →
+    IsPartial kind s (from_place (max a b))
+later_from kind s a b first second t on m found =
+    let low = first t on m found in
+    let other = second t on m found in
+    omega (arith, low, other)
+
+-- what one search is below r to another, that is to it
+agrees_back : (s t : Search) (r : ℕ) → AgreesBelow r s t → AgreesBelow r t s
+agrees_back s t r a = record {
+  places = sym a.places;
+  terminator = sym a.terminator;
+  slice_start = sym a.slice_start;
+  lo = sym a.lo;
+  anchoring = sym a.anchoring;
+  passes_over = sym a.passes_over;
+  read = sym a.read;
+  seen = sym a.seen;
+  content = sym a.content;
+}
+
+-- a match that begins so early would be here, if no pattern matches more than n bytes
+pub from_length : (q : Sought) (kind : MatchKind) (i : Searched) → kind ≢ all_matches → All HasBounds q.patterns → (n : ℕ) →
+    greatest_len q.patterns ≡ Some n → (o : Option Found) → o ≡ answer_by kind (search_for q i) → (k : ℕ) → k + n + 4 ≤ high i + 1 →
+    IfSome o (λ m. k ≤ m.start) → IsPartial kind (search_for q i) (from_place k)
+from_length q kind i other ok n len o is k far before t on m found =
+    ⊎_elim
+    (λ early.
+    let s = search_for q i in
+    let r = m.start + n + 4 in
+    let le : r ≤ length i.content = omega (arith, early, far) in
+    let walk = (length_law.found kind t q.grouped q.patterns m n on.0 (on.1.places ∙ refl) ok len other found).0 in
+    let same = reach_law.match kind t r walk s (search_inside q i) (agrees_back s t r (agrees_less s t r (length i.content) le on.1)) in
+    let low = subst (λ x. IfSome x (λ (f : Found). k ≤ f.start)) (is ∙ same ∙ found) before in
+    omega (arith, low))
+    (λ ge. ge)
+    (cases_lt m.start k)
+
+-- nor before the start of a search
+from_start : (q : Sought) (kind : MatchKind) (i : Searched) → IsPartial kind (search_for q i) (from_place (low i))
+from_start q kind i t on m found =
+    let spelled = kinds_law.spelled kind false t m (sym found) in
+    let above = spelled.is_start.0 in
+    let same = on.1.lo in
+    omega (arith, above, same)
+
+-- in code
+module _ (r : Regex) (i : Searched) where
+  abbrev S : Search
+  S = search_for (sought r) i
+
+  pub from_there : (from : ℕ) → from ≡ low i → IsPartial (regex_kind r) S (from_place from)
+  from_there from is = subst (λ k. IsPartial (regex_kind r) S (from_place k)) (sym is) (from_start (sought r) (regex_kind r) i)
+
+  pub from_far : regex_kind r ≢ all_matches → (n : ℕ) → r.longest ≡ Some n → (o : Option Found) → o ≡ answer_by (regex_kind r) S → (from far k : ℕ) → from ≡ low i →
+      high i < 2 ^ 64 → far ≡ high i - min (n + 3) (2 ^ 64 - 1) → k ≤ far → IfSome o (λ m. k ≤ m.start) → (place : ℕ) → place ≡ max from k →
+      IsPartial (regex_kind r) S (from_place place)
+  from_far other n len o is from far k at fits fars below before place is_place =
+      subst (λ p. IsPartial (regex_kind r) S (from_place p)) (sym is_place)
+      (later_from (regex_kind r) S from k (from_there from at)
+      (⊎_elim
+      (λ some. from_length (sought r) (regex_kind r) i other (regex_bounded r) n (sym (longest_is (regex_patterns r)) ∙ sym r.measured ∙ len) o is k (omega (arith, some, fits, fars, below)) before)
+      (λ none t on m found. omega (arith, none))
+      (cases_lt 0 k)))

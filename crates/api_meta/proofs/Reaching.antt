@@ -40,7 +40,7 @@ use Rattle.api_meta.specs.Views.{regex_kind, regex_patterns, sought}
 use Rattle.api_meta.specs.declared.regex.Regex.{Regex}
 use Rattle.api_meta.proofs.Preferred.{bounds_prop}
 
-search_inside : (q : Sought) (i : Searched) → IsInside (search_for q i)
+pub search_inside : (q : Sought) (i : Searched) → IsInside (search_for q i)
 search_inside q i = record { lo = omega arith; hi = omega arith; slice_end = omega arith }
 
 -- an anchored input makes an anchored search

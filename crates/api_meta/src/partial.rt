@@ -4,10 +4,11 @@ ghost use Rattle.std.specs.Prelude.{◌≡◌, ◌≤◌, IsTrue, length};
 ghost use Rattle.rc_text.specs.Text.{Keeps};
 
 use crate::cache::Cache;
+use crate::reach::LOOKS_AHEAD;
 use crate::regex::Regex;
 use rc_text::cursor::Cursor;
-use rc_text::input::{Input, move_to, position};
-use rc_text::types::Match;
+use rc_text::input::{Input, high, low, move_to, position};
+use rc_text::types::{Match, MatchKind};
 
 /// What the content that is here tells of a search, if more may follow it.
 #[derive(Clone, Copy, Debug, PartialEq, Eq)]
@@ -20,9 +21,10 @@ pub enum Partial {
 
 impl Regex {
     ghost use Rattle.rc_program.specs.Sought.{search_for};
-    ghost use Rattle.std.specs.Prelude.{IfSome};
-    ghost use Rattle.rc_reach.specs.Partial.{IsPartial, final};
-    ghost use Rattle.rc_text.specs.Text.{Keeps};
+    ghost use Rattle.std.specs.Prelude.{◌≡◌, ◌≤◌, max};
+    ghost use Rattle.rc_program.specs.Kinds.{answer_by};
+    ghost use Rattle.rc_reach.specs.Partial.{IsPartial, from_place};
+    ghost use Rattle.rc_text.specs.Text.{Keeps, high, low};
     ghost use Rattle.api_meta.specs.Caches.{IsCacheFor};
     ghost use Rattle.api_meta.specs.Partials.{IsOnward, partial_of};
     ghost use Rattle.api_meta.specs.Views.{regex_kind, regex_patterns, regex_settings, sought};
@@ -36,7 +38,9 @@ impl Regex {
     /// that goes on may begin at the position that is returned.
     ///
     /// If a DFA searches for a leftmost-first match, and none is passed over, that is about the last
-    /// position at which nothing is under way. Otherwise it is where this search begins.
+    /// position at which nothing is under way. If no pattern matches more than n bytes, and the kind
+    /// isn't `MatchKind::All`, it is at least n + 3 bytes before the end of the bounds, or where the
+    /// match that was found begins. Otherwise it is where this search begins.
     pub fn search_partial_with<C: Cursor>(&self, cache: &mut Cache, input: &mut Input<C>) -> Partial
         requires made { IsCacheFor (regex_patterns self.now) (regex_settings self.now) cache.old }
         ensures cache { IsCacheFor (regex_patterns self.now) (regex_settings self.now) cache.new }
@@ -45,26 +49,39 @@ impl Regex {
             (partial_of result) }
         ensures onward { IsOnward input.old result }
     {
-        if let Some(found) = self.final_match(cache, input) {
+        let reached = self.search_reach_with(cache, input);
+        let are_here = has_bytes(input, reached.reach);
+        if let (Some(found), true) = (reached.found, are_here) {
             return Partial::Final(found);
         }
-        Partial::From(self.engines.undecided_from(&mut cache.inner, input))
+        let by_length = self.undecided_by_length(reached.found, input);
+        let idle = self.engines.undecided_from(&mut cache.inner, input);
+        Partial::From(idle.max(by_length))
     }
 
-    /// Returns the match, if the content has all bytes that settle it.
-    fn final_match<C: Cursor>(&self, cache: &mut Cache, input: &mut Input<C>) -> Option<Match>
-        requires made { IsCacheFor (regex_patterns self.now) (regex_settings self.now) cache.old }
-        ensures cache { IsCacheFor (regex_patterns self.now) (regex_settings self.now) cache.new }
+    /// Returns a position before which no match begins, as far as the lengths of the patterns tell:
+    /// one that begins there would end in the content, and a search would have found it.
+    fn undecided_by_length<C: Cursor>(&self, found: Option<Match>, input: &mut Input<C>) -> usize
+        requires answer { found
+            ≡ answer_by (regex_kind self.now) (search_for (sought self.now) input.old) }
         ensures keeps { Keeps input.old input.new }
-        ensures told { IfSome result (λ m. IsPartial (regex_kind self.now)
-            (search_for (sought self.now) input.old) (final m)) }
+        ensures told { IsPartial (regex_kind self.now) (search_for (sought self.now) input.old)
+            (from_place result) }
+        ensures within { (low input.old ≤ result) × (result ≤ max (low input.old) (high input.old)) }
     {
-        let reached = self.search_reach_with(cache, input);
-        let found = reached.found?;
-        if !has_bytes(input, reached.reach) {
-            return None;
+        let from = low(input);
+        let end = high(input);
+        if let MatchKind::All = self.get_config().get_match_kind() {
+            return from;
         }
-        Some(found)
+        let Some(longest) = self.longest else {
+            return from;
+        };
+        let far = end.saturating_sub(longest.saturating_add(LOOKS_AHEAD - 1));
+        match found {
+            Some(found) => from.max(far.min(found.start())),
+            None => from.max(far),
+        }
     }
 }
 

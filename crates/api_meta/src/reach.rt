@@ -16,7 +16,7 @@ use rc_text::input::{Input, content_fits, low, move_to, position};
 use rc_text::types::{Match, MatchKind};
 
 /// How many bytes after a position an assertion looks at, at most.
-const LOOKS_AHEAD: usize = 4;
+pub(crate) const LOOKS_AHEAD: usize = 4;
 
 /// A match, if there is one, and how many bytes of the content settle it.
 ///
