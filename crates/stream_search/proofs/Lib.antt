@@ -1,0 +1,6 @@
+mod Onward
+mod Contents
+mod Nexts
+mod Streaming
+mod Kept
+mod Told

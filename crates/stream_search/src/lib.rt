@@ -1,0 +1,9 @@
+//! Stream search: the matches of a regex in a text that is still coming in.
+#![tactic(auto)]
+
+pub mod error;
+mod search;
+pub mod stream;
+
+pub use error::FeedError;
+pub use stream::StreamSearcher;

@@ -1,0 +1,79 @@
+//! Searches of the bytes that a stream keeps.
+ghost use Rattle.std.specs.Prelude.{◌≡◌, ◌+◌, ◌<◌, ◌≤◌, ◌^◌, drop, false, length, vec_len};
+ghost use Rattle.rc_program.specs.Matches.{begin_of, end_of, is_again};
+ghost use Rattle.rc_reach.specs.Edits.{match_further};
+ghost use Rattle.api_meta.specs.Partials.{partial_of};
+ghost use Rattle.api_meta.specs.Views.{regex_kind};
+ghost use Rattle.stream_search.specs.Searches.{IsFrom, IsPast, LiesIn, seeks};
+ghost use Rattle.stream_search.specs.Streams.{IsTold};
+
+use rc_text::input::content_fits;
+use regex_cursor::Input;
+use regex_cursor::engines::meta::{Finder, Partial};
+use regex_cursor::types::{Match, Span};
+
+/// Returns what the kept bytes tell of a search from `at` on. If no more bytes follow, that is all.
+pub fn search_kept(finder: &mut Finder, kept: &[u8], at: usize, is_finished: bool) -> Partial
+    requires inside { at ≤ length kept.now + 1 }
+    ensures regex { finder.new ≡ finder.old }
+    ensures told { IsTold (regex_kind finder.old) (seeks finder.old) is_finished kept.now at
+        (partial_of result) }
+    ensures lies { LiesIn at (length kept.now) result }
+    ensures past { IsPast is_finished (length kept.now) result }
+{
+    let mut input = input_from(kept, at);
+    if !is_finished {
+        return finder.find_partial(&mut input);
+    }
+    match finder.find(&mut input) {
+        Some(found) => Partial::Final(found),
+        None => Partial::From(kept.len() + 1),
+    }
+}
+
+/// Returns the input over the kept bytes, with a span that begins at `at`.
+fn input_from(kept: &[u8], at: usize) -> Input<&[u8]>
+    requires inside { at ≤ length kept.now + 1 }
+    ensures search { IsFrom kept.now at result }
+    ensures earliest { result.earliest ≡ false }
+{
+    let mut input = Input::new(kept);
+    content_fits(&input);
+    input.set_start(at);
+    input
+}
+
+/// The match, so many bytes further on.
+pub fn moved(found: Match, by: usize) -> Match
+    requires { found.end + by < 2 ^ 64 }
+    ensures { result ≡ match_further by found }
+{
+    let span = Span {
+        start: found.start() + by,
+        end: found.end() + by,
+    };
+    Match::new(found.pattern(), span)
+}
+
+/// Whether the match is empty, and ends where the one before ended.
+pub fn is_again(last: Option<usize>, found: Match) -> bool
+    ensures { result ≡ is_again begin_of end_of last found }
+{
+    match last {
+        Some(last) => found.start() == found.end() && found.end() == last,
+        None => false,
+    }
+}
+
+/// Drops so many bytes from the front.
+pub fn remove_front(bytes: &mut Vec<u8>, count: usize)
+    requires { count ≤ vec_len bytes.old }
+    ensures { bytes.new.items ≡ drop count bytes.old.items }
+{
+    if count == 0 {
+        return;
+    }
+    let len = bytes.len();
+    bytes.as_mut_slice().copy_within(count..len, 0);
+    bytes.truncate(len - count);
+}
