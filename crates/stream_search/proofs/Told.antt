@@ -1,8 +1,7 @@
 -- What a search of the kept bytes tells of the stream.
-use Rattle.std.proofs.Common.{◌≡◌, ℕ, ◌+◌, ◌-◌, ◌<◌, ◌≤◌, true, false, List, [], ◌∷◌, ◌++◌, length, drop, Option, Some, None, refl, sym, ap, subst, ◌∙◌, arith, length-drop, nat_eq, ⊎_elim}
+use Rattle.std.proofs.Common.{◌≡◌, ℕ, ◌+◌, ◌-◌, ◌≤◌, true, false, List, [], ◌∷◌, ◌++◌, length, drop, Option, Some, None, refl, sym, ap, subst, ◌∙◌, arith, length-drop}
 use Rattle.std.specs.Option.{option_map}
 use Rattle.std.specs.Prelude.{IfSome, MatchOption}
-use Rattle.std.proofs.lemmas.Bool.{and_cases, cases_lt, eqb-false}
 use Rattle.std.proofs.lemmas.List.{append-nil}
 use Rattle.rc_text.specs.Found.{Found}
 use Rattle.rc_text.specs.declared.types.MatchKind.{MatchKind}
@@ -13,7 +12,7 @@ use Rattle.rc_reach.specs.Live.{EndedBy, found_by}
 use Rattle.rc_reach.specs.Partial.{final, from_place}
 use Rattle.api_meta.specs.Views.{regex_kind}
 use Rattle.stream_search.specs.Searches.{matches_of, seeks}
-use Rattle.stream_search.specs.Searching.{Finds, IsAfter, IsPlaced, Streaming, WasFed, left_after, let_go}
+use Rattle.stream_search.specs.Searching.{Finds, IsPlaced, Streaming, WasFed, let_go}
 use Rattle.stream_search.specs.Streams.{IsStream, IsTold, MayBecome}
 use Rattle.stream_search.proofs.Contents.{as_long, becomes, forgets}
 use Rattle.stream_search.proofs.Kept.{none_past}
@@ -212,25 +211,3 @@ placed_after same placed m p q there last lies =
       inside = omega (arith, there, b, lies.2);
       ended = omega (arith, there, last);
     }
-
--- a match that isn't the last one again ends after it
-pub ends_behind : (last : Option ℕ) (from : ℕ) (m : Found) → EndedBy last from → from ≤ m.start → m.start ≤ m.end →
-    is_again begin_of end_of last m ≡ false → IsAfter last m
-ends_behind None from m ended near order fresh = tt
-ends_behind (Some l) from m ended near order fresh =
-    ⊎_elim (λ far. far)
-    (λ le. absurd (⊎_elim (λ x. eqb-false m.start m.end x (omega (arith, ended, near, order, le))) (λ x. eqb-false m.end l x (omega (arith, ended, near, order, le)))
-    (and_cases (nat_eq m.start m.end) (nat_eq m.end l) fresh)))
-    (cases_lt l m.end)
-
--- what the search from the next byte finds ends after it too
-pub second_after : (last : Option ℕ) (from : ℕ) (o : Option Found) (P : Found → Type 0) (Q : Found → Type 0) → EndedBy last from →
-    IfSome o (λ m. P m × (from + 1 ≤ m.start) × (m.start ≤ m.end) × Q m) → IfSome o (IsAfter last)
-second_after last from None P Q ended lies = tt
-second_after None from (Some m) P Q ended lies = tt
-second_after (Some l) from (Some m) P Q ended lies = let far = lies.1 in let order = lies.2 in omega (arith, ended, far, order)
-
--- less is left after it
-pub falls : (last : Option ℕ) (len : ℕ) (m : Found) → m.end ≤ len → IsAfter last m → len - m.end < left_after last len
-falls None len m inside after = omega (arith, inside)
-falls (Some l) len m inside after = omega (arith, inside, after)

@@ -1,5 +1,5 @@
 -- Stream searchers: what one holds, and what it tells of its stream.
-use Rattle.std.specs.Prelude.{◌≡◌, ℕ, ◌+◌, ◌-◌, ◌<◌, ◌≤◌, Bool, false, List, [], ◌++◌, IsTrue, drop, length, Option, None, Some}
+use Rattle.std.specs.Prelude.{◌≡◌, ℕ, ◌+◌, ◌-◌, ◌<◌, ◌≤◌, Bool, true, false, List, [], ◌++◌, drop, length, Option, None, Some}
 use Rattle.rc_text.specs.Found.{Found}
 use Rattle.rc_reach.specs.Live.{EndedBy, found_by}
 use Rattle.api_meta.specs.Views.{regex_kind}
@@ -79,15 +79,22 @@ left s = left_after s.last (s.gone + length s.kept)
 
 -- It took the chunk.
 pub record Takes (chunk : List ℕ) (s t : Streaming) : Type 0 where
+  pub going : s.is_finished ≡ false
   pub taken : t ≡ record (let_go s) { kept = (let_go s).kept ++ chunk }
   pub few : length t.kept ≤ s.limit
 
--- Why it may refuse a chunk.
+-- The stream would still have fewer bytes than the greatest `usize`.
+abbrev pub Fits : Streaming → List ℕ → Type 0
+Fits s chunk = s.gone + length s.kept + length chunk < 18446744073709551615
+
+-- Why it may refuse a chunk: the first of these that applies, and out of memory if none does.
 abbrev pub IsRefusal : Streaming → List ℕ → FeedError → Type 0
-IsRefusal s chunk Finished = IsTrue s.is_finished
-IsRefusal s chunk TooLong = 18446744073709551615 ≤ s.gone + length s.kept + length chunk
-IsRefusal s chunk Limit = s.limit < needed s + length chunk
-IsRefusal s chunk Memory = IsTrue s.is_finished → ⊥
+IsRefusal s chunk Finished = s.is_finished ≡ true
+IsRefusal s chunk TooLong = (s.is_finished ≡ false) × ¬ Fits s chunk
+IsRefusal s chunk Limit =
+    (s.is_finished ≡ false) × Fits s chunk × (s.limit < needed s + length chunk)
+IsRefusal s chunk Memory =
+    (s.is_finished ≡ false) × Fits s chunk × (needed s + length chunk ≤ s.limit)
 
 -- The stream stands as it was. Bytes that no search needs may have been let go.
 pub record Stands (s t : Streaming) : Type 0 where
