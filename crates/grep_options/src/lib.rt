@@ -3,8 +3,10 @@
 #![tactic(auto)]
 
 mod faults;
+pub mod filter;
 mod fixed;
 mod help;
+mod program;
 mod rcgrep;
 mod rcsub;
 mod read;
@@ -13,6 +15,7 @@ mod table;
 pub use faults::{put_usage, put_words_fault};
 pub use fixed::escaped;
 pub use help::{put_help, put_text};
+pub use program::{FAULT, lent, words_of};
 pub use rcgrep::{OPTIONS, RCGREP};
 pub use rcsub::{RCSUB, SUB_OPTIONS};
 pub use read::{Given, WordsError, nearest, read_words};

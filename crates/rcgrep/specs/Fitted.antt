@@ -3,8 +3,8 @@ use Rattle.std.specs.Prelude.{List, [], ◌∷◌}
 use Rattle.rc_pattern.specs.Re.{Re, look}
 use Rattle.rc_pattern.specs.Meaning.{concat_of}
 use Rattle.rc_pattern.specs.declared.hir.Look.TheVariants.{End, EndLF, Start, StartLF, WordEndHalfUnicode, WordStartHalfUnicode}
-use Rattle.rcgrep.specs.declared.options.Fit.{Fit}
-use Rattle.rcgrep.specs.declared.options.Fit.TheVariants.{Any, Line, Text, Words}
+use Rattle.grep_options.specs.declared.filter.Fit.{Fit}
+use Rattle.grep_options.specs.declared.filter.Fit.TheVariants.{Any, Line, Text, Words}
 
 -- the pattern, where no character of a word stands beside its match, or between the ends of the line or of the text
 abbrev pub fitted_of : Fit → Re → Re

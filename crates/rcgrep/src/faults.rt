@@ -1,19 +1,11 @@
 //! Error messages.
 
+use grep_options::{FAULT, RCGREP};
 use regex_cursor::engines::meta::BuildError;
 use regex_cursor::hir::Hir;
 use regex_cursor::syntax::{Config, Explained, Oversize, explain, explain_size};
 use std::alloc::Global;
 use std::io::Write;
-
-/// The status of an error.
-pub const FAULT: u8 = 2;
-
-/// Reports an error. An error of the standard error is ignored.
-pub fn report(rt: &HostRuntime, line: &str) -> u8 {
-    let _ = writeln!(rt.stderr(), "rcgrep: {line}");
-    FAULT
-}
 
 /// What is wrong with the pattern with this number. It is `None` if there is no memory.
 fn explained<'p>(
@@ -30,7 +22,7 @@ fn explained<'p>(
 /// Reports what is wrong with the pattern with this number, and where.
 pub fn report_unread(rt: &HostRuntime, patterns: &[&str], number: usize, config: &Config) -> u8 {
     let Some(shown) = explained(rt.alloc(), patterns, number, config) else {
-        return report(rt, "out of memory");
+        return RCGREP.report(rt, "out of memory");
     };
     let _ = writeln!(rt.stderr(), "rcgrep: {shown}");
     FAULT

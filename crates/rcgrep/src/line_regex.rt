@@ -2,14 +2,14 @@
 ghost use Rattle.std.specs.Prelude.{◌≡◌, ◌<◌, ◌≤◌, IfOk, None, false, length};
 ghost use Rattle.rc_program.specs.Kinds.{answer_by};
 ghost use Rattle.rc_program.specs.Sought.{search_for};
-ghost use Rattle.rc_captures.specs.Captures.{IsCapturesFor};
-ghost use Rattle.api_meta.specs.Views.{regex_kind, regex_names, sought};
+ghost use Rattle.api_meta.specs.Views.{regex_kind, sought};
 ghost use Rattle.regex_cursor.specs.Output.{whole};
 ghost use Rattle.rcgrep.specs.Local.{start_or};
 ghost use Rattle.rcgrep.specs.Picked.{IsLine, IsLineFrom, found_from, has_match, is_picked};
 
 use crate::patterns::Patterns;
 use grep_lines::LineSelector;
+use grep_output::MatchFinder;
 use regex_cursor::Input;
 use regex_cursor::engines::meta::{Cache, Captures};
 use regex_cursor::types::{Match, Span};
@@ -34,6 +34,8 @@ const CLOSE: usize = 64;
 pub struct LineRegex<'p> {
     patterns: &'p Patterns,
     cache: Cache,
+    /// The groups of the match that was searched for last.
+    captures: Captures,
     is_inverted: bool,
     /// The number of bytes of a page that are searched at once next: four times what was skipped
     /// before a match, and twice as many if nothing was found. So the bytes that are read twice are
@@ -42,8 +44,9 @@ pub struct LineRegex<'p> {
 }
 
 impl<'p> Model for LineRegex<'p> {
+    ghost use Rattle.rc_captures.specs.Captures.{IsCapturesFor};
     ghost use Rattle.api_meta.specs.Caches.{IsCacheFor};
-    ghost use Rattle.api_meta.specs.Views.{regex_patterns, regex_settings};
+    ghost use Rattle.api_meta.specs.Views.{regex_names, regex_patterns, regex_settings};
     ghost use Rattle.api_meta.specs.contracts.regex.Regex as regexes;
     ghost use Rattle.rcgrep.specs.Selecting.{Selecting};
     ghost use Rattle.std.specs.Coded.{codes};
@@ -55,11 +58,12 @@ impl<'p> Model for LineRegex<'p> {
     ghost view = { λ s. record { regex = s.patterns.now.regex; is_inverted = s.is_inverted } };
 
     ghost invariant = { λ s. IsCacheFor (regex_patterns s.patterns.now.regex)
-        (regex_settings s.patterns.now.regex) s.cache };
+        (regex_settings s.patterns.now.regex) s.cache
+        × IsCapturesFor (regex_names s.patterns.now.regex) s.captures };
 }
 
 impl<'p> LineRegex<'p> {
-    /// Returns a selector by these patterns. An `Err` means out of memory for the cache.
+    /// Returns a selector by these patterns. An `Err` means out of memory.
     pub fn new(
         alloc: Global,
         patterns: &'p Patterns,
@@ -68,10 +72,12 @@ impl<'p> LineRegex<'p> {
         ensures regex { IfOk result (λ s. s.regex ≡ patterns.now.regex) }
         ensures inverted { IfOk result (λ s. s.is_inverted ≡ is_inverted) }
     {
+        let captures = patterns.regex.create_captures(alloc)?;
         let cache = patterns.regex.create_cache(alloc)?;
         Ok(LineRegex {
             patterns,
             cache,
+            captures,
             is_inverted,
             reach: GREATEST,
         })
@@ -144,52 +150,6 @@ impl<'p> LineRegex<'p> {
         let mut input = input_from(line, from);
         self.patterns.regex.search_with(&mut self.cache, &mut input)
     }
-
-    /// Captures for `find_captures`, without a match. An `Err` means out of memory.
-    pub fn create_captures(&self, alloc: Global) -> Result<Captures, AllocError>
-        ensures { IfOk result (IsCapturesFor (regex_names self.now.regex)) }
-    {
-        self.patterns.regex.create_captures(alloc)
-    }
-
-    /// Finds the match that `find_from` finds, with its groups.
-    pub fn find_captures(&mut self, line: &[u8], from: usize, caps: &mut Captures)
-        requires within { from ≤ length line.now }
-        requires made { IsCapturesFor (regex_names self.old.regex) caps.old }
-        ensures still_made { IsCapturesFor (regex_names self.new.regex) caps.new }
-        ensures regex { self.new.regex ≡ self.old.regex }
-        ensures inverted { self.new.is_inverted ≡ self.old.is_inverted }
-    {
-        let mut input = input_from(line, from);
-        self.patterns
-            .regex
-            .search_captures_with(&mut self.cache, &mut input, caps);
-    }
-
-    /// The matches in the line, empty ones among them. An empty match behind another one is one only
-    /// if it doesn't touch that one. An `Err` means out of memory.
-    pub fn all_matches(&mut self, alloc: Global, line: &[u8]) -> Result<Vec<Span>, AllocError>
-        ensures regex { self.new.regex ≡ self.old.regex }
-        ensures inverted { self.new.is_inverted ≡ self.old.is_inverted }
-    {
-        let mut matches = Vec::new(alloc);
-        let mut from = 0;
-        let mut last = None;
-        for _ in 0..=line.len() {
-            let Some(found) = self.find_from(line, from) else {
-                break;
-            };
-            from = found.end();
-            if found.is_empty() {
-                from = from.saturating_add(1);
-            }
-            if !found.is_empty() || last != Some(found.end()) {
-                matches.push(found.span())?;
-            }
-            last = Some(found.end());
-        }
-        Ok(matches)
-    }
 }
 
 /// The number of bytes in whole blocks before the first block with a byte past ASCII.
@@ -252,5 +212,42 @@ impl LineSelector for LineRegex<'_> {
         }
         let reach = self.reach_in(page);
         self.find_start(&page[..reach])
+    }
+}
+
+impl MatchFinder for LineRegex<'_> {
+    fn find_matches(&mut self, line: &[u8], matches: &mut Vec<Span>) -> Result<(), AllocError> {
+        matches.clear();
+        let mut from = 0;
+        let mut last = None;
+        for _ in 0..=line.len() {
+            let Some(found) = self.find_from(line, from) else {
+                break;
+            };
+            from = found.end();
+            if found.is_empty() {
+                from = from.saturating_add(1);
+            }
+            if !found.is_empty() || last != Some(found.end()) {
+                matches.push(found.span())?;
+            }
+            last = Some(found.end());
+        }
+        Ok(())
+    }
+
+    fn find_groups(&mut self, line: &[u8], start: usize) {
+        let mut input = input_from(line, start.min(line.len()));
+        self.patterns
+            .regex
+            .search_captures_with(&mut self.cache, &mut input, &mut self.captures);
+    }
+
+    fn group(&self, number: usize) -> Option<Span> {
+        self.captures.get_group(number)
+    }
+
+    fn named_group(&self, name: &str) -> Option<Span> {
+        self.captures.get_group_by_name(name)
     }
 }

@@ -12,7 +12,7 @@ ghost use Rattle.rcgrep.specs.Local.{HasLineLooks, IsLocalPattern, IsLocalRegex}
 ghost use Rattle.rcgrep.specs.Picked.{line_settings};
 ghost use Rattle.rcgrep.specs.Unread.{IsUnread};
 
-use crate::options::Fit;
+use grep_options::filter::Fit;
 use rc_pattern::check::properties_of;
 use regex_cursor::engines::meta::{BuildError, Regex};
 use regex_cursor::hir::{Hir, Look};

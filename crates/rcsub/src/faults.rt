@@ -1,33 +1,15 @@
 //! Error messages.
 
 use crate::rewrite::Fault;
+use grep_options::{FAULT, RCSUB};
 use regex_cursor::engines::meta::BuildError;
 use regex_cursor::hir::Hir;
 use regex_cursor::syntax::{Config, Explained, Oversize, explain, explain_size};
 use std::alloc::Global;
-use std::io;
-use std::io::{ErrorKind, Write};
-
-/// The status of an error.
-pub const FAULT: u8 = 2;
+use std::io::Write;
 
 /// The name of the standard input, in what is printed.
 const STDIN: &str = "(standard input)";
-
-/// Reports an error. An error of the standard error is ignored.
-pub fn report(rt: &HostRuntime, line: &str) -> u8 {
-    let _ = writeln!(rt.stderr(), "rcsub: {line}");
-    FAULT
-}
-
-/// Reports that the output failed. That its reader is gone is no fault.
-pub fn report_output(rt: &HostRuntime, fault: &io::Error) -> u8 {
-    if fault.kind() == ErrorKind::BrokenPipe {
-        return 0;
-    }
-    let _ = writeln!(rt.stderr(), "rcsub: write error: {fault}");
-    FAULT
-}
 
 /// Reports why a file wasn't replaced to its end.
 pub fn report_file(rt: &HostRuntime, path: &str, fault: &Fault) -> u8 {
@@ -50,7 +32,7 @@ fn explained<'p>(alloc: Global, text: &'p str, config: &Config) -> Option<Explai
 /// Reports what is wrong with the pattern, and where.
 pub fn report_unread(rt: &HostRuntime, text: &str, config: &Config) -> u8 {
     let Some(shown) = explained(rt.alloc(), text, config) else {
-        return report(rt, "out of memory");
+        return RCSUB.report(rt, "out of memory");
     };
     let _ = writeln!(rt.stderr(), "rcsub: {shown}");
     FAULT

@@ -11,51 +11,14 @@ mod print;
 mod replacer;
 mod rewrite;
 
-use crate::faults::{FAULT, report, report_output};
 use crate::options::{Options, Refusal};
 use crate::pattern::{pattern_of, replacer_of};
 use crate::print::replace_files;
 use grep_options::{
-    Given, RCSUB, SUB_OPTIONS, put_help, put_text, put_usage, put_words_fault, read_words,
+    FAULT, Given, RCSUB, SUB_OPTIONS, lent, put_help, put_words_fault, read_words, words_of,
 };
-use std::alloc::{AllocError, Global};
-use std::io;
 use std::io::Write;
 use std::process::ExitCode;
-
-/// The arguments of the program. An error means out of memory, or an argument that isn't text.
-fn words_of(rt: &HostRuntime) -> io::Result<Vec<String>> {
-    let words = std::env::args(rt)?.skip(1).collect(rt.alloc())?;
-    Ok(words)
-}
-
-/// The arguments, borrowed.
-fn lent(alloc: Global, words: &[String]) -> Result<Vec<&str>, AllocError> {
-    words.iter().map(|word| word.as_str()).collect(alloc)
-}
-
-/// The status after a text was written to the standard output, or not.
-fn status_of(rt: &HostRuntime, written: io::Result<()>) -> u8 {
-    match written {
-        Ok(()) => 0,
-        Err(fault) => report_output(rt, &fault),
-    }
-}
-
-/// Reports a fault of the command line, and the usage.
-fn report_usage(rt: &HostRuntime, fault: &str, word: &str) -> u8 {
-    let _ = put_usage(&mut rt.stderr(), &RCSUB, fault, word);
-    FAULT
-}
-
-/// Writes a text that is made of the options.
-fn generate(rt: &HostRuntime, kind: &str) -> u8 {
-    match put_text(&mut rt.stdout(), &RCSUB, &SUB_OPTIONS, kind) {
-        Ok(true) => 0,
-        Ok(false) => report_usage(rt, "no such text:", kind),
-        Err(fault) => report_output(rt, &fault),
-    }
-}
 
 /// Replaces, by these options.
 fn run(rt: &HostRuntime, options: &Options<'_>) -> u8 {
@@ -72,17 +35,17 @@ fn run(rt: &HostRuntime, options: &Options<'_>) -> u8 {
 /// Writes what is asked for in place of replaced text, or reports what is wrong.
 fn refuse(rt: &HostRuntime, refusal: Refusal<'_>) -> u8 {
     match refusal {
-        Refusal::Help => status_of(rt, put_help(&mut rt.stdout(), &RCSUB, &SUB_OPTIONS)),
+        Refusal::Help => RCSUB.status_of(rt, put_help(&mut rt.stdout(), &RCSUB, &SUB_OPTIONS)),
         Refusal::Version => {
             let version = RCSUB.version;
-            status_of(rt, writeln!(rt.stdout(), "rcsub {version}"))
+            RCSUB.status_of(rt, writeln!(rt.stdout(), "rcsub {version}"))
         }
-        Refusal::Generate(kind) => generate(rt, kind),
-        Refusal::NoPattern => report_usage(rt, "no pattern", ""),
-        Refusal::NoTemplate => report_usage(rt, "no template", ""),
-        Refusal::NoFile => report_usage(rt, "no file to change in place", ""),
-        Refusal::BadSuffix(suffix) => report_usage(rt, "no suffix:", suffix),
-        Refusal::Memory => report(rt, "out of memory"),
+        Refusal::Generate(kind) => RCSUB.generate(rt, &SUB_OPTIONS, kind),
+        Refusal::NoPattern => RCSUB.report_usage(rt, "no pattern", ""),
+        Refusal::NoTemplate => RCSUB.report_usage(rt, "no template", ""),
+        Refusal::NoFile => RCSUB.report_usage(rt, "no file to change in place", ""),
+        Refusal::BadSuffix(suffix) => RCSUB.report_usage(rt, "no suffix:", suffix),
+        Refusal::Memory => RCSUB.report(rt, "out of memory"),
     }
 }
 
@@ -109,10 +72,9 @@ fn main(rt: HostRuntime) -> ExitCode {
     let status = match words_of(&rt) {
         Ok(words) => match lent(rt.alloc(), &words) {
             Ok(words) => run_with(&rt, &words),
-            Err(_) => report(&rt, "out of memory"),
+            Err(_) => RCSUB.report(&rt, "out of memory"),
         },
-        Err(fault) if fault.kind() == io::ErrorKind::OutOfMemory => report(&rt, "out of memory"),
-        Err(_) => report(&rt, "a word is no text"),
+        Err(fault) => RCSUB.report_words(&rt, &fault),
     };
     ExitCode::from(status)
 }

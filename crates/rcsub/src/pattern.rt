@@ -1,10 +1,10 @@
 //! Pattern setup: the pattern and the template of the command line.
 
-use crate::faults::{FAULT, report, report_refusal, report_unread};
+use crate::faults::{report_refusal, report_unread};
 use crate::options::Options;
 use crate::replacer::Replacer;
 use chunk_replace::{Template, TemplateError};
-use grep_options::escaped;
+use grep_options::{FAULT, RCSUB, escaped};
 use regex_cursor::hir::Hir;
 use regex_cursor::syntax::{Config, Error, parse};
 use std::io::Write;
@@ -14,7 +14,7 @@ fn read_pattern(rt: &HostRuntime, text: &str, config: &Config) -> Result<Hir, u8
     match parse(rt.alloc(), text, config) {
         Ok(hir) => Ok(hir),
         Err(Error::Syntax { .. }) => Err(report_unread(rt, text, config)),
-        Err(Error::Memory) => Err(report(rt, "out of memory")),
+        Err(Error::Memory) => Err(RCSUB.report(rt, "out of memory")),
     }
 }
 
@@ -26,7 +26,7 @@ pub fn pattern_of(rt: &HostRuntime, options: &Options<'_>) -> Result<Hir, u8> {
     }
     match escaped(rt.alloc(), options.pattern) {
         Ok(text) => read_pattern(rt, text.as_str(), &config),
-        Err(_) => Err(report(rt, "out of memory")),
+        Err(_) => Err(RCSUB.report(rt, "out of memory")),
     }
 }
 

@@ -1,12 +1,13 @@
 //! Files: the replaced text of each is printed, takes its place, or is compared with it.
 
 use crate::diff::put_diff;
-use crate::faults::{FAULT, report, report_file, report_output};
+use crate::faults::report_file;
 use crate::files::change;
 use crate::options::{Effect, Options};
 use crate::replacer::Replacer;
 use crate::rewrite::Fault;
 use grep_files::Identity;
+use grep_options::{FAULT, RCSUB};
 use std::fs::File;
 use std::io::{BufWriter, ErrorKind, Read, Write};
 use std::{fs, io};
@@ -86,7 +87,7 @@ fn print_files(rt: &HostRuntime, replacer: &Replacer<'_>, options: &Options<'_>)
     let mut tally = Tally::new();
     for path in &options.files {
         match print_file(rt, replacer, options.by_line, path) {
-            Err(Fault::Write(fault)) => return report_output(rt, &fault),
+            Err(Fault::Write(fault)) => return RCSUB.report_output(rt, &fault),
             done => tally.add(rt, path, done),
         }
     }
@@ -124,18 +125,18 @@ fn compare_file<W: Write>(
 /// Writes diffs of files and their replaced texts.
 fn compare_files(rt: &HostRuntime, replacer: &Replacer<'_>, options: &Options<'_>) -> u8 {
     let Ok(mut out) = BufWriter::new(rt.alloc(), rt.stdout()) else {
-        return report(rt, "out of memory");
+        return RCSUB.report(rt, "out of memory");
     };
     let mut tally = Tally::new();
     for path in &options.files {
         match compare_file(rt, replacer, options.by_line, path, &mut out) {
-            Err(Fault::Write(fault)) => return report_output(rt, &fault),
+            Err(Fault::Write(fault)) => return RCSUB.report_output(rt, &fault),
             done => tally.add(rt, path, done),
         }
     }
     match out.flush() {
         Ok(()) => tally.status(),
-        Err(fault) => report_output(rt, &fault),
+        Err(fault) => RCSUB.report_output(rt, &fault),
     }
 }
 

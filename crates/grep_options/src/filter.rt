@@ -1,6 +1,7 @@
-//! Options: what is searched, and how it is printed.
+//! Options of `rcgrep`: what is searched, and how it is printed.
 
-use grep_options::{Given, Id};
+use crate::read::Given;
+use crate::table::Id;
 use std::alloc::{AllocFailed, Global};
 
 /// What is printed of a file.
@@ -222,20 +223,26 @@ impl<'w> Options<'w> {
         true
     }
 
+    /// Sets an option that takes a number.
+    fn set_number(&mut self, id: Id, number: u64) {
+        match id {
+            Id::AfterContext => self.after = Some(number),
+            Id::BeforeContext => self.before = Some(number),
+            Id::Context => self.around = Some(number),
+            _ => self.most = number,
+        }
+    }
+
     /// Sets an option that takes a value.
     fn set_value(&mut self, id: Id, value: &'w str) -> Result<(), Refusal<'w>> {
         match id {
             Id::Regexp => self.patterns.push(value)?,
             Id::File => self.pattern_files.push(value)?,
-            Id::MaxCount => self.most = number(value)?,
-            Id::Replace => self.template = Some(value),
-            Id::AfterContext => self.after = Some(number(value)?),
-            Id::BeforeContext => self.before = Some(number(value)?),
-            Id::Context => self.around = Some(number(value)?),
             Id::Include => self.include.push(value)?,
             Id::Exclude => self.exclude.push(value)?,
+            Id::Replace => self.template = Some(value),
             Id::Generate => return Err(Refusal::Generate(value)),
-            _ => {}
+            _ => self.set_number(id, number(value)?),
         }
         Ok(())
     }

@@ -1,5 +1,5 @@
 use Rattle.std.proofs.Common.{◌≡◌}
-use Rattle.rcgrep.proofs.line_regex.LineRegex.all_matches.Given as goal
+use Rattle.rcgrep.proofs.line_regex.LineRegexMatchFinder.find_matches.Given as goal
 
 -- it selects as before
 abbrev pub invariant-loop : goal.invariant-loop

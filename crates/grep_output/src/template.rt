@@ -1,7 +1,7 @@
 //! Replacement templates: text, and references to groups of a match.
 
-use regex_cursor::engines::meta::Captures;
-use regex_cursor::types::Span;
+use crate::finder::MatchFinder;
+use rc_text::types::Span;
 use std::alloc::{AllocError, Global};
 use std::io;
 use std::io::Write;
@@ -78,23 +78,29 @@ impl<'t> Template<'t> {
         Ok(Template { pieces })
     }
 
-    /// Writes the text that replaces a match in the line. A group that took no part is empty.
-    pub fn put<W: Write>(&self, out: &mut W, line: &[u8], caps: &Captures) -> io::Result<()> {
+    /// Writes the text that replaces the match in the line whose groups were found last. A group that
+    /// took no part is empty.
+    pub fn put<W: Write, F: MatchFinder>(
+        &self,
+        out: &mut W,
+        line: &[u8],
+        finder: &F,
+    ) -> io::Result<()> {
         for piece in &self.pieces {
-            match piece {
-                Piece::Text(text) => out.write_all(text.as_bytes())?,
-                Piece::Number(number) => put_group(out, line, caps.get_group(*number))?,
-                Piece::Name(name) => put_group(out, line, caps.get_group_by_name(name))?,
-            }
+            out.write_all(match piece {
+                Piece::Text(text) => text.as_bytes(),
+                Piece::Number(number) => part_of(line, finder.group(*number)),
+                Piece::Name(name) => part_of(line, finder.named_group(name)),
+            })?;
         }
         Ok(())
     }
 }
 
-/// Writes the bytes of a group.
-fn put_group<W: Write>(out: &mut W, line: &[u8], group: Option<Span>) -> io::Result<()> {
+/// The bytes of a group.
+fn part_of(line: &[u8], group: Option<Span>) -> &[u8] {
     match group {
-        Some(span) => out.write_all(line.get(span.start..span.end).unwrap_or(&[])),
-        None => Ok(()),
+        Some(span) => line.get(span.start..span.end).unwrap_or(&[]),
+        None => &[],
     }
 }

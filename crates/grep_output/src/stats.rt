@@ -38,9 +38,9 @@ impl Stats {
     }
 
     /// Counts a selected line, with so many matches.
-    pub fn count_line(&mut self, matches: u64) {
+    pub fn count_line(&mut self, matches: usize) {
         self.matched_lines = self.matched_lines.saturating_add(1);
-        self.matches = self.matches.saturating_add(matches);
+        self.matches = self.matches.saturating_add(matches as u64);
     }
 
     /// Adds what was counted of another file.
@@ -56,35 +56,27 @@ impl Stats {
         self.elapsed = self.elapsed.saturating_add(other.elapsed);
     }
 
-    /// Counts the search of a file: how many bytes were read, whether a line was selected, and how
-    /// long it took.
-    pub fn count_search(&mut self, read: u64, is_any: bool, elapsed: Duration) {
-        self.searches = self.searches.saturating_add(1);
-        if is_any {
-            self.searches_with_match = self.searches_with_match.saturating_add(1);
-        }
-        self.bytes_searched = self.bytes_searched.saturating_add(read);
-        self.elapsed = self.elapsed.saturating_add(elapsed);
-    }
-
     /// Writes the statistics behind the lines. `total` is how long the program took.
     pub fn put<W: Write>(&self, out: &mut W, total: Duration) -> io::Result<()> {
-        writeln!(out, "\n{} matches", self.matches)?;
-        writeln!(out, "{} matched lines", self.matched_lines)?;
-        writeln!(out, "{} files contained matches", self.searches_with_match)?;
-        writeln!(out, "{} files searched", self.searches)?;
-        writeln!(out, "{} bytes printed", self.bytes_printed)?;
-        writeln!(out, "{} bytes searched", self.bytes_searched)?;
-        put_seconds(out, self.elapsed)?;
-        out.write_all(b" seconds spent searching\n")?;
-        put_seconds(out, total)?;
-        out.write_all(b" seconds\n")
+        writeln!(
+            out,
+            "\n{} matches\n{} matched lines\n{} files contained matches\n{} files searched\n\
+{} bytes printed\n{} bytes searched",
+            self.matches,
+            self.matched_lines,
+            self.searches_with_match,
+            self.searches,
+            self.bytes_printed,
+            self.bytes_searched
+        )?;
+        put_seconds(out, self.elapsed, " seconds spent searching\n")?;
+        put_seconds(out, total, " seconds\n")
     }
 }
 
-/// Writes a duration in seconds, with six digits behind the point.
-pub fn put_seconds<W: Write>(out: &mut W, time: Duration) -> io::Result<()> {
+/// Writes a duration in seconds, with six digits behind the point, and then a text.
+pub fn put_seconds<W: Write>(out: &mut W, time: Duration, behind: &str) -> io::Result<()> {
     let seconds = time.as_secs();
     let micros = time.subsec_micros();
-    write!(out, "{seconds}.{micros:06}")
+    write!(out, "{seconds}.{micros:06}{behind}")
 }

@@ -1,0 +1,195 @@
+//! Line output: where lines are printed, and what was counted of them.
+ghost use Rattle.std.specs.Prelude.{◌≡◌, None, OnOk, [], ◌∷◌};
+ghost use Rattle.grep_lines.specs.Context.{Prints};
+ghost use Rattle.grep_lines.specs.Context.Part.{separator};
+
+use crate::counter::Counter;
+use crate::finder::MatchFinder;
+use crate::json::{put_end, put_summary};
+use crate::records::{Pending, Records};
+use crate::stats::Stats;
+use crate::style::{Line, Style};
+use grep_lines::LinePrinter;
+use rc_text::types::Span;
+use std::alloc::{AllocError, Global};
+use std::io;
+use std::io::Write;
+use std::time::Duration;
+
+/// What stands between lines that don't touch.
+const SEPARATOR: &[u8] = b"--\n";
+
+/// Where lines are printed.
+#[derive(Drop)]
+pub struct Output<W: Write + Drop> {
+    pub writer: Counter<W>,
+    /// Whether a line with those around it was printed. Then a separator stands before the next file's.
+    has_groups: bool,
+    /// What was searched and found in the files so far, if that is counted.
+    total: Option<Stats>,
+    /// What was searched and found so far in this file.
+    file: Stats,
+    /// The records, if they are printed.
+    records: Option<Records>,
+}
+
+impl<W: Write + Drop> Output<W> {
+    /// Nothing was printed to the writer.
+    pub fn new(alloc: Global, inner: W, counts: bool, records: bool) -> Output<W> {
+        Output {
+            writer: Counter { inner, count: 0 },
+            has_groups: false,
+            total: if counts { Some(Stats::new()) } else { None },
+            file: Stats::new(),
+            records: if records {
+                Some(Records::new(alloc))
+            } else {
+                None
+            },
+        }
+    }
+
+    /// Counts a selected line, if that is asked for, and finds its matches: none if `is_inverted`. An
+    /// `Err` means out of memory.
+    pub fn count_line<F: MatchFinder>(
+        &mut self,
+        finder: &mut F,
+        is_inverted: bool,
+        line: &[u8],
+        matches: &mut Vec<Span>,
+    ) -> Result<(), AllocError>
+        ensures same { F.selects finder.new ≡ F.selects finder.old }
+    {
+        if !is_inverted {
+            finder.find_matches(line, matches)?;
+        }
+        self.file.count_line(matches.len());
+        Ok(())
+    }
+
+    /// Prints the record of the line before this one, which is printed later.
+    pub fn put_record(&mut self, name: &str, line: Pending) -> io::Result<()> {
+        match &mut self.records {
+            Some(records) => records.take(&mut self.writer, name, line),
+            None => Ok(()),
+        }
+    }
+
+    /// Begins to count for a file.
+    pub fn begin_file(&mut self) {
+        self.file = Stats::new();
+        self.writer.count = 0;
+    }
+
+    /// Ends what is printed and counted of a file of so many bytes, if that is asked for. A file
+    /// without records isn't counted, if records are printed.
+    pub fn end_file(
+        &mut self,
+        name: &str,
+        size: u64,
+        is_any: bool,
+        elapsed: Duration,
+    ) -> io::Result<()> {
+        let Some(total) = &mut self.total else {
+            return Ok(());
+        };
+        let file = &mut self.file;
+        file.searches = 1;
+        file.searches_with_match = u64::from(is_any);
+        file.bytes_searched = size;
+        file.elapsed = elapsed;
+        if let Some(records) = &mut self.records {
+            if !records.finish(&mut self.writer, name, size)? {
+                return Ok(());
+            }
+            file.bytes_printed = self.writer.count;
+            put_end(&mut self.writer.inner, name, file)?;
+        }
+        file.bytes_printed = self.writer.count;
+        total.add(file);
+        Ok(())
+    }
+
+    /// Prints what was counted of all files, if that is asked for. `total` is how long the program
+    /// took.
+    pub fn put_total(&mut self, elapsed: Duration) -> io::Result<()> {
+        let out = &mut self.writer.inner;
+        match &self.total {
+            Some(total) if self.records.is_some() => put_summary(out, total, elapsed),
+            Some(total) => total.put(out, elapsed),
+            None => Ok(()),
+        }
+    }
+}
+
+/// Prints the lines of a file.
+#[derive(Drop)]
+pub struct Printer<'o, W: Write + Drop> {
+    out: &'o mut Output<W>,
+    style: Style<'o>,
+    /// Whether a separator stands before the next line.
+    is_apart: bool,
+    /// The matches in the line.
+    matches: Vec<Span>,
+}
+
+impl<'o, W: Write + Drop> Printer<'o, W> {
+    /// Prints lines behind what was printed of other files.
+    pub fn new(alloc: Global, out: &'o mut Output<W>, style: Style<'o>) -> Printer<'o, W> {
+        let is_apart = out.has_groups;
+        Printer {
+            out,
+            style,
+            is_apart,
+            matches: Vec::new(alloc),
+        }
+    }
+}
+
+impl<'o, F: MatchFinder, W: Write + Drop> LinePrinter<F> for Printer<'o, W> {
+    ghost printed = { λ _. None };
+
+    fn print_line(
+        &mut self,
+        selector: &mut F,
+        number: u64,
+        place: u64,
+        is_selected: bool,
+        line: &[u8],
+    ) -> io::Result<()> {
+        let style = self.style;
+        self.matches.clear();
+        if is_selected && (self.out.total.is_some() || style.needs_matches()) {
+            self.out
+                .count_line(selector, style.is_inverted, line, &mut self.matches)?;
+        }
+        if style.is_quiet {
+            return Ok(());
+        }
+        if self.is_apart {
+            self.is_apart = false;
+            self.out.writer.write_all(SEPARATOR)?;
+        }
+        self.out.has_groups = style.separates;
+        let line = Line {
+            number,
+            place,
+            is_selected,
+            bytes: line,
+        };
+        style.put_line(&mut self.out.writer, selector, line, &self.matches)?;
+        if style.line_buffered {
+            self.out.writer.flush()?;
+        }
+        Ok(())
+    }
+
+    fn print_separator(&mut self) -> io::Result<()>
+        ensures ok { OnOk result (Prints None None (separator ∷ [])) }
+    {
+        if !self.style.separates {
+            return Ok(());
+        }
+        self.out.writer.write_all(SEPARATOR)
+    }
+}

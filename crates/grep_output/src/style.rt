@@ -1,0 +1,170 @@
+//! Lines as they are printed.
+ghost use Rattle.std.specs.Prelude.{◌≡◌};
+
+use crate::finder::MatchFinder;
+use crate::template::Template;
+use rc_text::types::Span;
+use std::io;
+use std::io::Write;
+
+/// The text before a highlighted match, and the text after it.
+const MARK: (&str, &str) = ("\x1b[01;31m", "\x1b[0m");
+
+/// A line of a file.
+#[derive(Clone, Copy)]
+pub struct Line<'l> {
+    /// Its number, from 1 on.
+    pub number: u64,
+    /// Where it begins in the file.
+    pub place: u64,
+    /// Whether it is selected, or context.
+    pub is_selected: bool,
+    pub bytes: &'l [u8],
+}
+
+impl<'l> Line<'l> {
+    /// Its bytes from `start` to `end`.
+    fn part(self, start: usize, end: usize) -> &'l [u8] {
+        self.bytes.get(start..end).unwrap_or(&[])
+    }
+}
+
+/// How the lines of a file are printed.
+#[derive(Clone, Copy)]
+pub struct Style<'o> {
+    /// The name of the file, if it stands before its lines.
+    pub name: Option<&'o str>,
+    /// Whether the number of each line stands before it.
+    pub numbers: bool,
+    /// Whether the place of each line, or match, stands before it.
+    pub places: bool,
+    /// Whether only matches are printed.
+    pub only_matching: bool,
+    /// What matches are replaced by, if they are.
+    pub template: Option<&'o Template<'o>>,
+    /// Whether the lines are those in which no pattern matches.
+    pub is_inverted: bool,
+    /// Whether matches are highlighted.
+    pub is_colored: bool,
+    /// Whether each line is written at once.
+    pub line_buffered: bool,
+    /// Whether a separator stands between lines that don't touch.
+    pub separates: bool,
+    /// Whether no line is printed. They may be counted.
+    pub is_quiet: bool,
+    /// The byte in which lines end.
+    pub terminator: u8,
+}
+
+impl<'o> Style<'o> {
+    /// Whether the matches in a selected line are asked for.
+    pub fn needs_matches(&self) -> bool {
+        !self.is_quiet
+            && !self.is_inverted
+            && (self.only_matching || self.is_colored || self.template.is_some())
+    }
+
+    /// Writes what comes before a line, or before a match at `start` in it: the name of its file, its
+    /// number, and its place, each with a mark behind it, `:` for a selected line and `-` for one of
+    /// context.
+    fn put_prefix<W: Write>(&self, out: &mut W, line: Line<'_>, start: usize) -> io::Result<()> {
+        let mark = if line.is_selected { ':' } else { '-' };
+        if let Some(name) = self.name {
+            write!(out, "{name}{mark}")?;
+        }
+        if self.numbers {
+            let number = line.number;
+            write!(out, "{number}{mark}")?;
+        }
+        if self.places {
+            let place = line.place.saturating_add(start as u64);
+            write!(out, "{place}{mark}")?;
+        }
+        Ok(())
+    }
+
+    /// Writes a match, replaced or highlighted if that is asked for.
+    fn put_match<W: Write, F: MatchFinder>(
+        &self,
+        out: &mut W,
+        finder: &mut F,
+        line: Line<'_>,
+        found: Span,
+    ) -> io::Result<()>
+        ensures same { F.selects finder.new ≡ F.selects finder.old }
+    {
+        if let Some(template) = self.template {
+            finder.find_groups(line.bytes, found.start);
+            return template.put(out, line.bytes, finder);
+        }
+        let bytes = line.part(found.start, found.end);
+        if !self.is_colored {
+            return out.write_all(bytes);
+        }
+        let (before, after) = MARK;
+        out.write_all(before.as_bytes())?;
+        out.write_all(bytes)?;
+        out.write_all(after.as_bytes())
+    }
+
+    /// Writes each match that isn't empty as a line of its own.
+    fn put_matches<W: Write, F: MatchFinder>(
+        &self,
+        out: &mut W,
+        finder: &mut F,
+        line: Line<'_>,
+        matches: &[Span],
+    ) -> io::Result<()>
+        ensures same { F.selects finder.new ≡ F.selects finder.old }
+    {
+        for found in matches {
+            if !found.is_empty() {
+                self.put_prefix(out, line, found.start)?;
+                self.put_match(out, finder, line, *found)?;
+                out.write_all(&[self.terminator])?;
+            }
+        }
+        Ok(())
+    }
+
+    /// Writes the line, with its matches replaced or highlighted. An empty match is only replaced.
+    fn put_whole<W: Write, F: MatchFinder>(
+        &self,
+        out: &mut W,
+        finder: &mut F,
+        line: Line<'_>,
+        matches: &[Span],
+    ) -> io::Result<()>
+        ensures same { F.selects finder.new ≡ F.selects finder.old }
+    {
+        self.put_prefix(out, line, 0)?;
+        let mut end = 0;
+        for found in matches {
+            if self.template.is_some() || !found.is_empty() {
+                out.write_all(line.part(end, found.start))?;
+                self.put_match(out, finder, line, *found)?;
+                end = found.end;
+            }
+        }
+        out.write_all(line.part(end, line.bytes.len()))?;
+        out.write_all(&[self.terminator])
+    }
+
+    /// Writes a line, selected or of context, or the matches in it. There are some only in a selected
+    /// line, if `needs_matches` says so.
+    pub fn put_line<W: Write, F: MatchFinder>(
+        &self,
+        out: &mut W,
+        finder: &mut F,
+        line: Line<'_>,
+        matches: &[Span],
+    ) -> io::Result<()>
+        ensures same { F.selects finder.new ≡ F.selects finder.old }
+    {
+        if self.only_matching {
+            self.put_matches(out, finder, line, matches)
+        } else {
+            self.put_whole(out, finder, line, matches)
+        }
+    }
+}

@@ -1,0 +1,267 @@
+//! Reader search: what is printed of one reader.
+
+use crate::fault::{Fault, read, written};
+use grep_files::Identity;
+use grep_lines::{Extent, LinePrinter, next_selected, print_selected};
+use grep_options::filter::{Options, Report};
+use grep_output::{MatchFinder, Output, Printer, Recorder, Style, Template};
+use memchr::memchr;
+use std::alloc::Global;
+use std::io;
+use std::io::{BufRead, BufReader, Read, Write};
+use std::time::{Duration, Instant};
+
+/// The length of the pages in which a file is read, in bytes.
+const PAGE: usize = 65_536;
+
+/// Whether a file is binary: its first page has a NUL byte.
+fn is_binary<R: BufRead>(reader: &mut R) -> bool {
+    match reader.fill_buf() {
+        Ok(page) => memchr(0, page).is_some(),
+        Err(_) => false,
+    }
+}
+
+/// Prints the selected lines of a reader, without their places: at most `most`, and then the rest
+/// isn't read. Returns how many there were.
+fn print_lines<R: BufRead, F: MatchFinder, W: Write + Drop>(
+    alloc: Global,
+    finder: &mut F,
+    reader: &mut R,
+    printer: &mut Printer<'_, W>,
+    terminator: u8,
+    most: u64,
+) -> Result<u64, Fault> {
+    let mut line = Vec::new(alloc);
+    let mut number: u64 = 0;
+    for count in 0..most {
+        let Some(passed) = read(next_selected(reader, finder, terminator, &mut line))? else {
+            return Ok(count);
+        };
+        number = number.saturating_add(passed);
+        written(printer.print_line(finder, number, 0, true, &line))?;
+    }
+    Ok(most)
+}
+
+/// How lines are searched and printed, and where to.
+#[derive(Clone, Copy)]
+pub struct Job<'o, 't, 'w> {
+    pub alloc: Global,
+    pub options: &'o Options<'w>,
+    pub template: Option<&'t Template<'w>>,
+    /// The file to which lines are written, if they are written to a file.
+    pub output: Option<Identity>,
+    pub is_colored: bool,
+}
+
+impl Job<'_, '_, '_> {
+    /// How the lines of a file are printed.
+    fn style<'o>(&'o self, name: &'o str, report: Report) -> Style<'o> {
+        let options = self.options;
+        let is_quiet = report != Report::Lines;
+        Style {
+            name: if options.shows_names() {
+                Some(name)
+            } else {
+                None
+            },
+            numbers: options.numbers,
+            places: options.places && !is_quiet,
+            only_matching: options.only_matching,
+            template: self.template,
+            is_inverted: options.invert,
+            is_colored: self.is_colored,
+            line_buffered: options.line_buffered,
+            separates: options.context().is_some() && !is_quiet,
+            is_quiet,
+            terminator: options.terminator(),
+        }
+    }
+
+    /// How many lines are printed around a selected one, and how many are selected.
+    fn extent(&self) -> Extent {
+        let (before, after) = self.options.context().unwrap_or((0, 0));
+        Extent {
+            before: usize::try_from(before).unwrap_or(usize::MAX),
+            after,
+            most: self.options.most,
+        }
+    }
+
+    /// Prints the lines of a reader, with those around them if that is asked for, and returns how
+    /// many were selected. If something else is printed, the lines are only counted.
+    fn put_lines<R: BufRead, F: MatchFinder, W: Write + Drop>(
+        &self,
+        finder: &mut F,
+        reader: &mut R,
+        out: &mut Output<W>,
+        name: &str,
+        report: Report,
+    ) -> Result<u64, Fault> {
+        let style = self.style(name, report);
+        let terminator = style.terminator;
+        let mut printer = Printer::new(self.alloc, out, style);
+        if style.separates || style.places {
+            let extent = self.extent();
+            let printed = print_selected(
+                self.alloc,
+                reader,
+                finder,
+                &mut printer,
+                terminator,
+                extent,
+            );
+            return Ok(printed?);
+        }
+        let most = match report {
+            Report::Lines | Report::Count => self.options.most,
+            _ => self.options.most.min(1),
+        };
+        print_lines(self.alloc, finder, reader, &mut printer, terminator, most)
+    }
+
+    /// Prints the records of a reader's lines, and returns how many were selected. The last one is
+    /// left to the end of the file.
+    fn put_records<R: BufRead, F: MatchFinder, W: Write + Drop>(
+        &self,
+        finder: &mut F,
+        reader: &mut R,
+        out: &mut Output<W>,
+        name: &str,
+    ) -> Result<u64, Fault> {
+        let terminator = self.options.terminator();
+        let mut recorder = Recorder {
+            alloc: self.alloc,
+            out,
+            name,
+            terminator,
+            is_inverted: self.options.invert,
+        };
+        let extent = self.extent();
+        let printed = print_selected(
+            self.alloc,
+            reader,
+            finder,
+            &mut recorder,
+            terminator,
+            extent,
+        );
+        Ok(printed?)
+    }
+
+    /// Prints the number of selected lines of a file, or its name, if that is asked for.
+    fn put_count_or_name<W: Write>(
+        &self,
+        out: &mut W,
+        name: &str,
+        report: Report,
+        count: u64,
+    ) -> io::Result<()> {
+        match report {
+            Report::Count if self.options.shows_names() => writeln!(out, "{name}:{count}"),
+            Report::Count => writeln!(out, "{count}"),
+            Report::NameIfAny if count > 0 => writeln!(out, "{name}"),
+            Report::NameIfNone if count == 0 => writeln!(out, "{name}"),
+            _ => Ok(()),
+        }
+    }
+
+    /// What is printed of a reader, or `None` if it isn't searched. A binary file is passed over in
+    /// a folder, and else its lines aren't printed.
+    fn report_of<R: BufRead>(&self, reader: &mut R, is_in_folder: bool) -> Option<Report> {
+        let report = self.options.report();
+        if self.options.text || self.options.null_data || !is_binary(reader) {
+            return Some(report);
+        }
+        if is_in_folder || self.options.no_binary {
+            return None;
+        }
+        Some(match report {
+            Report::Lines => Report::Binary,
+            report => report,
+        })
+    }
+
+    /// Prints what is asked for of a reader, and returns whether a line was selected. That one is in a
+    /// binary file is told on the standard error.
+    fn put_report<R: BufRead, F: MatchFinder, W: Write + Drop>(
+        &self,
+        rt: &HostRuntime,
+        finder: &mut F,
+        reader: &mut R,
+        out: &mut Output<W>,
+        file: SearchedFile<'_>,
+    ) -> Result<bool, Fault> {
+        let name = file.name;
+        let Some(report) = self.report_of(reader, file.is_in_folder) else {
+            if !file.is_in_folder {
+                let report = self.options.report();
+                written(self.put_count_or_name(&mut out.writer.inner, name, report, 0))?;
+            }
+            return Ok(false);
+        };
+        if report == Report::Lines && self.options.json {
+            return Ok(self.put_records(finder, reader, out, name)? > 0);
+        }
+        let count = self.put_lines(finder, reader, out, name, report)?;
+        written(self.put_count_or_name(&mut out.writer.inner, name, report, count))?;
+        if count > 0 && report == Report::Binary {
+            let _ = writeln!(rt.stderr(), "rcgrep: {name}: binary file matches");
+        }
+        Ok(count > 0)
+    }
+
+    /// Whether times and lines are counted.
+    pub fn counts(&self) -> bool {
+        self.options.stats || self.options.json
+    }
+
+    /// The time, if times are counted.
+    pub fn now(&self, rt: &HostRuntime) -> Option<Instant> {
+        if self.counts() {
+            Instant::now(rt).ok()
+        } else {
+            None
+        }
+    }
+
+    /// Searches one reader, in pages, and returns whether a line was selected. It counts what was
+    /// searched, if that is asked for.
+    pub fn search<R: Read + Drop, F: MatchFinder, W: Write + Drop>(
+        &self,
+        rt: &HostRuntime,
+        finder: &mut F,
+        inner: R,
+        out: &mut Output<W>,
+        file: SearchedFile<'_>,
+    ) -> Result<bool, Fault> {
+        let begun = self.now(rt);
+        out.begin_file();
+        let made = BufReader::with_capacity(self.alloc, PAGE, inner.take(u64::MAX));
+        let mut reader = read(made)?;
+        let found = self.put_report(rt, finder, &mut reader, out, file);
+        let size = u64::MAX - reader.get_ref().limit();
+        drop(reader);
+        let is_any = matches!(found, Ok(true));
+        written(out.end_file(file.name, size, is_any, elapsed(rt, begun)))?;
+        found
+    }
+}
+
+/// A file that is searched.
+#[derive(Clone, Copy)]
+pub struct SearchedFile<'f> {
+    /// Its name, in what is printed.
+    pub name: &'f str,
+    /// Whether it was found in a folder.
+    pub is_in_folder: bool,
+}
+
+/// How long it is since then, or nothing if that isn't known.
+pub fn elapsed(rt: &HostRuntime, begun: Option<Instant>) -> Duration {
+    match begun {
+        Some(begun) => begun.elapsed(rt).unwrap_or(Duration::ZERO),
+        None => Duration::ZERO,
+    }
+}
