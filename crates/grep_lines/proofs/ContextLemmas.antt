@@ -1,11 +1,11 @@
 -- Only proofs use this file.
 -- What is printed of lines, step by step.
-use Rattle.std.proofs.Common.{ℕ, zero, suc, ◌≡◌, ◌<◌, ◌≤◌, ◌+◌, ◌-◌, ◌∙◌, ◌++◌, ◌∷◌, [], ◌&&◌, ◌||◌, ◌⊎◌, inl, inr, Bool, false, true, List, Option, Some, None, if◌then◌else◌, cond, ap, ap₂, append_assoc, arith, refl, sym, subst, length, length-append, map, nat_lt, take}
+use Rattle.std.proofs.Common.{ℕ, zero, suc, ◌≡◌, ◌<◌, ◌≤◌, ◌+◌, ◌-◌, ◌∙◌, ◌++◌, ◌∷◌, [], ◌&&◌, ◌||◌, ◌⊎◌, inl, inr, Bool, false, true, List, Option, Some, None, cond, ap, ap₂, append_assoc, arith, refl, sym, subst, length, length-append, map, nat_lt, take}
 use Rattle.std.specs.List.{list_any}
 use Rattle.std.proofs.lemmas.Bool.{and_right, cases_lt, le-ltb, lt-ltb, or_from, or_left, or_parts}
 use Rattle.std.proofs.lemmas.List.{append-nil}
 use Rattle.std.proofs.lemmas.List.Folds.{list_any-append}
-use Rattle.grep_lines.specs.Context.{Marked, Part, Prints, Shown, gap, is_selected, is_shown, line_of, marked, separated, separator, shown, size_of}
+use Rattle.grep_lines.specs.Context.{Marked, Part, Prints, Shown, gap, is_selected, line_of, marked, separated, shown, size_of}
 use Rattle.std.specs.Prelude.{Vec}
 use Rattle.std.specs.declared.alloc.Global.{Global}
 use Rattle.grep_lines.specs.Ahead.{ahead_of, contents, later, left_behind, plain}

@@ -1,6 +1,6 @@
 -- Only proofs use this file.
 -- The selected lines of a text are those of its parts.
-use Rattle.std.proofs.Common.{ℕ, suc, ◌≡◌, ◌<◌, ◌+◌, ◌∙◌, ◌++◌, ◌∷◌, [], ◌==◌, Bool, false, true, List, ap, ap₂, arith, cond, refl, sym, length, map}
+use Rattle.std.proofs.Common.{ℕ, ◌≡◌, ◌<◌, ◌+◌, ◌∙◌, ◌++◌, ◌∷◌, [], ◌==◌, Bool, false, true, List, ap, ap₂, arith, cond, refl, sym, length, map}
 use Rattle.std.specs.List.{filter}
 use Rattle.std.proofs.lemmas.List.Elements.{filter-append}
 use Rattle.grep_lines.specs.Lines.{before_first, lines}

@@ -1,6 +1,6 @@
 -- Only proofs use this file.
 -- Lines are read one after another, and what is printed of them goes on.
-use Rattle.std.proofs.Common.{ℕ, ◌≡◌, ◌<◌, ◌≤◌, ◌+◌, ◌-◌, ◌∙◌, ◌++◌, ◌∷◌, [], ◌&&◌, Bool, false, true, List, Option, Some, None, IfSome, ap, ap₂, append_assoc, arith, cond, refl, sym, subst, length, nat_lt}
+use Rattle.std.proofs.Common.{ℕ, ◌≡◌, ◌<◌, ◌≤◌, ◌+◌, ◌-◌, ◌∙◌, ◌++◌, ◌∷◌, [], ◌&&◌, Bool, false, true, List, Option, Some, None, IfSome, ap, append_assoc, arith, cond, refl, sym, subst, length, nat_lt}
 use Rattle.std.specs.Prelude.{Vec}
 use Rattle.std.specs.List.{filter, list_any}
 use Rattle.std.specs.declared.alloc.Global.{Global}

@@ -1,6 +1,6 @@
 -- Only proofs and the contracts of private functions use this file.
 -- What is still to be printed, after some lines were read.
-use Rattle.std.specs.Prelude.{◌≡◌, ℕ, ◌+◌, ◌-◌, ◌<◌, ◌≤◌, ◌||◌, Bool, false, true, List, [], ◌∷◌, ◌++◌, Option, Some, if◌then◌else◌, filter, length, map, nat_lt, take, Vec}
+use Rattle.std.specs.Prelude.{◌≡◌, ℕ, ◌+◌, ◌-◌, ◌*◌, ◌<◌, ◌≤◌, ◌||◌, Bool, false, true, List, [], ◌∷◌, ◌++◌, Option, Some, if◌then◌else◌, filter, length, map, nat_lt, take, Vec}
 use Rattle.std.specs.List.{list_any}
 use Rattle.std.specs.declared.alloc.Global.{Global}
 use Rattle.grep_lines.specs.Lines.{lines}
@@ -40,6 +40,10 @@ ahead e p ms = ahead_of e p.behind p.left p.next p.place (contents p.kept.items)
 pub record IsSound (e : Extent) (p : Progress) : Type 0 where
   pub within : length p.kept.items ≤ e.before
   pub idle : 0 < length p.kept.items → p.left ≡ 0
+
+-- The next line begins no further than lines of 2^64 bytes reach.
+abbrev pub IsPlaced : Progress → Type 0
+IsPlaced p = p.place ≤ p.next * 18446744073709551616
 
 -- What was printed when a line was read, or before a selected one.
 abbrev pub Advances : Extent → (old new : Progress) → (before after : Option (List Part)) → Marked → Type 0

@@ -1,6 +1,9 @@
 -- Which lines are printed: the selected ones, and lines around them.
-use Rattle.std.specs.Prelude.{◌≡◌, ℕ, ◌+◌, ◌-◌, ◌==◌, ◌&&◌, ◌||◌, Bool, List, [], ◌∷◌, ◌++◌, Option, None, Some, if◌then◌else◌, filter, length, nat_lt, take}
+use Rattle.std.specs.Prelude.{◌≡◌, ℕ, ◌+◌, ◌-◌, ◌==◌, ◌&&◌, ◌||◌, ◌⊎◌, Bool, List, [], ◌∷◌, ◌++◌, Option, None, Some, if◌then◌else◌, filter, length, nat_lt, take}
 use Rattle.std.specs.List.{list_any}
+use Rattle.std.specs.IoError.{error_kind}
+use Rattle.std.specs.declared.io.Error.{Error}
+use Rattle.std.specs.declared.io.ErrorKind.TheVariants.{OutOfMemory}
 use Rattle.grep_lines.specs.Lines.{lines}
 use Rattle.grep_lines.specs.declared.context.Extent.{Extent}
 use Rattle.grep_lines.specs.declared.context.PrintError.{PrintError}
@@ -82,3 +85,12 @@ PrintsBeginning t e picks old new text = (parts rest : List Part) × (printed t 
 abbrev pub IfRead : PrintError → Type 0 → Type 0
 IfRead (Read fault) claim = claim
 IfRead (Print fault) claim = Unit {0}
+
+-- What an error of the printer claims. A reader that failed claims nothing.
+abbrev pub IfPrint : PrintError → (Error → Type 0) → Type 0
+IfPrint (Read fault) claim = Unit {0}
+IfPrint (Print fault) claim = claim fault
+
+-- the error is one that the printer may give, or memory was refused
+abbrev pub IsPrintFault : (fails_by : Error → Type 0) → Error → Type 0
+IsPrintFault fails_by fault = fails_by fault ⊎ (error_kind fault ≡ OutOfMemory)

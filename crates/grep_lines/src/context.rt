@@ -1,7 +1,9 @@
 //! Context: the selected lines, and the lines around them.
-ghost use Rattle.std.specs.Prelude.{◌≡◌, ◌≢◌, ◌<◌, ◌+◌, ◌^◌, ◌++◌, ◌∷◌, [], ℕ, List, Bool, Option, None, Some, IfErr, IfOk, IfSome, OnOk, false, true, length, nat_lt, ◌&&◌, ◌-◌};
-ghost use Rattle.grep_lines.specs.Ahead.{Advances, Flushes, IsSound, Skips};
-ghost use Rattle.grep_lines.specs.Context.{IfRead, Part, Prints, PrintsBeginning, gap, printed, selected_count};
+ghost use Rattle.std.specs.Prelude.{◌≡◌, ◌≢◌, ◌<◌, ◌+◌, ◌^◌, ◌++◌, ◌∷◌, [], ℕ, List, Bool, Option, None, Some, IfErr, IfOk, IfSome, OnOk, ⊤, false, true, length, nat_lt, ◌&&◌, ◌-◌};
+ghost use Rattle.std.specs.IoError.{error_kind};
+ghost use Rattle.std.specs.declared.io.Error.{Error};
+ghost use Rattle.grep_lines.specs.Ahead.{Advances, Flushes, IsPlaced, IsSound, Skips};
+ghost use Rattle.grep_lines.specs.Context.{IfPrint, IfRead, IsPrintFault, Part, Prints, PrintsBeginning, gap, printed, selected_count};
 ghost use Rattle.grep_lines.specs.Context.Part.{line_of, separator};
 
 use crate::select::{LineSelector, next_line};
@@ -26,12 +28,15 @@ pub trait LinePrinter<S: LineSelector> {
     /// What was printed, in order, or `None`, which claims nothing.
     ghost printed: { Self → Option (List Part) };
 
+    /// The errors that it may give.
+    ghost fails_by: { Error → Type 0 } = { λ _. ⊤ };
+
     /// Prints a line, which begins at this place of the text. It has no terminator.
     fn print_line(
         &mut self,
         selector: &mut S,
         number: u64,
-        place: u64,
+        place: u128,
         is_selected: bool,
         line: &[u8],
     ) -> io::Result<()>
@@ -42,11 +47,13 @@ pub trait LinePrinter<S: LineSelector> {
               selected = is_selected;
               line = line.now;
             }) ∷ [])) }
+        ensures failed { IfErr result fails_by }
         ensures same { S.selects selector.new ≡ S.selects selector.old };
 
     /// Prints a separator.
     fn print_separator(&mut self) -> io::Result<()>
-        ensures ok { OnOk result (Prints (printed self.old) (printed self.new) (separator ∷ [])) };
+        ensures ok { OnOk result (Prints (printed self.old) (printed self.new) (separator ∷ [])) }
+        ensures failed { IfErr result fails_by };
 }
 
 /// Why lines weren't printed to the end.
@@ -54,8 +61,7 @@ pub trait LinePrinter<S: LineSelector> {
 pub enum PrintError {
     /// An error of the reader, or out of memory for a line, or there are 2^64 - 2 lines.
     Read(io::Error),
-    /// An error of the printer, or out of memory for the lines that are kept, or there are 2^64
-    /// bytes.
+    /// An error of the printer, or out of memory for the lines that are kept.
     Print(io::Error),
 }
 
@@ -68,25 +74,11 @@ struct Progress {
     /// The number of the first of them, or of the next line.
     next: u64,
     /// The place at which that line begins.
-    place: u64,
+    place: u128,
     /// The number of lines that are still context of the last selected line.
     left: u64,
     /// The number behind the line that was printed last.
     behind: Option<u64>,
-}
-
-/// Where the line behind this one begins, if this one begins at `place`. An `Err` means that there
-/// are 2^64 bytes.
-fn place_behind(place: u64, line: &[u8]) -> io::Result<u64>
-    ensures { IfOk result (λ end. end ≡ place + length line.now + 1) }
-{
-    let Some(end) = place.checked_add(line.len() as u64) else {
-        return Err(io::Error::from(ErrorKind::Other));
-    };
-    if end == u64::MAX {
-        return Err(io::Error::from(ErrorKind::Other));
-    }
-    Ok(end + 1)
 }
 
 impl Progress {
@@ -115,7 +107,8 @@ impl Progress {
         is_selected: bool,
         line: &[u8],
     ) -> io::Result<()>
-        requires { self.old.next + 1 < 2 ^ 64 }
+        requires fits { self.old.next + 1 < 2 ^ 64 }
+        requires placed { IsPlaced self.old }
         ensures ok { OnOk result (Prints (P.printed printer.old) (P.printed printer.new)
             (gap self.old.behind self.old.next ++ line_of (record {
               number = self.old.next;
@@ -128,6 +121,8 @@ impl Progress {
           place = self.old.place + length line.now + 1;
           behind = Some (self.old.next + 1);
         }) }
+        ensures placed { OnOk result (IsPlaced self.new) }
+        ensures failed { IfErr result P.fails_by }
         ensures same { S.selects selector.new ≡ S.selects selector.old }
     {
         if let Some(behind) = self.behind {
@@ -136,7 +131,7 @@ impl Progress {
             }
         }
         printer.print_line(selector, self.next, self.place, is_selected, line)?;
-        self.place = place_behind(self.place, line)?;
+        self.place += line.len() as u128 + 1;
         self.next += 1;
         self.behind = Some(self.next);
         Ok(())
@@ -151,9 +146,12 @@ impl Progress {
     ) -> io::Result<()>
         requires fits { self.old.next + length self.old.kept.items + 1 < 2 ^ 64 }
         requires sound { IsSound extent self.old }
+        requires placed { IsPlaced self.old }
         ensures ok { OnOk result (Flushes extent self.old self.new (P.printed printer.old)
             (P.printed printer.new)) }
         ensures none_kept { OnOk result (self.new.kept.items ≡ []) }
+        ensures placed { OnOk result (IsPlaced self.new) }
+        ensures failed { IfErr result P.fails_by }
         ensures next { OnOk result (self.new.next ≡ self.old.next + length self.old.kept.items) }
         ensures same { S.selects selector.new ≡ S.selects selector.old }
     {
@@ -168,17 +166,20 @@ impl Progress {
     fn keep(&mut self, extent: Extent, line: &mut Vec<u8>) -> io::Result<()>
         requires fits { self.old.next + 1 < 2 ^ 64 }
         requires sound { IsSound extent self.old }
+        requires placed { IsPlaced self.old }
         requires idle { self.old.left ≡ 0 }
         ensures ok { OnOk result (Skips extent self.old self.new line.old.items) }
         ensures sound { OnOk result (IsSound extent self.new) }
+        ensures placed { OnOk result (IsPlaced self.new) }
         ensures next { OnOk result (self.new.next + length self.new.kept.items
             ≡ self.old.next + length self.old.kept.items + 1) }
+        ensures failed { IfErr result (λ e. error_kind e ≡ ErrorKind.OutOfMemory) }
     {
         self.kept
             .push_back(mem::replace(line, Vec::new(self.alloc)))?;
         if self.kept.len() > extent.before {
             if let Some(oldest) = self.kept.pop_front() {
-                self.place = place_behind(self.place, &oldest)?;
+                self.place += oldest.len() as u128 + 1;
                 *line = oldest;
                 self.next += 1;
             }
@@ -197,11 +198,14 @@ impl Progress {
     ) -> io::Result<()>
         requires fits { self.old.next + length self.old.kept.items + 1 < 2 ^ 64 }
         requires sound { IsSound extent self.old }
+        requires placed { IsPlaced self.old }
         ensures ok { OnOk result (Advances extent self.old self.new (P.printed printer.old)
             (P.printed printer.new) (record { line = line.old.items; selected = is_selected })) }
         ensures sound { OnOk result (IsSound extent self.new) }
+        ensures placed { OnOk result (IsPlaced self.new) }
         ensures next { OnOk result (self.new.next + length self.new.kept.items
             ≡ self.old.next + length self.old.kept.items + 1) }
+        ensures failed { IfErr result (IsPrintFault P.fails_by) }
         ensures same { S.selects selector.new ≡ S.selects selector.old }
     {
         if is_selected {
@@ -249,6 +253,7 @@ pub fn print_selected<R: BufRead, S: LineSelector, P: LinePrinter<S>>(
     ensures begun { IfErr result (λ e. IfRead e (IfSome (R.remaining reader.old) (λ text.
         PrintsBeginning terminator extent (S.selects selector.old) (P.printed printer.old)
         (P.printed printer.new) text))) }
+    ensures failed { IfErr result (λ e. IfPrint e (IsPrintFault P.fails_by)) }
     ensures same { S.selects selector.new ≡ S.selects selector.old }
 {
     let mut progress = Progress::new(alloc);

@@ -21,6 +21,20 @@ pub fn put_usage<W: Write>(
     writeln!(err, "{name}: {fault} {word}\nUsage: {usage}")
 }
 
+/// The long name in a word, without its value, or nothing if the word has letters.
+fn name_in(word: &str) -> Option<&str> {
+    let text = word.strip_prefix("--")?;
+    match text.split_once('=') {
+        Some((name, _)) => Some(name),
+        None => Some(text),
+    }
+}
+
+/// The option that is nearest to a word, if one is near and there is memory to find it.
+fn nearest_to(alloc: Global, options: &[Entry], word: &str) -> Option<&'static str> {
+    nearest(alloc, options, name_in(word)?).ok()?
+}
+
 /// Writes that a word is no option, and the option that is nearest to it.
 fn put_unknown<W: Write>(
     alloc: Global,
@@ -29,7 +43,7 @@ fn put_unknown<W: Write>(
     options: &[Entry],
     word: &str,
 ) -> io::Result<()> {
-    if let Ok(Some(option)) = nearest(alloc, options, word) {
+    if let Some(option) = nearest_to(alloc, options, word) {
         let name = program.name;
         writeln!(err, "{name}: the nearest option is --{option}")?;
     }

@@ -1,10 +1,13 @@
 //! Command lines: the options and operands that the words give.
+ghost use Rattle.std.specs.Prelude.{IfOk};
+ghost use Rattle.std.specs.Option.{option_map};
+ghost use Rattle.grep_options.specs.Nearest.{IsNearest, names_of};
 
 use crate::table::{Entry, Id, Takes};
 use std::alloc::{AllocError, AllocFailed, Global};
 use strsim::levenshtein;
 
-/// The greatest number of changed letters between a word and the option that is meant.
+/// A word with as many changed letters, or more, isn't meant to be an option.
 const GREATEST_DISTANCE: usize = 3;
 
 /// What a command line gives.
@@ -172,19 +175,16 @@ pub fn read_words<'w>(
     }
 }
 
-/// The long name that is nearest to a word that is no option, if one is near.
+/// The long name that comes nearest to a name, the first if there are several, or `None` if three
+/// letters or more are put in, left out or changed for each. An `Err` means out of memory.
 pub fn nearest(
     alloc: Global,
     table: &[Entry],
-    word: &str,
-) -> Result<Option<&'static str>, AllocError> {
-    let Some(text) = word.strip_prefix("--") else {
-        return Ok(None);
-    };
-    let name = match text.split_once('=') {
-        Some((name, _)) => name,
-        None => text,
-    };
+    name: &str,
+) -> Result<Option<&'static str>, AllocError>
+    ensures { IfOk result (λ o. IsNearest 3 (names_of table.now) name.now
+        (option_map (λ n. n.now) o)) }
+{
     let mut best: Option<&'static str> = None;
     let mut least = GREATEST_DISTANCE;
     for entry in table {

@@ -1,5 +1,5 @@
 //! Line output: where lines are printed, and what was counted of them.
-ghost use Rattle.std.specs.Prelude.{◌≡◌, None, OnOk, [], ◌∷◌};
+ghost use Rattle.std.specs.Prelude.{◌≡◌, IfErr, None, OnOk, [], ◌∷◌, ⊤};
 ghost use Rattle.grep_lines.specs.Context.{Prints};
 ghost use Rattle.grep_lines.specs.Context.Part.{separator};
 
@@ -153,7 +153,7 @@ impl<'o, F: MatchFinder, W: Write + Drop> LinePrinter<F> for Printer<'o, W> {
         &mut self,
         selector: &mut F,
         number: u64,
-        place: u64,
+        place: u128,
         is_selected: bool,
         line: &[u8],
     ) -> io::Result<()> {
@@ -186,6 +186,7 @@ impl<'o, F: MatchFinder, W: Write + Drop> LinePrinter<F> for Printer<'o, W> {
 
     fn print_separator(&mut self) -> io::Result<()>
         ensures ok { OnOk result (Prints None None (separator ∷ [])) }
+        ensures failed { IfErr result (λ _. ⊤) }
     {
         if !self.style.separates {
             return Ok(());

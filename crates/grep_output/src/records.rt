@@ -1,5 +1,5 @@
 //! Records of JSON: a file's beginning, its lines with their matches, and its end.
-ghost use Rattle.std.specs.Prelude.{◌≡◌, None, OnOk, [], ◌∷◌};
+ghost use Rattle.std.specs.Prelude.{◌≡◌, IfErr, None, OnOk, [], ◌∷◌, ⊤};
 ghost use Rattle.grep_lines.specs.Context.{Prints};
 ghost use Rattle.grep_lines.specs.Context.Part.{separator};
 
@@ -16,7 +16,7 @@ use std::io::Write;
 #[derive(Drop)]
 pub struct Pending {
     number: u64,
-    place: u64,
+    place: u128,
     is_selected: bool,
     /// The line, with a terminator behind it.
     line: Vec<u8>,
@@ -102,8 +102,8 @@ impl Records {
     /// one.
     pub fn finish<W: Write>(&mut self, out: &mut W, name: &str, size: u64) -> io::Result<bool> {
         if let Some(last) = &mut self.pending {
-            let end = last.place.saturating_add(last.line.len() as u64);
-            if end > size {
+            let end = last.place.saturating_add(last.line.len() as u128);
+            if end > u128::from(size) {
                 last.line.pop();
             }
         }
@@ -134,7 +134,7 @@ impl<'o, F: MatchFinder, W: Write + Drop> LinePrinter<F> for Recorder<'o, W> {
         &mut self,
         selector: &mut F,
         number: u64,
-        place: u64,
+        place: u128,
         is_selected: bool,
         line: &[u8],
     ) -> io::Result<()> {
@@ -157,6 +157,7 @@ impl<'o, F: MatchFinder, W: Write + Drop> LinePrinter<F> for Recorder<'o, W> {
 
     fn print_separator(&mut self) -> io::Result<()>
         ensures ok { OnOk result (Prints None None (separator ∷ [])) }
+        ensures failed { IfErr result (λ _. ⊤) }
     {
         Ok(())
     }

@@ -16,7 +16,7 @@ pub struct Line<'l> {
     /// Its number, from 1 on.
     pub number: u64,
     /// Where it begins in the file.
-    pub place: u64,
+    pub place: u128,
     /// Whether it is selected, or context.
     pub is_selected: bool,
     pub bytes: &'l [u8],
@@ -77,7 +77,7 @@ impl<'o> Style<'o> {
             write!(out, "{number}{mark}")?;
         }
         if self.places {
-            let place = line.place.saturating_add(start as u64);
+            let place = line.place.saturating_add(start as u128);
             write!(out, "{place}{mark}")?;
         }
         Ok(())

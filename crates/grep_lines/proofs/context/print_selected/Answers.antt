@@ -1,5 +1,4 @@
-use Rattle.std.proofs.Common.{Bool, ℕ, false, true, ◌≡◌, ◌+◌, ◌-◌, ◌≤◌, ◌&&◌, ◌∙◌, List, IfSome, ap, arith, cond, length, nat_lt, refl, subst, sym}
-use Rattle.grep_lines.specs.Ahead.{Stands}
+use Rattle.std.proofs.Common.{Bool, ℕ, false, true, ◌≡◌, ◌+◌, ◌-◌, ◌&&◌, ◌∙◌, List, IfSome, ap, arith, cond, length, nat_lt, refl, subst, sym}
 use Rattle.grep_lines.specs.Selected.{TakesLine}
 use Rattle.grep_lines.proofs.StandsLemmas.{begun, few_more, stands_first, stands_next, told_at_end, told_enough}
 use Rattle.grep_lines.proofs.context.print_selected.Goals as goal
@@ -11,6 +10,7 @@ loop-read-init g c =
     let new = c.new-progress.ensures in
     record {
       sound = record { within = omega (arith, ap length new.kept); idle = λ _. new.left };
+      placed = omega (arith, new.place, new.next);
       same = refl;
       size = omega (arith, new.next, ap length new.kept);
       few = omega arith;
@@ -82,6 +82,7 @@ loop-read-preserved g c =
     let ensured = c.in_default.ensures in
     record {
       sound = ensured.sound;
+      placed = ensured.placed;
       same = c.take.ensures.same ∙ c.selects_more-is_selected.ensures.same ∙ inv.same;
       size = omega (arith, ensured.next, inv.size);
       few = few_more e.most count more (picks line) b inv.few is passes;

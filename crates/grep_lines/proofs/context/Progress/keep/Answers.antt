@@ -1,11 +1,11 @@
-use Rattle.std.proofs.Common.{ℕ, List, ◌+◌, ◌≡◌, ◌<◌, ◌≤◌, ◌∙◌, ◌++◌, ◌∷◌, [], ap, arith, length, sym}
+use Rattle.std.proofs.Common.{◌+◌, ◌≡◌, ◌<◌, ◌∙◌, ◌++◌, ◌∷◌, [], ap, arith, length, sym}
 use Rattle.grep_lines.specs.Ahead.{ahead_of, contents}
 use Rattle.grep_lines.proofs.ContextLemmas.{ahead_dropped}
 use Rattle.grep_lines.proofs.context.Progress.keep.Goals as goal
 
 -- the oldest line isn't kept any more
-pub returns-in_ok-self-clause-ok : goal.returns-in_ok-self-clause-ok
-returns-in_ok-self-clause-ok c = λ rest.
+pub returns-in-Some-clause-ok : goal.returns-in-Some-clause-ok
+returns-in-Some-clause-ok c = λ rest.
     let was = c.args.self.now in
     let line = c.args.line.now in
     let kept = was.kept.items in
@@ -15,4 +15,4 @@ returns-in_ok-self-clause-ok c = λ rest.
     ahead_dropped c.args.extent was.behind was.left was.next was.place kept c.pop_front.new.self.items line c.in-Some.oldest rest c.requires.idle
     (sym pushed ∙ popped) c.requires.sound.within (omega (arith, many, ap length popped))
     ∙ ap (λ p. ahead_of c.args.extent was.behind was.left (was.next + 1) p (contents c.pop_front.new.self.items) rest)
-    (sym (c.in_ok-self.ensures ∙ ap (λ (bytes : List ℕ). was.place + length bytes + 1) c.deref.ensures.value))
+    (omega (arith, c.len-in-Some.ensures, c.in-Some.oldest.ok.0))

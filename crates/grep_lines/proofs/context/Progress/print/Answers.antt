@@ -1,4 +1,4 @@
-use Rattle.std.proofs.Common.{ℕ, Bool, Option, false, true, ◌≡◌, ◌==◌, ◌++◌, ◌∷◌, [], List, cond, ne_eqb, subst, sym}
+use Rattle.std.proofs.Common.{ℕ, Bool, Option, ◌++◌, ◌∷◌, [], List, cond, ne_eqb, subst, sym}
 use Rattle.std.proofs.lemmas.Bool.{eq-eqb}
 use Rattle.grep_lines.specs.Context.{Part, Prints, gap}
 use Rattle.grep_lines.specs.Context.Part.{line_of, separator}

@@ -1,12 +1,12 @@
-use Rattle.std.proofs.Common.{ℕ, false, true, ◌≡◌, ◌<◌, ◌≤◌, ◌+◌, ◌∙◌, ◌++◌, ◌∷◌, [], List, Some, ap, ap₂, append_assoc, arith, length, refl, subst, sym}
+use Rattle.std.proofs.Common.{ℕ, false, ◌≡◌, ◌<◌, ◌+◌, ◌∙◌, ◌++◌, ◌∷◌, [], List, Some, ap, ap₂, append_assoc, arith, length, refl, subst, sym}
 use Rattle.grep_lines.specs.Ahead.{IsSound, ahead, ahead_of, contents}
-use Rattle.grep_lines.specs.Context.{Marked, Prints, gap, line_of}
+use Rattle.grep_lines.specs.Context.{Prints, gap, line_of}
 use Rattle.grep_lines.specs.declared.context.Progress.{Progress}
 use Rattle.grep_lines.proofs.ContextLemmas.{ahead_kept, contents_length, prints_both, prints_none}
 use Rattle.grep_lines.proofs.context.Progress.print_kept.Goals as goal
 
 pub loop-line-init : goal.loop-line-init
-loop-line-init g c = record { flushed = ([], prints_none _, λ m rest h. refl); sound = c.requires.sound; same = refl; sum = refl }
+loop-line-init g c = record { flushed = ([], prints_none _, λ m rest h. refl); sound = c.requires.sound; placed = c.requires.placed; same = refl; sum = refl }
 
 -- one more was printed
 pub loop-line-preserved : goal.loop-line-preserved
@@ -41,6 +41,7 @@ loop-line-preserved g c =
             ∙ sym (append_assoc parts (gap was.behind was.next ++ line_of (record { number = was.next; place = was.place; selected = false; line = line.items }) ∷ []) _),
       );
       sound = subst (λ p. IsSound e p) (sym new) (record { within = omega (arith, ap length is, inv.sound.within); idle = λ _. none });
+      placed = c.in_ok-print.ensures.placed;
       same = c.print.ensures.same ∙ inv.same;
       sum = ap (λ (p : Progress). p.next + length p.kept.items) new ∙ omega (arith, ap length is, inv.sum);
     }

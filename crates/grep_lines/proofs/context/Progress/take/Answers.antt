@@ -1,8 +1,8 @@
-use Rattle.std.proofs.Common.{Bool, ℕ, true, ◌≡◌, ◌+◌, ◌∙◌, ◌++◌, ◌∷◌, [], List, Some, ap, ap₂, append_assoc, length, subst, sym}
+use Rattle.std.proofs.Common.{Bool, ℕ, true, ◌+◌, ◌∙◌, ◌++◌, ◌∷◌, [], List, Some, ap, ap₂, append_assoc, length, subst, sym}
 use Rattle.std.specs.Prelude.{Vec}
 use Rattle.std.specs.declared.alloc.Global.{Global}
 use Rattle.grep_lines.specs.Ahead.{ahead_of, contents}
-use Rattle.grep_lines.specs.Context.{Marked, Part, Prints, gap, line_of}
+use Rattle.grep_lines.specs.Context.{Part, Prints, gap, line_of}
 use Rattle.grep_lines.specs.declared.context.Progress.{Progress}
 use Rattle.grep_lines.proofs.ContextLemmas.{ahead_selected, prints_both}
 use Rattle.grep_lines.proofs.context.Progress.take.Goals as goal
