@@ -2,5 +2,6 @@ pub mod Counted
 pub mod Filling
 pub mod Lasts
 pub mod Limited
+pub mod Lives
 pub mod Marked
 pub mod Texts

@@ -42,14 +42,15 @@ matches_in r text start end = matches_by_kind (regex_kind r) (search_in r text s
 abbrev pub left_in : Searching → List ℕ → ℕ → List Found
 left_in s text end = matches_by_kind (regex_kind s.regex) (search_in s.regex text s.from end) s.from s.last
 
--- the same regex, and the same state of the iteration
+-- the same regex, the same state of the iteration, and the same list
 pub record IsSame (s t : Searching) : Type 0 where
   pub regex : t.regex ≡ s.regex
   pub from : t.from ≡ s.from
   pub last : t.last ≡ s.last
+  pub live : t.live ≡ s.live
 
--- The searcher is of the patterns as which these texts are read, under these settings, and its iteration begins where the text does. No
--- refusal but out of memory applies.
+-- The searcher is of the patterns as which these texts are read, under these settings. Its iteration begins where the text does, and it keeps
+-- no list. No refusal but out of memory applies.
 pub record IsBuilt (settings : Settings) (patterns : List (Bor (List ℕ))) (s : Searching) : Type 0 where
   pub kind : MatchKind
   pub kinded : kind_of settings.kind ≡ Some kind
@@ -60,6 +61,7 @@ pub record IsBuilt (settings : Settings) (patterns : List (Bor (List ℕ))) (s :
   pub set : regex_settings s.regex ≡ search_settings settings kind
   pub from : s.from ≡ 0
   pub last : s.last ≡ None
+  pub live : s.live ≡ None
 
 -- some kind has the number
 abbrev pub HasKind : Settings → Type 0

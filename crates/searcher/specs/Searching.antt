@@ -1,12 +1,19 @@
 -- What a searcher holds, as contracts see it.
 use Rattle.std.specs.Prelude.{ℕ, Option}
 use Rattle.rc_captures.specs.declared.captures.Captures.{Captures}
+use Rattle.rc_program.specs.Matches.{AreInOrder, begin_of, end_of}
 use Rattle.api_meta.specs.declared.regex.Regex.{Regex}
+use Rattle.live_matches.specs.Live.{Listed, listed}
 
--- A regex, the groups of its last search for groups, and the state of an iteration: where the next search begins, and where the match
--- before it ended.
+-- A regex, the groups of its last search for groups, the state of an iteration: where the next search begins, and where the match before it
+-- ended; and the list of the matches of a text, if it keeps one.
 pub record Searching : Type 0 where
   pub regex : Regex
   pub captures : Captures
   pub from : ℕ
   pub last : Option ℕ
+  pub live : Option Listed
+
+-- Each match of the list begins where the one before ended or later.
+abbrev pub IsInOrder : Listed → Type 0
+IsInOrder l = AreInOrder begin_of end_of 18446744073709551615 (listed l)

@@ -53,6 +53,21 @@ pub enum Fault {
     Outside,
 }
 
+/// Why a call on a live list failed.
+#[derive(Clone, Copy)]
+pub enum ListFault {
+    /// The searcher keeps no list.
+    NoList,
+    /// The edit ends before it begins, or behind the end of the list's text.
+    Outside,
+    /// The number of bytes in the chunks reaches the greatest `usize`.
+    TooLong,
+    /// The number of bytes in the chunks isn't the one that the edit gives.
+    Misfit,
+    /// Out of memory. The list is gone.
+    Memory,
+}
+
 /// Why there is no searcher.
 #[derive(Clone, Copy)]
 pub enum Refusal {
@@ -166,5 +181,16 @@ impl<T: Drop> From<AllocFailed<T>> for Refusal {
 
     fn from(_: AllocFailed<T>) -> Refusal {
         Refusal::Memory
+    }
+}
+
+impl From<AllocError> for ListFault {
+    ghost use Rattle.std.specs.Prelude.{◌≡◌};
+    ghost use Rattle.searcher.specs.declared.answers.ListFault.TheVariants.{Memory};
+
+    ghost from_gives = { λ _ r. r ≡ Memory };
+
+    fn from(_: AllocError) -> ListFault {
+        ListFault::Memory
     }
 }

@@ -15,6 +15,7 @@ use crate::parts::Parts;
 use crate::settings::Settings;
 use api_meta::cache::Cache;
 use api_meta::regex::Regex;
+use live_matches::LiveMatches;
 use rc_captures::captures::Captures;
 use rc_pattern_set::sets::PatternSet;
 use rc_settings::error::BuildError;
@@ -24,11 +25,15 @@ use rc_text::types::{Anchored, Match, MatchKind, Span};
 use std::alloc::{AllocError, Global};
 use std::marker::Model;
 
+mod lives;
+
+pub use lives::fill_window;
+
 /// How many patterns are searched for at most, so that each has a number.
 const MAX_PATTERNS: usize = 2_147_483_647;
 
 /// A regex with everything that its searches need: a cache, captures, a set of its patterns, and
-/// the state of an iteration.
+/// the state of an iteration. It may also keep the list of the matches of a text.
 ///
 /// It doesn't keep the text. You pass the chunks to each search, which says what the text is. No
 /// search fails for lack of memory: its cache may grow up to a limit, and if it can't grow, the
@@ -41,34 +46,43 @@ pub struct Searcher {
     set: PatternSet,
     from: usize,
     last: Option<usize>,
+    live: Option<LiveMatches>,
 }
 
 impl Model for Searcher {
     ghost use Rattle.std.specs.Coded.{codes};
-    ghost use Rattle.std.specs.Prelude.{◌≡◌, ◌≤◌, length};
+    ghost use Rattle.std.specs.Prelude.{◌≡◌, ◌≤◌, IfSome, length};
     ghost use Rattle.rc_text.specs.Limits.{most_patterns};
     ghost use Rattle.rc_captures.specs.contracts.captures.Captures as captured;
     ghost use Rattle.rc_pikevm_search.specs.Tells.{KeepsAll};
     ghost use Rattle.api_meta.specs.Caches.{IsCacheFor};
     ghost use Rattle.api_meta.specs.Views.{regex_names, regex_patterns, regex_settings};
     ghost use Rattle.api_meta.specs.contracts.regex.Regex as regexes;
-    ghost use Rattle.searcher.specs.Searching.{Searching};
+    ghost use Rattle.live_matches.specs.contracts.live.LiveMatches as lists;
+    ghost use Rattle.searcher.specs.Searching.{IsInOrder, Searching};
 
     ghost Value = { Searching };
 
-    ghost coded = { Prim.hlevel (codes, regexes.the_row.coded, captured.the_row.coded) };
+    ghost coded = { Prim.hlevel (
+      codes,
+      regexes.the_row.coded,
+      captured.the_row.coded,
+      lists.the_row.coded,
+    ) };
 
     ghost view = { λ s. record {
       regex = s.regex;
       captures = s.captures;
       from = s.from;
       last = s.last;
+      live = s.live;
     } };
 
     ghost invariant = { λ s. IsCacheFor (regex_patterns s.regex) (regex_settings s.regex) s.cache
         × KeepsAll (regex_names s.regex) s.captures
         × (length s.set ≡ length (regex_patterns s.regex))
-        × (length s.set ≤ most_patterns) };
+        × (length s.set ≤ most_patterns)
+        × IfSome s.live IsInOrder };
 }
 
 impl Searcher {
@@ -302,6 +316,7 @@ impl Searcher {
         ensures refused { OnErr result (self.new ≡ self.old) }
         ensures regex { self.new.regex ≡ self.old.regex }
         ensures captures { self.new.captures ≡ self.old.captures }
+        ensures live { self.new.live ≡ self.old.live }
     {
         let mut input = input_over(chunks, self.from, end)?;
         let filled = batch::fill(&self.regex, &mut self.cache, &mut input, self.last, batch);
@@ -376,6 +391,7 @@ fn with_cache(alloc: Global, regex: Regex) -> Result<Searcher, AllocError>
     ensures regex { IfOk result (λ s. s.regex ≡ regex) }
     ensures from { IfOk result (λ s. s.from ≡ 0) }
     ensures last { IfOk result (λ s. s.last ≡ None) }
+    ensures live { IfOk result (λ s. s.live ≡ None) }
 {
     let Ok(cache) = regex.create_cache(alloc) else {
         drop(regex);
@@ -399,6 +415,7 @@ fn with_cache(alloc: Global, regex: Regex) -> Result<Searcher, AllocError>
         set,
         from: 0,
         last: None,
+        live: None,
     })
 }
 
