@@ -10,12 +10,13 @@
  *   - A handle begins as bytes that are 0 (`struct zf_handle handle = {0};`). It may be moved. It is not copied, and what is in it is
  *     neither read nor written but by the calls.
  *   - A handle is used by one thread at a time, and stays with the thread that compiled it. Handles share nothing.
+ *   - The text that zf_live_edit is given is that of the list, edited as the call says.
  *   - No call is made from a signal handler.
  *   - 256 KiB of stack are left. zf_compile needs most of them if a pattern is nested 250 levels deep; docs/STACK.md has figures.
  * There is nothing else to owe: each call tests its handle, its range, its UTF-8 and its capacities, and answers a status.
  *
  * Who owns what: a full handle owns memory, which malloc gave and zf_free or the next zf_compile gives back. All else is the caller's.
- * Only zf_compile, zf_explain and zf_replace take memory, but for searches of some patterns, whose cache may grow up to a limit, which
+ * Only zf_compile, zf_explain, zf_replace, zf_live_new and zf_live_edit take memory, but for searches of some patterns, whose cache may grow up to a limit, which
  * the settings may set; where that is refused they go on without it, and answer the same.
  */
 #ifndef ZORFELITH_H
@@ -36,7 +37,7 @@ enum {
     ZF_FOUND = 1,     /* There is a match. */
     ZF_EMPTY = 2,     /* The handle is empty. */
     ZF_TOO_LONG = 3,  /* The chunks hold SIZE_MAX bytes, or more. */
-    ZF_OUTSIDE = 4,   /* The range begins behind its end, or behind the text's. */
+    ZF_OUTSIDE = 4,   /* The range begins behind its end, or behind the text's; or an edit lies outside of a list's text. */
     ZF_ABSENT = 5,    /* There is no such pattern or group, or it has no name. */
     ZF_SHORT = 6,     /* The place for a name or another text is too short. */
     ZF_NOT_UTF8 = 7,  /* The bytes of a pattern, a name, a text to escape or a template aren't UTF-8. */
@@ -44,7 +45,9 @@ enum {
     ZF_TOO_LARGE = 9, /* The patterns are too large, or more than 2,147,483,647. */
     ZF_MEMORY = 10,   /* Memory was refused. */
     ZF_NO_KIND = 11,  /* No kind of match has the number; or the kind has no groups, to replace by. */
-    ZF_UNKNOWN = 12   /* The settings have a byte that is on behind those that the library knows. */
+    ZF_UNKNOWN = 12,  /* The settings have a byte that is on behind those that the library knows. */
+    ZF_NO_LIST = 13,  /* The handle keeps no live list. */
+    ZF_MISFIT = 14    /* The chunks don't have the length that an edit gives. */
 };
 
 /* The version of this header: 1,000,000 times its first number, 1,000 times its second, and its third. */
@@ -70,7 +73,8 @@ static inline struct zf_bytes zf_bytes_of(const void *bytes, size_t len) {
     return some;
 }
 
-/* A compiled list of patterns, with its cache and the state of an iteration. All of it is the library's. */
+/* A compiled list of patterns, with its cache, the state of an iteration, and the live list of a text, if it keeps one. All of it is the
+ * library's. */
 struct zf_handle {
     uint8_t full;
     void *held;
@@ -145,6 +149,16 @@ struct zf_replaced {
 struct zf_parts {
     size_t patterns;
     size_t cache;
+};
+
+/* What an edit changed in a live list. The matches before `first` stay as they are. Of the others `dropped` went, `added` came in their place,
+ * and all behind them moved with the text. */
+struct zf_change {
+    size_t first;
+    size_t dropped;
+    size_t added;
+    size_t start; /* where the bytes to draw anew begin, in the text as it is now; they have those that were inserted */
+    size_t end;   /* where they end. Outside, the list has the matches that it had, those below moved with the text. */
 };
 
 /* How far an iteration has come. */
@@ -242,6 +256,47 @@ uint32_t zf_next(struct zf_handle *handle, const struct zf_bytes *chunks, size_t
  * ZF_NO_KIND: the kind is ZF_ALL. Else ZF_EMPTY, ZF_NOT_UTF8 (the template), ZF_TOO_LONG, ZF_MEMORY. The iteration stays as it was. */
 uint32_t zf_replace(struct zf_handle *handle, const struct zf_bytes *chunks, size_t chunk_count, const uint8_t *template_bytes,
                     size_t template_len, uint8_t *place, size_t place_len, struct zf_replaced *replaced);
+
+/* Live lists. A handle may keep the list of all matches of a text, those of zf_next from 0 on, and keeps it under edits of that text: after an
+ * edit it searches only what the edit may have changed. The text itself isn't kept. All other calls leave the list as it is, but for
+ * zf_compile and zf_free, which free it. Each call on a list is ZF_NO_LIST if the handle keeps none. */
+
+/* Makes the list of the whole text, in place of the one that the handle keeps. ZF_DONE; ZF_EMPTY; ZF_TOO_LONG, and the list stays as it was; or
+ * ZF_MEMORY, and there is no list. The iteration stays as it was. */
+uint32_t zf_live_new(struct zf_handle *handle, const struct zf_bytes *chunks, size_t chunk_count);
+
+/* Keeps the list under an edit: of the text that it is of, the bytes from `start` to `end` were replaced by `inserted` others. The chunks are
+ * the whole text as it is now, cut in any way.
+ *
+ * ZF_DONE: the list is that of the new text, and `change` is written. ZF_NO_LIST. ZF_OUTSIDE: `start` is behind `end`, or `end` behind the
+ * end of the list's text. ZF_TOO_LONG. ZF_MISFIT: the new text doesn't have the length that the edit gives. ZF_MEMORY: there is no list any
+ * more, and zf_live_new makes one anew. ZF_EMPTY. After all but ZF_DONE and ZF_MEMORY the list is as it was, and still that of the old text.
+ *
+ * What the caller owes: before `start` and behind the edit, the new text has the bytes of the old one, the text of the call before on this
+ * list. That can't be tested, and nothing is promised of what follows if it isn't so, until zf_live_new. */
+uint32_t zf_live_edit(struct zf_handle *handle, size_t start, size_t end, size_t inserted, const struct zf_bytes *chunks, size_t chunk_count,
+                      struct zf_change *change);
+
+/* Frees the list. ZF_DONE, also if there was none; or ZF_EMPTY. */
+uint32_t zf_live_free(struct zf_handle *handle);
+
+/* How many matches the list has. ZF_DONE, ZF_NO_LIST or ZF_EMPTY. */
+uint32_t zf_live_len(struct zf_handle *handle, size_t *len);
+
+/* The match of the list with this index, from 0 on. ZF_FOUND, and it is written to `found`, which else stays as it was; ZF_DONE: there are no
+ * more. ZF_NO_LIST or ZF_EMPTY. */
+uint32_t zf_live_get(struct zf_handle *handle, size_t index, struct zf_match *found);
+
+/* The first match of the list that begins at `place` or later. It reads no text. Statuses and `found` as zf_live_get. */
+uint32_t zf_live_next(struct zf_handle *handle, size_t place, struct zf_match *found);
+
+/* The last match of the list that begins before `place`. It reads no text. Statuses and `found` as zf_live_get. */
+uint32_t zf_live_previous(struct zf_handle *handle, size_t place, struct zf_match *found);
+
+/* Fills `batch` with the first matches of the list that touch the bytes from `start` to `end`, in order, and writes to `count` how many these
+ * are. If the batch isn't full, *count < batch_len, these are all. A match with a byte there touches them, also one that begins above, and
+ * so does an empty one there or at one of the ends. ZF_DONE, ZF_NO_LIST or ZF_EMPTY. */
+uint32_t zf_live_window(struct zf_handle *handle, size_t start, size_t end, struct zf_match *batch, size_t batch_len, size_t *count);
 
 /* How many patterns there are. ZF_DONE or ZF_EMPTY. */
 uint32_t zf_pattern_count(struct zf_handle *handle, size_t *count);

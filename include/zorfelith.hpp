@@ -45,6 +45,10 @@ using settings = zf_settings;
 // A match: the number of its pattern, where it starts, and where it ends.
 using match = zf_match;
 
+// What an edit changed in a live list: the matches before `first` stay, `dropped` went from there on, and `added` came in their place. The bytes
+// from `start` to `end` of the new text are to be drawn anew.
+using change = zf_change;
+
 // Some bytes: a chunk of a text, or a pattern. It borrows them.
 struct chunk : zf_bytes {
     chunk() noexcept : zf_bytes{zf_none, 0} {}
@@ -126,6 +130,8 @@ class error : public std::runtime_error {
         case ZF_TOO_LARGE: return "the patterns are too large";
         case ZF_MEMORY: return "out of memory";
         case ZF_NO_KIND: return "there is no such kind of match";
+        case ZF_NO_LIST: return "the regex keeps no live list";
+        case ZF_MISFIT: return "the text doesn't have the length that the edit gives";
         default: return "status " + std::to_string(refused.status);
         }
     }
@@ -295,6 +301,60 @@ class regex {
     // The matches in the range, from left to right, as a range to loop over. It borrows the regex and the chunks.
     zorfelith::matches matches(text in, range within = {}) &;
     zorfelith::matches matches(text in, range within = {}) && = delete;
+
+    // Makes the list of all matches of the text, and keeps it, in place of another one.
+    void live_new(text in) { told(zf_live_new(&handle_, first(in), in.size())); }
+
+    // Keeps the list under an edit: the bytes of `replaced` were replaced by `inserted` others, and the text is the whole text as it is now. It has
+    // to be the text of the call before on the list but for that edit. Out of memory there is no list any more.
+    change live_edit(range replaced, std::size_t inserted, text now) {
+        change made{};
+        told(zf_live_edit(&handle_, replaced.start, replaced.end, inserted, first(now), now.size(), &made));
+        return made;
+    }
+
+    // Frees the list.
+    void live_free() { told(zf_live_free(&handle_)); }
+
+    // How many matches the list has.
+    std::size_t live_size() {
+        std::size_t len = 0;
+        told(zf_live_len(&handle_, &len));
+        return len;
+    }
+
+    // The match of the list with this index, if there is one.
+    std::optional<match> live_get(std::size_t index) {
+        match found{};
+        if (!told(zf_live_get(&handle_, index, &found)))
+            return std::nullopt;
+        return found;
+    }
+
+    // The first match of the list that begins at the place or later.
+    std::optional<match> live_next(std::size_t place) {
+        match found{};
+        if (!told(zf_live_next(&handle_, place, &found)))
+            return std::nullopt;
+        return found;
+    }
+
+    // The last match of the list that begins before the place.
+    std::optional<match> live_previous(std::size_t place) {
+        match found{};
+        if (!told(zf_live_previous(&handle_, place, &found)))
+            return std::nullopt;
+        return found;
+    }
+
+    // The matches of the list that touch the range, at most so many.
+    std::vector<match> live_window(range window, std::size_t most = 1024) {
+        std::vector<match> batch(most > 0 ? most : 1);
+        std::size_t count = 0;
+        told(zf_live_window(&handle_, window.start, window.end, batch.data(), most, &count));
+        batch.resize(count);
+        return batch;
+    }
 
     std::size_t pattern_count() {
         std::size_t count = 0;

@@ -176,6 +176,72 @@ static void call_memory_parts(struct zf_handle *handle) {
     wanted("bytes", zf_memory_parts(handle, &parts), ZF_DONE);
 }
 
+/* Makes a list of the text. */
+static void with_list(struct zf_handle *handle) { wanted("a list", zf_live_new(handle, text, 2), ZF_DONE); }
+
+static void call_live_new(struct zf_handle *handle) {
+    with_list(handle);
+    with_list(handle);
+    wanted("compiled with a list", compile(handle, compiled, ZF_LEFTMOST_FIRST), ZF_DONE);
+    wanted("a list of a short text", zf_live_new(handle, short_text, 1), ZF_DONE);
+}
+
+static void call_live_edit(struct zf_handle *handle) {
+    struct zf_change change;
+    wanted("no list", zf_live_edit(handle, 0, 0, 0, text, 2, &change), ZF_NO_LIST);
+    with_list(handle);
+    wanted("behind the text", zf_live_edit(handle, 9, 10, 1, text, 2, &change), ZF_OUTSIDE);
+    wanted("another length", zf_live_edit(handle, 0, 1, 2, text, 2, &change), ZF_MISFIT);
+    wanted("an edit", zf_live_edit(handle, 1, 9, 0, short_text, 1, &change), ZF_DONE);
+    wanted("an edit", zf_live_edit(handle, 1, 1, 8, text, 2, &change), ZF_DONE);
+}
+
+static void call_live_free(struct zf_handle *handle) {
+    with_list(handle);
+    wanted("freed", zf_live_free(handle), ZF_DONE);
+    wanted("freed again", zf_live_free(handle), ZF_DONE);
+}
+
+static void call_live_len(struct zf_handle *handle) {
+    size_t len;
+    wanted("no list", zf_live_len(handle, &len), ZF_NO_LIST);
+    with_list(handle);
+    wanted("a count", zf_live_len(handle, &len), ZF_DONE);
+}
+
+static void call_live_get(struct zf_handle *handle) {
+    struct zf_match found;
+    wanted("no list", zf_live_get(handle, 0, &found), ZF_NO_LIST);
+    with_list(handle);
+    wanted("a match", zf_live_get(handle, 1, &found), ZF_FOUND);
+    wanted("no more", zf_live_get(handle, 2, &found), ZF_DONE);
+}
+
+static void call_live_next(struct zf_handle *handle) {
+    struct zf_match found;
+    wanted("no list", zf_live_next(handle, 0, &found), ZF_NO_LIST);
+    with_list(handle);
+    wanted("a match", zf_live_next(handle, 3, &found), ZF_FOUND);
+    wanted("no more", zf_live_next(handle, 7, &found), ZF_DONE);
+}
+
+static void call_live_previous(struct zf_handle *handle) {
+    struct zf_match found;
+    wanted("no list", zf_live_previous(handle, 0, &found), ZF_NO_LIST);
+    with_list(handle);
+    wanted("a match", zf_live_previous(handle, 3, &found), ZF_FOUND);
+    wanted("none before", zf_live_previous(handle, 2, &found), ZF_DONE);
+}
+
+static void call_live_window(struct zf_handle *handle) {
+    struct zf_match batch[1];
+    size_t count;
+    wanted("no list", zf_live_window(handle, 0, 9, batch, 1, &count), ZF_NO_LIST);
+    with_list(handle);
+    wanted("a window", zf_live_window(handle, 0, 9, batch, 1, &count), ZF_DONE);
+    wanted("no places", zf_live_window(handle, 0, 9, batch, 0, &count), ZF_DONE);
+}
+
 static const struct {
     const char *name;
     void (*call)(struct zf_handle *);
@@ -200,6 +266,14 @@ static const struct {
     {"zf_find_last", call_find_last},
     {"zf_replace", call_replace},
     {"zf_memory_parts", call_memory_parts},
+    {"zf_live_new", call_live_new},
+    {"zf_live_edit", call_live_edit},
+    {"zf_live_free", call_live_free},
+    {"zf_live_len", call_live_len},
+    {"zf_live_get", call_live_get},
+    {"zf_live_next", call_live_next},
+    {"zf_live_previous", call_live_previous},
+    {"zf_live_window", call_live_window},
 };
 
 int main(int argc, char **argv) {

@@ -1,6 +1,7 @@
 pub mod Escaping
 pub mod Explaining
 pub mod Held
+pub mod Lives
 pub mod Names
 pub mod Options
 pub mod Refusals

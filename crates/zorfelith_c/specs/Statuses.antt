@@ -52,3 +52,11 @@ no_kind = 11
 -- the settings have a byte that is on behind those that are known
 abbrev pub unknown : ℕ
 unknown = 12
+
+-- the handle keeps no live list
+abbrev pub no_list : ℕ
+no_list = 13
+
+-- the chunks don't have the length that an edit gives
+abbrev pub misfit : ℕ
+misfit = 14

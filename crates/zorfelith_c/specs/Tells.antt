@@ -51,7 +51,7 @@ abbrev pub TellsMarks : Regex → List (Bor (List ℕ)) → ℕ → ℕ → ℕ 
 TellsMarks r chunks start end status marks =
     TellsOf (AreMarks (length (regex_patterns r)) (search_in r (joined chunks) start end) marks) ⊥ chunks start end status
 
--- The groups are those of the match in the text, as far as there are places for them; and the state of the iteration stays.
+-- The groups are those of the match in the text, as far as there are places for them; and the state of the iteration stays, and the list.
 pub record HoldsGroups (s : Searching) (chunks : List (Bor (List ℕ))) (start end : ℕ) (groups : List GroupAt) (t : Searching) : Type 0 where
   pub told : TellsBy (regex_kind s.regex) (search_in s.regex (joined chunks) start end) t.captures
   pub whole : KeepsAll (regex_names s.regex) t.captures
@@ -70,6 +70,7 @@ pub record IsBatch (s : Searching) (text : List ℕ) (end : ℕ) (batch : List M
   pub next : p.next ≡ t.from
   pub regex : t.regex ≡ s.regex
   pub captures : t.captures ≡ s.captures
+  pub live : t.live ≡ s.live
 
 -- what a call for a batch tells, and what it leaves in the handle: after a fault what was there
 abbrev pub TellsBatch : Searching → List (Bor (List ℕ)) → ℕ → ℕ → List MatchAt → Progress → Option Searching → Type 0

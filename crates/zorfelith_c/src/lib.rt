@@ -11,6 +11,7 @@ pub mod explain;
 pub mod groups;
 pub mod handle;
 pub mod held;
+pub mod live;
 mod options;
 pub mod replace;
 pub mod search;

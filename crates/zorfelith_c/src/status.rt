@@ -26,3 +26,7 @@ pub const MEMORY: u32 = 10;
 pub const NO_KIND: u32 = 11;
 /// The settings have a byte that is on behind those that are known.
 pub const UNKNOWN: u32 = 12;
+/// The handle keeps no live list.
+pub const NO_LIST: u32 = 13;
+/// The number of bytes in the chunks isn't the one that an edit gives.
+pub const MISFIT: u32 = 14;

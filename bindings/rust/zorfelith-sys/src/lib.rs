@@ -18,6 +18,8 @@ pub const ZF_TOO_LARGE: u32 = 9;
 pub const ZF_MEMORY: u32 = 10;
 pub const ZF_NO_KIND: u32 = 11;
 pub const ZF_UNKNOWN: u32 = 12;
+pub const ZF_NO_LIST: u32 = 13;
+pub const ZF_MISFIT: u32 = 14;
 
 /// The version that these declarations are of.
 pub const ZF_VERSION: u32 = 1000;
@@ -104,6 +106,16 @@ pub struct zf_replaced {
 pub struct zf_parts {
     pub patterns: usize,
     pub cache: usize,
+}
+
+#[repr(C)]
+#[derive(Clone, Copy, Debug, Default, PartialEq, Eq)]
+pub struct zf_change {
+    pub first: usize,
+    pub dropped: usize,
+    pub added: usize,
+    pub start: usize,
+    pub end: usize,
 }
 
 #[repr(C)]
@@ -198,6 +210,29 @@ unsafe extern "C" {
         place: *mut u8,
         place_len: usize,
         replaced: *mut zf_replaced,
+    ) -> u32;
+    pub fn zf_live_new(handle: *mut zf_handle, chunks: *const zf_bytes<'_>, chunk_count: usize) -> u32;
+    pub fn zf_live_edit(
+        handle: *mut zf_handle,
+        start: usize,
+        end: usize,
+        inserted: usize,
+        chunks: *const zf_bytes<'_>,
+        chunk_count: usize,
+        change: *mut zf_change,
+    ) -> u32;
+    pub fn zf_live_free(handle: *mut zf_handle) -> u32;
+    pub fn zf_live_len(handle: *mut zf_handle, len: *mut usize) -> u32;
+    pub fn zf_live_get(handle: *mut zf_handle, index: usize, found: *mut zf_match) -> u32;
+    pub fn zf_live_next(handle: *mut zf_handle, place: usize, found: *mut zf_match) -> u32;
+    pub fn zf_live_previous(handle: *mut zf_handle, place: usize, found: *mut zf_match) -> u32;
+    pub fn zf_live_window(
+        handle: *mut zf_handle,
+        start: usize,
+        end: usize,
+        batch: *mut zf_match,
+        batch_len: usize,
+        count: *mut usize,
     ) -> u32;
     pub fn zf_pattern_count(handle: *mut zf_handle, count: *mut usize) -> u32;
     pub fn zf_group_count(handle: *mut zf_handle, pattern: usize, count: *mut usize) -> u32;
