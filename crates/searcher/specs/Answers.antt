@@ -49,6 +49,13 @@ pub record IsSame (s t : Searching) : Type 0 where
   pub last : t.last ≡ s.last
   pub live : t.live ≡ s.live
 
+-- The second searcher is of the regex of the first, its iteration begins where the text does, and it keeps no list.
+pub record IsShare (s t : Searching) : Type 0 where
+  pub regex : t.regex ≡ s.regex
+  pub from : t.from ≡ 0
+  pub last : t.last ≡ None
+  pub live : t.live ≡ None
+
 -- The searcher is of the patterns as which these texts are read, under these settings. Its iteration begins where the text does, and it keeps
 -- no list. No refusal but out of memory applies.
 pub record IsBuilt (settings : Settings) (patterns : List (Bor (List ℕ))) (s : Searching) : Type 0 where

@@ -1,4 +1,5 @@
 //! Searcher: a regex with its cache, the groups of a match, and the state of an iteration.
+ghost use Rattle.std.specs.Arc.{arc_value};
 ghost use Rattle.std.specs.Prelude.{◌≡◌, ◌≤◌, IfErr, IfOk, None, OnOk, Some, length};
 ghost use Rattle.rc_text.specs.Limits.{most_patterns};
 ghost use Rattle.rc_build.specs.Refusals.{IsBuildable};
@@ -24,6 +25,7 @@ use rc_text::input::{Input, content_fits};
 use rc_text::types::{Anchored, Match, MatchKind, Span};
 use std::alloc::{AllocError, Global};
 use std::marker::Model;
+use std::sync::Arc;
 
 mod lives;
 
@@ -37,10 +39,10 @@ const MAX_PATTERNS: usize = 2_147_483_647;
 ///
 /// It doesn't keep the text. You pass the chunks to each search, which says what the text is. No
 /// search fails for lack of memory: its cache may grow up to a limit, and if it can't grow, the
-/// result is the same.
+/// result is the same. Several searchers may share one regex, each in a thread of its own.
 #[derive(Drop)]
 pub struct Searcher {
-    regex: Regex,
+    regex: Arc<Regex>,
     cache: Cache,
     captures: Captures,
     set: PatternSet,
@@ -50,6 +52,7 @@ pub struct Searcher {
 }
 
 impl Model for Searcher {
+    ghost use Rattle.std.specs.Arc.{arc_value};
     ghost use Rattle.std.specs.Coded.{codes};
     ghost use Rattle.std.specs.Prelude.{◌≡◌, ◌≤◌, IfSome, length};
     ghost use Rattle.rc_text.specs.Limits.{most_patterns};
@@ -71,16 +74,17 @@ impl Model for Searcher {
     ) };
 
     ghost view = { λ s. record {
-      regex = s.regex;
+      regex = arc_value s.regex;
       captures = s.captures;
       from = s.from;
       last = s.last;
       live = s.live;
     } };
 
-    ghost invariant = { λ s. IsCacheFor (regex_patterns s.regex) (regex_settings s.regex) s.cache
-        × KeepsAll (regex_names s.regex) s.captures
-        × (length s.set ≡ length (regex_patterns s.regex))
+    ghost invariant = { λ s. IsCacheFor (regex_patterns (arc_value s.regex))
+        (regex_settings (arc_value s.regex)) s.cache
+        × KeepsAll (regex_names (arc_value s.regex)) s.captures
+        × (length s.set ≡ length (regex_patterns (arc_value s.regex)))
         × (length s.set ≤ most_patterns)
         × IfSome s.live IsInOrder };
 }
@@ -90,7 +94,7 @@ impl Searcher {
     ghost use Rattle.rc_pikevm_search.specs.Tells.{KeepsAll, TellsBy};
     ghost use Rattle.api_meta.specs.Views.{regex_kind, regex_names};
     ghost use Rattle.rc_text.specs.Joined.{joined};
-    ghost use Rattle.searcher.specs.Answers.{IsBuilt, IsRefused, IsSame, answer_at, answer_in, left_in, matches_in, search_in};
+    ghost use Rattle.searcher.specs.Answers.{IsBuilt, IsRefused, IsSame, IsShare, answer_at, answer_in, left_in, matches_in, search_in};
     ghost use Rattle.searcher.specs.Last.{last_before};
     ghost use Rattle.searcher.specs.Places.{AreMarks, IsFilled};
     ghost use Rattle.searcher.specs.Ranges.{IsFault, IsServed};
@@ -112,7 +116,7 @@ impl Searcher {
         }
         let texts = texts_of(alloc, patterns)?;
         let regex = build(alloc, &texts, settings, kind)?;
-        let searcher = with_cache(alloc, regex)?;
+        let searcher = with_cache(alloc, Arc::new(alloc, regex)?)?;
         Ok(searcher)
     }
 
@@ -126,6 +130,17 @@ impl Searcher {
         ensures refused { IfErr result (IsRefused settings.now patterns.now) }
     {
         let searcher = Searcher::new(alloc, patterns, settings)?;
+        Ok(Box::new(alloc, searcher)?)
+    }
+
+    /// Returns another searcher of the same regex, on the heap. Its iteration is before the first byte
+    /// of the text, and it keeps no list. Nothing is compiled again: what is compiled is shared, and
+    /// freed with the last of the searchers.
+    pub fn share(&self, alloc: Global) -> Result<Box<Searcher>, AllocError>
+        ensures { IfOk result (λ b. IsShare self.now b.value) }
+    {
+        let regex = Arc::try_clone(&self.regex)?;
+        let searcher = with_cache(alloc, regex)?;
         Ok(Box::new(alloc, searcher)?)
     }
 
@@ -386,9 +401,9 @@ fn build(
 }
 
 /// Returns the searcher of a regex.
-fn with_cache(alloc: Global, regex: Regex) -> Result<Searcher, AllocError>
-    requires { length (regex_patterns regex) ≤ most_patterns }
-    ensures regex { IfOk result (λ s. s.regex ≡ regex) }
+fn with_cache(alloc: Global, regex: Arc<Regex>) -> Result<Searcher, AllocError>
+    requires { length (regex_patterns (arc_value regex)) ≤ most_patterns }
+    ensures regex { IfOk result (λ s. s.regex ≡ arc_value regex) }
     ensures from { IfOk result (λ s. s.from ≡ 0) }
     ensures last { IfOk result (λ s. s.last ≡ None) }
     ensures live { IfOk result (λ s. s.live ≡ None) }

@@ -1,6 +1,9 @@
 use Rattle.std.proofs.Common.{ap, ◌∙◌}
+use Rattle.std.specs.Arc.{arc_value}
 use Rattle.rc_text.specs.Joined.{joined}
 use Rattle.rc_program.specs.Kinds.{answer_by}
+use Rattle.rc_program.specs.Sought.{search_for}
+use Rattle.api_meta.specs.declared.regex.Regex.{Regex}
 use Rattle.api_meta.specs.Views.{regex_kind, sought}
 use Rattle.searcher.specs.Answers.{answer_in}
 use Rattle.searcher.specs.Searching.{Searching}
@@ -9,8 +12,9 @@ use Rattle.searcher.proofs.searches.Searcher.find.Goals as goal
 
 pub returns-clause-found : goal.returns-clause-found
 returns-clause-found c =
-    let r = c.self.inside.regex in
+    let r = arc_value c.self.inside.regex in
     let text = joined c.args.chunks.now in
     c.search.ensures.found
+    ∙ ap (λ (q : Regex). answer_by (regex_kind q) (search_for (sought q) c.in_ok-input.input)) c.deref.ensures
     ∙ ap (answer_by (regex_kind r)) (same_search (sought r) text c.args.start c.args.end c.in_ok-input.input c.in_ok-input.ensures.in_range)
     ∙ ap (λ (s : Searching). answer_in s.regex text c.args.start c.args.end) c.self.view_is

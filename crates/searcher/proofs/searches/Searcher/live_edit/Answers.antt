@@ -4,5 +4,5 @@ use Rattle.searcher.proofs.searches.Searcher.live_edit.Goals as goal
 
 pub invariant_of-self-2 : goal.invariant_of-self-2
 invariant_of-self-2 c =
-    let order = in_order c.self.inside.regex c.in_ok-input.input.content c.edit.new.self c.in_ok-changed.ensures.live in
+    let order = in_order c.deref.result.now c.in_ok-input.input.content c.edit.new.self c.in_ok-changed.ensures.live in
     (search rules, search rules, search rules, search rules, order)

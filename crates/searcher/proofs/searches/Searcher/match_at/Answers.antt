@@ -1,6 +1,9 @@
 use Rattle.std.proofs.Common.{ap, ◌∙◌}
+use Rattle.std.specs.Arc.{arc_value}
 use Rattle.rc_text.specs.Joined.{joined}
 use Rattle.rc_program.specs.Kinds.{answer_by}
+use Rattle.rc_program.specs.Sought.{search_for}
+use Rattle.api_meta.specs.declared.regex.Regex.{Regex}
 use Rattle.api_meta.specs.Views.{regex_kind, sought}
 use Rattle.searcher.specs.Answers.{answer_at}
 use Rattle.searcher.specs.Searching.{Searching}
@@ -9,9 +12,10 @@ use Rattle.searcher.proofs.searches.Searcher.match_at.Goals as goal
 
 pub returns-clause-found : goal.returns-clause-found
 returns-clause-found c =
-    let r = c.self.inside.regex in
+    let r = arc_value c.self.inside.regex in
     let text = joined c.args.chunks.now in
     c.search-found.ensures.found
+    ∙ ap (λ (q : Regex). answer_by (regex_kind q) (search_for (sought q) c.set_anchored.new.self)) c.deref.ensures
     ∙ ap (answer_by (regex_kind r)) (same_anchored (sought r) text c.args.start c.args.end c.in_ok-input.input c.set_anchored.new.self
     c.in_ok-input.ensures.in_range c.set_anchored.ensures)
     ∙ ap (λ (s : Searching). answer_at s.regex text c.args.start c.args.end) c.self.view_is
