@@ -9,14 +9,16 @@
  *   - The text stands still while a call runs.
  *   - A handle begins as bytes that are 0 (`struct zf_handle handle = {0};`). It may be moved. It is not copied, and what is in it is
  *     neither read nor written but by the calls.
- *   - A handle is used by one thread at a time, and stays with the thread that compiled it. Handles share nothing.
+ *   - A handle is used by one thread at a time. Different handles may be used by different threads at once, also where zf_share made one from
+ *     the other. A handle may go to another thread, after what orders the two: a lock, or a thread's start or end.
  *   - The text that zf_live_edit is given is that of the list, edited as the call says.
  *   - No call is made from a signal handler.
  *   - 256 KiB of stack are left. zf_compile needs most of them if a pattern is nested 250 levels deep; docs/STACK.md has figures.
  * There is nothing else to owe: each call tests its handle, its range, its UTF-8 and its capacities, and answers a status.
  *
- * Who owns what: a full handle owns memory, which malloc gave and zf_free or the next zf_compile gives back. All else is the caller's.
- * Only zf_compile, zf_explain, zf_replace, zf_live_new and zf_live_edit take memory, but for searches of some patterns, whose cache may grow up to a limit, which
+ * Who owns what: a full handle owns memory, which malloc gave and zf_free or the next zf_compile gives back. Handles of the same patterns, by
+ * zf_share, own what is compiled together, and the last one gives it back. All else is the caller's.
+ * Only zf_compile, zf_share, zf_explain, zf_replace, zf_live_new and zf_live_edit take memory, but for searches of some patterns, whose cache may grow up to a limit, which
  * the settings may set; where that is refused they go on without it, and answer the same.
  */
 #ifndef ZORFELITH_H
@@ -30,7 +32,7 @@ extern "C" {
 #endif
 
 /* Statuses. After any but ZF_DONE and ZF_FOUND nothing was written but what the call says: what was lent to it is as it was. ZF_EMPTY is
- * returned exactly if the handle is empty. A full handle stays full, whatever the status is, but for zf_compile and zf_free. Each other status
+ * returned exactly if the handle is empty. A full handle stays full, whatever the status is, but for zf_compile, zf_free and the second of zf_share. Each other status
  * is returned exactly if it applies; if two do, the call says which, and ZF_OUTSIDE comes before ZF_TOO_LONG. */
 enum {
     ZF_DONE = 0,      /* It is done. Of a search: there is no match. */
@@ -176,6 +178,13 @@ uint32_t zf_version(void);
  * the first of these that applies, want of memory at any time. Then the handle is empty, and `refused` tells the status and where. */
 uint32_t zf_compile(struct zf_handle *handle, const struct zf_bytes *patterns, size_t pattern_count, const struct zf_settings *settings,
                     size_t settings_size, struct zf_refused *refused);
+
+/* Fills `other` with a handle of the same patterns, and frees what it held before. Nothing is compiled again: what is compiled is read by both,
+ * and each has a cache, an iteration and a live list of its own. So `other` is for another thread, or for the live list of another text. `handle`
+ * stays as it was, and `other` begins as after zf_compile. The two are different.
+ *
+ * ZF_DONE; ZF_EMPTY: `handle` is empty, and `other` is as it was; ZF_MEMORY: `other` is empty. */
+uint32_t zf_share(struct zf_handle *handle, struct zf_handle *other);
 
 /* What is wrong with the text of a pattern. ZF_DONE: nothing, it is read as a pattern. ZF_FOUND: `fault` is written, and the first fault->len
  * bytes of `words` are a line that says what is wrong, in UTF-8 and without a 0 behind it: 64 bytes are enough. ZF_SHORT: `words` has fewer than

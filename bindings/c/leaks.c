@@ -176,6 +176,21 @@ static void call_memory_parts(struct zf_handle *handle) {
     wanted("bytes", zf_memory_parts(handle, &parts), ZF_DONE);
 }
 
+static void call_share(struct zf_handle *handle) {
+    struct zf_handle other = {0}, third = {0};
+    struct zf_match found;
+    wanted("of an empty handle", zf_share(&other, &third), ZF_EMPTY);
+    wanted("shared", zf_share(handle, &other), ZF_DONE);
+    wanted("shared again, in place of another", zf_share(handle, &other), ZF_DONE);
+    wanted("a second", zf_share(&other, &third), ZF_DONE);
+    zf_free(handle);
+    wanted("a match by the second", zf_find(&other, text, 2, 0, ZF_NONE, &found), ZF_FOUND);
+    zf_free(&other);
+    wanted("a match by the third", zf_find(&third, text, 2, 0, ZF_NONE, &found), ZF_FOUND);
+    wanted("back", zf_share(&third, handle), ZF_DONE);
+    zf_free(&third);
+}
+
 /* Makes a list of the text. */
 static void with_list(struct zf_handle *handle) { wanted("a list", zf_live_new(handle, text, 2), ZF_DONE); }
 
@@ -266,6 +281,7 @@ static const struct {
     {"zf_find_last", call_find_last},
     {"zf_replace", call_replace},
     {"zf_memory_parts", call_memory_parts},
+    {"zf_share", call_share},
     {"zf_live_new", call_live_new},
     {"zf_live_edit", call_live_edit},
     {"zf_live_free", call_live_free},

@@ -1,5 +1,7 @@
-/* Two threads, each with a handle of its own and a stack of 256 KiB, compile patterns that are nested 250 levels deep, and search one text. It
- * prints what each found. scripts/bindings runs it under helgrind, which reports data that both reach. */
+/* Two threads, each with a handle of its own and a stack of 256 KiB, compile patterns that are nested 250 levels deep, and search one text. Then
+ * four threads search by handles that share what one compiled, each with a live list of its own; each handle was made by the thread before,
+ * and is freed by the one that got it, in any order. It prints what each found. scripts/bindings runs it under helgrind and under a
+ * sanitizer of threads, which report data that two threads reach without an order. */
 #include "../../include/zorfelith.h"
 #include <pthread.h>
 #include <stdio.h>
@@ -38,6 +40,67 @@ static void *run(void *given) {
     return NULL;
 }
 
+enum { SHARES = 4 };
+
+struct share {
+    struct zf_handle handle;
+    size_t count;
+    size_t listed;
+    uint32_t status;
+};
+
+/* Goes over the text again and again by a handle that shares its patterns, keeps a list, and frees the handle. */
+static void *run_share(void *given) {
+    struct share *share = given;
+    const struct zf_bytes edited[1] = {{(const uint8_t *)"xxaabx1", 7}};
+    struct zf_match batch[8], found;
+    struct zf_group groups[2];
+    struct zf_progress progress;
+    struct zf_change change;
+    size_t len = 0;
+    for (int round = 0; round < ROUNDS; round++) {
+        share->status = zf_restart(&share->handle, 0, 0);
+        if (share->status == ZF_DONE)
+            share->status = zf_next(&share->handle, text, 3, ZF_NONE, batch, 8, &progress);
+        if (share->status == ZF_DONE)
+            share->status = zf_find_groups(&share->handle, text, 3, 0, ZF_NONE, &found, groups, 2);
+        if (share->status == ZF_FOUND)
+            share->status = zf_live_new(&share->handle, text, 3);
+        if (share->status == ZF_DONE)
+            share->status = zf_live_edit(&share->handle, 6, 6, 1, edited, 1, &change);
+        if (share->status == ZF_DONE)
+            share->status = zf_live_len(&share->handle, &len);
+        share->count += progress.count;
+        share->listed += len;
+    }
+    zf_free(&share->handle);
+    return NULL;
+}
+
+/* Compiles once, and hands a share to each thread. */
+static int shared(void) {
+    const struct zf_bytes pattern = {(const uint8_t *)"(?i)[a-z]|\\d", 12};
+    const struct zf_settings settings = {0};
+    static struct share shares[SHARES];
+    struct zf_handle handle = {0};
+    struct zf_refused refused;
+    pthread_t threads[SHARES];
+    if (zf_compile(&handle, &pattern, 1, &settings, sizeof settings, &refused) != ZF_DONE)
+        return 1;
+    for (int i = 0; i < SHARES; i++) {
+        if (zf_share(&handle, &shares[i].handle) != ZF_DONE || pthread_create(&threads[i], NULL, run_share, &shares[i]) != 0)
+            return 1;
+        if (i == SHARES / 2)
+            zf_free(&handle), zf_compile(&handle, &pattern, 1, &settings, sizeof settings, &refused);
+    }
+    zf_free(&handle);
+    for (int i = 0; i < SHARES; i++) {
+        pthread_join(threads[i], NULL);
+        printf("share %d: status %u, %zu matches, %zu listed\n", i, shares[i].status, shares[i].count, shares[i].listed);
+    }
+    return 0;
+}
+
 int main(void) {
     struct work works[2] = {{.letter = 'a'}, {.letter = 'b'}};
     pthread_t threads[2];
@@ -51,5 +114,5 @@ int main(void) {
         pthread_join(threads[i], NULL);
         printf("%c: status %u, %zu..%zu\n", works[i].letter, works[i].status, works[i].found.start, works[i].found.end);
     }
-    return 0;
+    return shared();
 }

@@ -1,14 +1,15 @@
 -- How refusals are told.
-use Rattle.std.specs.Prelude.{◌≡◌, ◌⊎◌, ℕ, List}
+use Rattle.std.specs.Prelude.{◌≡◌, ◌⊎◌, ℕ, List, MatchOption, Option}
 use Rattle.std.specs.Borrow.{Bor}
 use Rattle.rc_pattern.specs.declared.syntax.Error.TheVariants.{Memory as no_memory, Syntax as fault_at}
 use Rattle.rc_settings.specs.declared.error.BuildError.TheVariants.{CacheTooSmall, DfaSizeLimit, IllFormed, PlaceLimit, SizeLimit, Memory as none_left, Syntax as unread}
-use Rattle.searcher.specs.Answers.{IsRefused}
+use Rattle.searcher.specs.Answers.{IsRefused, IsShare}
+use Rattle.searcher.specs.Searching.{Searching}
 use Rattle.searcher.specs.declared.answers.Refusal.{Refusal}
 use Rattle.searcher.specs.declared.answers.Refusal.TheVariants.{Build, Memory, NoKind, NotUtf8, TooMany}
 use Rattle.searcher.specs.declared.settings.Settings.{Settings}
 use Rattle.zorfelith_c.specs.Options.{IsKnown, settings_in}
-use Rattle.zorfelith_c.specs.Statuses.{memory, no_kind, not_utf8, syntax, too_large, unknown}
+use Rattle.zorfelith_c.specs.Statuses.{done, memory, no_kind, not_utf8, syntax, too_large, unknown}
 use Rattle.zorfelith_c.specs.declared.build.Refused.{Refused}
 
 -- a status alone
@@ -47,3 +48,7 @@ pub record IsToldUnknown (settings : List ℕ) (status : ℕ) (refused : Refused
 abbrev pub IsToldBuild : List ℕ → List (Bor (List ℕ)) → ℕ → Refused → Type 0
 IsToldBuild settings patterns status refused =
     IsToldUnknown settings status refused ⊎ (IsKnown settings × IsToldRefusal (settings_in settings) patterns status refused)
+
+-- A second handle is of the same patterns; or memory was refused, and it is empty.
+abbrev pub IsShared : Searching → ℕ → Option Searching → Type 0
+IsShared s status t = MatchOption t (status ≡ memory) (λ u. (status ≡ done) × IsShare s u)

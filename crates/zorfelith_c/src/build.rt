@@ -2,12 +2,12 @@
 ghost use Rattle.std.specs.Prelude.{◌≡◌, ◌≢◌, MatchOption, None};
 ghost use Rattle.searcher.specs.Answers.{IsBuilt};
 ghost use Rattle.zorfelith_c.specs.Options.{IsKnown, settings_in};
-ghost use Rattle.zorfelith_c.specs.Refusals.{IsToldBuild, only, told_refusal};
-ghost use Rattle.zorfelith_c.specs.Statuses.{done};
+ghost use Rattle.zorfelith_c.specs.Refusals.{IsShared, IsToldBuild, only, told_refusal};
+ghost use Rattle.zorfelith_c.specs.Statuses.{done, empty};
 
 use crate::handle::Handle;
 use crate::options::settings_of;
-use crate::status::{DONE, MEMORY, NO_KIND, NOT_UTF8, SYNTAX, TOO_LARGE, UNKNOWN};
+use crate::status::{DONE, EMPTY, MEMORY, NO_KIND, NOT_UTF8, SYNTAX, TOO_LARGE, UNKNOWN};
 use rc_pattern::syntax;
 use rc_settings::error::BuildError;
 use searcher::{Refusal, Searcher, free};
@@ -101,6 +101,32 @@ pub extern "C" fn zf_compile(
             *refused = told(refusal);
             refused.status
         }
+    }
+}
+
+/// Frees what `other` holds, and fills it with a searcher of the patterns that the handle has. These
+/// aren't compiled again: what is compiled is shared, and freed with the last searcher of it. The
+/// status is `DONE`; `EMPTY`, and `other` is as it was; or `MEMORY`, and `other` is empty.
+#[unsafe(no_mangle)]
+pub extern "C" fn zf_share(alloc: Global, handle: &mut Handle, other: &mut Handle) -> u32
+    ensures shared { MatchOption handle.old.held.value (result ≡ empty)
+        (λ s. IsShared s result other.new.held.value) }
+    ensures untouched { result ≡ empty → other.new.held.value ≡ other.old.held.value }
+    ensures kept { handle.new.held.value ≡ handle.old.held.value }
+{
+    if !handle.is_full() {
+        return EMPTY;
+    }
+    zf_free(alloc, other);
+    let held = handle.take(alloc);
+    let answer = held.share(alloc);
+    *handle = Handle::of(held);
+    match answer {
+        Ok(shared) => {
+            *other = Handle::of(shared);
+            DONE
+        }
+        Err(_) => MEMORY,
     }
 }
 

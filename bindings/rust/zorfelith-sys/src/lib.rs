@@ -135,6 +135,7 @@ unsafe extern "C" {
         settings_size: usize,
         refused: *mut zf_refused,
     ) -> u32;
+    pub fn zf_share(handle: *mut zf_handle, other: *mut zf_handle) -> u32;
     pub fn zf_explain(
         pattern: *const u8,
         pattern_len: usize,

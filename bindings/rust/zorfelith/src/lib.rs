@@ -19,10 +19,23 @@
 //! assert_eq!(zorfelith::escape("1+1"), r"1\+1");
 //! let fault = zorfelith::explain("a(b", &zorfelith::Settings::default())?.unwrap();
 //! assert_eq!((fault.range, fault.words.as_str()), (1..2, "unclosed group"));
+//!
+//! // The list of all matches, kept under an edit: ", paid" becomes ", then paid".
+//! dates.live_new(&text)?;
+//! let now = [chunk(b"due 2026-11, then paid 2027-01")];
+//! // SAFETY: the text is the old one, but for 5 bytes at 13.
+//! let change = unsafe { dates.live_edit(13..13, 5, &now)? };
+//! assert_eq!((change.first, change.dropped, change.added), (1, 0, 0));
+//! assert_eq!(dates.live_next(12)?.map(|found| found.range()), Some(23..30));
+//!
+//! // What is compiled is shared with a thread.
+//! let mut other = dates.share()?;
+//! let found = std::thread::spawn(move || other.is_match(&[chunk(b"2026-12")])).join().unwrap()?;
+//! assert!(found);
 //! # Ok::<(), zorfelith::Error>(())
 //! ```
 //!
-//! A [`Regex`] isn't `Send`: it stays with the thread that compiled it.
+//! A [`Regex`] is `Send`, and isn't `Sync`: [`Regex::share`] makes one for each thread, and nothing is compiled again.
 
 use std::error;
 use std::fmt;
@@ -31,6 +44,7 @@ use std::ops::{Bound, Range, RangeBounds};
 use std::ptr::null_mut;
 use zorfelith_sys as sys;
 
+pub use zorfelith_sys::zf_change as Change;
 pub use zorfelith_sys::zf_settings as Settings;
 
 // The kinds of match, for `Settings::kind`.
@@ -179,6 +193,10 @@ pub enum Error {
     NoKind,
     /// At this byte a `$` of the template begins nothing.
     Template { at: usize },
+    /// The regex keeps no live list.
+    NoList,
+    /// The text doesn't have the length that the edit gives.
+    Misfit,
 }
 
 impl fmt::Display for Error {
@@ -191,6 +209,8 @@ impl fmt::Display for Error {
             Error::Memory => write!(f, "out of memory"),
             Error::NoKind => write!(f, "there is no such kind of match"),
             Error::Template { at } => write!(f, "error parsing template at byte {at}"),
+            Error::NoList => write!(f, "there is no live list"),
+            Error::Misfit => write!(f, "the text doesn't have the length that the edit gives"),
         }
     }
 }
@@ -204,12 +224,18 @@ fn told(status: u32) -> Result<bool, Error> {
         sys::ZF_FOUND => Ok(true),
         sys::ZF_TOO_LONG => Err(Error::TooLong),
         sys::ZF_OUTSIDE => Err(Error::Outside),
+        sys::ZF_MEMORY => Err(Error::Memory),
+        sys::ZF_NO_LIST => Err(Error::NoList),
+        sys::ZF_MISFIT => Err(Error::Misfit),
         _ => unreachable!("the handle of a regex is full"),
     }
 }
 
-/// Compiled patterns, with all that searches by them need.
+/// Compiled patterns, with all that searches by them need. It may keep the list of a text's matches.
 pub struct Regex(sys::zf_handle);
+
+// SAFETY: a handle may go to another thread, and handles that share what is compiled may be used at once.
+unsafe impl Send for Regex {}
 
 // In each call below: the handle is full and borrowed alone, and each slice is borrowed for the call; a slice's pointer is never null.
 impl Regex {
@@ -232,6 +258,85 @@ impl Regex {
             sys::ZF_NO_KIND => Err(Error::NoKind),
             _ => Err(Error::TooLarge),
         }
+    }
+
+    /// Another regex of the same patterns, which aren't compiled again: for another thread, or for the list of another text.
+    pub fn share(&mut self) -> Result<Regex, Error> {
+        let mut other = Regex(sys::zf_handle { full: 0, held: null_mut() });
+        // SAFETY: above, and the other handle is empty.
+        told(unsafe { sys::zf_share(&mut self.0, &mut other.0) })?;
+        Ok(other)
+    }
+
+    /// Makes the list of all matches of the text, and keeps it in place of another one.
+    pub fn live_new(&mut self, text: &[Chunk<'_>]) -> Result<(), Error> {
+        // SAFETY: above.
+        told(unsafe { sys::zf_live_new(&mut self.0, first(text), text.len()) })?;
+        Ok(())
+    }
+
+    /// Keeps the list under an edit of its text: the bytes of the range were replaced by so many others. Out of memory there is no list any
+    /// more; any other error leaves the list of the old text.
+    ///
+    /// # Safety
+    ///
+    /// If the lengths fit, the text is that of the last call that made or kept the list, but for the bytes that were replaced.
+    pub unsafe fn live_edit(&mut self, replaced: Range<usize>, inserted: usize, text: &[Chunk<'_>]) -> Result<Change, Error> {
+        let mut change = Change::default();
+        // SAFETY: above, and what this call asks.
+        told(unsafe {
+            sys::zf_live_edit(&mut self.0, replaced.start, replaced.end, inserted, first(text), text.len(), &mut change)
+        })?;
+        Ok(change)
+    }
+
+    /// Frees the list.
+    pub fn live_free(&mut self) {
+        // SAFETY: above.
+        unsafe { sys::zf_live_free(&mut self.0) };
+    }
+
+    /// How many matches the list has.
+    pub fn live_len(&mut self) -> Result<usize, Error> {
+        let mut len = 0;
+        // SAFETY: above.
+        told(unsafe { sys::zf_live_len(&mut self.0, &mut len) })?;
+        Ok(len)
+    }
+
+    /// The match of the list with this index.
+    pub fn live_get(&mut self, index: usize) -> Result<Option<Match>, Error> {
+        let mut found = Match::default();
+        // SAFETY: above.
+        let status = unsafe { sys::zf_live_get(&mut self.0, index, &mut found.0) };
+        Ok(told(status)?.then_some(found))
+    }
+
+    /// The first match of the list that begins at a place or later.
+    pub fn live_next(&mut self, place: usize) -> Result<Option<Match>, Error> {
+        let mut found = Match::default();
+        // SAFETY: above.
+        let status = unsafe { sys::zf_live_next(&mut self.0, place, &mut found.0) };
+        Ok(told(status)?.then_some(found))
+    }
+
+    /// The last match of the list that begins before a place.
+    pub fn live_previous(&mut self, place: usize) -> Result<Option<Match>, Error> {
+        let mut found = Match::default();
+        // SAFETY: above.
+        let status = unsafe { sys::zf_live_previous(&mut self.0, place, &mut found.0) };
+        Ok(told(status)?.then_some(found))
+    }
+
+    /// The first matches of the list that touch a window, as many as the batch has places. If these aren't all places, no more touch it.
+    pub fn live_window<'b>(&mut self, window: Range<usize>, batch: &'b mut [Match]) -> Result<&'b [Match], Error> {
+        let mut count = 0;
+        // SAFETY: above, and a `Match` lies as what it is made of.
+        let status = unsafe {
+            sys::zf_live_window(&mut self.0, window.start, window.end, batch.as_mut_ptr().cast(), batch.len(), &mut count)
+        };
+        told(status)?;
+        Ok(&batch[..count])
     }
 
     /// Whether there is a match.

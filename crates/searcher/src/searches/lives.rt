@@ -43,7 +43,7 @@ impl Searcher {
         ensures same { self.new ≡ record self.old { live = self.new.live } }
     {
         let mut input = whole_over(chunks)?;
-        self.live = None;
+        self.live = None; // until there is a new one
         let live = LiveMatches::new(alloc, &self.regex, &mut self.cache, &mut input)?;
         self.live = Some(live);
         Ok(())
@@ -101,7 +101,7 @@ impl Searcher {
     pub fn live_free(&mut self)
         ensures { self.new ≡ record self.old { live = None } }
     {
-        self.live = None;
+        self.live = None; // and it is freed
     }
 }
 
