@@ -6,8 +6,9 @@
 // What you owe:
 //   - The bytes behind a chunk are there while a call runs that is given it, and don't change then. A `matches` keeps the text: its chunks
 //     stay, and neither change nor move, until it is gone.
-//   - A regex is used by one thread at a time, and stays with the thread that made it. A regex that was moved from is empty: it may be
-//     assigned to and destroyed, and each search by it throws.
+//   - A regex is used by one thread at a time. Different ones may be used by different threads at once, also where `share` made one from the
+//     other. A regex that was moved from is empty: it may be assigned to and destroyed, and each search by it throws.
+//   - The text that `live_edit` is given is that of the list, edited as the call says.
 //   - 256 KiB of stack are left where a regex is made.
 //
 // What isn't an answer is thrown, as an `error`.
@@ -228,6 +229,13 @@ class regex {
     regex(const regex &) = delete;
     regex &operator=(const regex &) = delete;
     ~regex() { zf_free(&handle_); }
+
+    // Another regex of the same patterns, which aren't compiled again: for another thread, or for the list of another text.
+    regex share() {
+        regex other;
+        told(zf_share(&handle_, &other.handle_));
+        return other;
+    }
 
     // Whether there is a match in the range.
     bool is_match(text in, range within = {}) {

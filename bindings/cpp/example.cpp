@@ -93,6 +93,26 @@ static void places(zorfelith::text text) {
     std::printf("%s, %d\n", zorfelith::escape("1+1").c_str(), zorfelith::version() == ZF_VERSION);
 }
 
+// A list that is kept under an edit, and another regex of the same patterns.
+static void lists() {
+    zorfelith::regex words("[a-z]+");
+    const zorfelith::chunk before[] = {"one t", "wo three"}, after[] = {"one two, two", " three"};
+    words.live_new(before);
+    const zorfelith::change made = words.live_edit({7, 7}, 5, after);
+    std::printf("%zu stay, %zu went, %zu came\n", made.first, made.dropped, made.added);
+    for (std::size_t i = 0; i < words.live_size(); i++)
+        std::printf("%zu..%zu\n", words.live_get(i)->start, words.live_get(i)->end);
+    std::printf("from 5: %zu, before 9: %zu, in 8..10: %zu\n", words.live_next(5)->start, words.live_previous(9)->start, words.live_window({8, 10}).size());
+    zorfelith::regex other = words.share();
+    words.live_free();
+    try {
+        other.live_size();
+    } catch (const zorfelith::error &error) {
+        std::printf("status %u: %s\n", error.status(), error.what());
+    }
+    std::printf("%d\n", other.is_match(before));
+}
+
 #if __cplusplus >= 202002L
 static_assert(std::ranges::input_range<zorfelith::matches>);
 #endif
@@ -106,5 +126,6 @@ int main() {
     loops();
     many();
     places(text);
+    lists();
     return 0;
 }

@@ -2,6 +2,7 @@
 import ctypes
 import gc
 import pathlib
+import random
 import re
 import threading
 import unittest
@@ -87,6 +88,46 @@ class Searches(unittest.TestCase):
         for group in (3, -1, "x"):
             with self.assertRaises(IndexError):
                 found.group(group)
+
+
+class Lists(unittest.TestCase):
+    def test_a_list_under_random_edits(self):
+        rolls = random.Random(7)
+        for pattern in ("a+b?", "a*", r"b\b"):
+            regex, text = zorfelith.compile(pattern), b""
+            live = regex.live(text)
+            for _ in range(200):
+                start = rolls.randint(0, len(text))
+                end = min(len(text), start + rolls.randint(0, 4))
+                new = bytes(rolls.choices(b"ab ", k=rolls.randint(0, 5)))
+                text = text[:start] + new + text[end:]
+                cut = rolls.randint(0, len(text))
+                change = live.edit(start, end, len(new), [text[:cut], text[cut:]])
+                spans = [it.span() for it in regex.finditer(text)]
+                self.assertEqual(list(live), spans)
+                self.assertTrue(change.start <= start and start + len(new) <= change.end)
+                place = rolls.randint(0, len(text))
+                self.assertEqual(live.next(place), next((it for it in spans if it[0] >= place), None))
+                self.assertEqual(live.previous(place), next((it for it in reversed(spans) if it[0] < place), None))
+                low, high = sorted((place, rolls.randint(0, len(text))))
+                touch = [it for it in spans if low <= it[0] and it[1] <= high or low < it[1] and it[0] < high]
+                self.assertEqual(live.window(low, high), touch)
+                self.assertEqual(live.window(low, high, 1), touch[:1])
+
+    def test_what_is_refused(self):
+        live = zorfelith.compile("a").live([b"ban", b"ana"])
+        self.assertEqual((len(live), live[-1], list(live)), (3, (5, 6), [(1, 2), (3, 4), (5, 6)]))
+        for edit, status in (((6, 7, 1), 4), ((3, 2, 1), 4), ((3, 3, 2), 14)):
+            with self.assertRaises(zorfelith.Error) as raised:
+                live.edit(*edit, b"bandana")
+            self.assertEqual(raised.exception.status, status)
+        for index in (3, -4):
+            with self.assertRaises(IndexError):
+                live[index]
+        live.edit(3, 3, 1, b"bandana")
+        self.assertEqual(list(live), [(1, 2), (4, 5), (6, 7)])
+        live.renew(b"xa")
+        self.assertEqual(list(live), [(1, 2)])
 
 
 class Layouts(unittest.TestCase):

@@ -21,7 +21,8 @@ import os
 import re
 import threading
 
-__all__ = ["ALL", "Error", "Fault", "LEFTMOST_FIRST", "LEFTMOST_LONGEST", "Match", "Pattern", "compile", "escape", "explain", "version"]
+__all__ = ["ALL", "Change", "Error", "Fault", "LEFTMOST_FIRST", "LEFTMOST_LONGEST", "Live", "Match", "Pattern", "compile", "escape", "explain",
+           "version"]
 
 LEFTMOST_FIRST, ALL, LEFTMOST_LONGEST = 0, 1, 2
 
@@ -36,6 +37,8 @@ _WORDS = {
     10: "out of memory",
     11: "there is no such kind of match",
     12: "the settings are of a newer version",
+    13: "the pattern keeps no live list",
+    14: "the text doesn't have the length that the edit gives",
 }
 _FLAGS = ("case_insensitive", "multi_line", "dot_matches_new_line", "crlf", "swap_greed", "bytes", "any_bytes", "split_characters")
 _LIMITS = ("size_limit", "cache_capacity")
@@ -81,6 +84,10 @@ class _Parts(ctypes.Structure):
     _fields_ = [("patterns", _size), ("cache", _size)]
 
 
+class _Change(ctypes.Structure):
+    _fields_ = [("first", _size), ("dropped", _size), ("added", _size), ("start", _size), ("end", _size)]
+
+
 class _Progress(ctypes.Structure):
     _fields_ = [("count", _size), ("next", _size)]
 
@@ -119,6 +126,15 @@ def _loaded():
         "zf_which_patterns": [handle, *text, _size, _size, ctypes.POINTER(ctypes.c_uint8), _size],
         "zf_restart": [handle, _size, ctypes.c_uint8],
         "zf_next": [handle, *text, _size, match, _size, ctypes.POINTER(_Progress)],
+        "zf_share": [handle, handle],
+        "zf_live_new": [handle, *text],
+        "zf_live_edit": [handle, _size, _size, _size, *text, ctypes.POINTER(_Change)],
+        "zf_live_free": [handle],
+        "zf_live_len": [handle, at],
+        "zf_live_get": [handle, _size, match],
+        "zf_live_next": [handle, _size, match],
+        "zf_live_previous": [handle, _size, match],
+        "zf_live_window": [handle, _size, _size, match, _size, at],
         "zf_pattern_count": [handle, at],
         "zf_group_count": [handle, _size, at],
         "zf_group_name": [handle, _size, _size, ctypes.c_char_p, _size, at],
@@ -202,6 +218,11 @@ class _Owner(threading.local):
 _owner = _Owner()
 
 
+Change = collections.namedtuple("Change", "first dropped added start end")
+Change.__doc__ = """What an edit changed in a live list: the matches before `first` stay, `dropped` went from there on, `added` came in their place, and those
+behind moved with the text. The bytes from `start` to `end` of the new text are to be drawn anew."""
+
+
 class Match:
     """A match of a text. Groups are asked by number or name; group 0 is the whole match."""
 
@@ -252,6 +273,79 @@ class Match:
         return {name: self._bytes(self._all()[number], default) for name, number in names.items()}
 
 
+class Live:
+    """The list of all matches of a text, kept under edits of that text. Pattern.live makes it. Its matches are spans; it is a sequence of them."""
+
+    def __init__(self, of, text):
+        self._own, self._handle = of._own, of._shared()
+        self.renew(text)
+
+    def __del__(self):
+        of = getattr(self, "_handle", None)
+        if of is not None:
+            of.free()
+
+    def _call(self):
+        self._own()
+        return self._handle.handle
+
+    def renew(self, text):
+        """Makes the list anew, of this text."""
+        text = _Text(text)
+        _told(_zf.zf_live_new(self._call(), text.array, text.count))
+
+    def edit(self, start, end, inserted, text):
+        """Keeps the list under an edit: the bytes from start to end were replaced by so many others, and the text is the whole text as it is now. It
+        has to be the text of the call before but for that edit. Returns a Change. Out of memory the list is gone, until `renew`."""
+        text, change = _Text(text), _Change()
+        _told(_zf.zf_live_edit(self._call(), start, end, inserted, text.array, text.count, change))
+        return Change(*(getattr(change, name) for name in Change._fields))
+
+    def __len__(self):
+        count = _size()
+        _told(_zf.zf_live_len(self._call(), count))
+        return count.value
+
+    def __getitem__(self, index):
+        found = self._found(_zf.zf_live_get, index if index >= 0 else len(self) + index) if index >= -len(self) else None
+        if found is None:
+            raise IndexError("the list has no such match")
+        return found
+
+    def _found(self, call, place):
+        found = _Match()
+        return (found.start, found.end) if _told(call(self._call(), place, found)) else None
+
+    def next(self, place):
+        """The first match that begins at a place or later, or None."""
+        return self._found(_zf.zf_live_next, place)
+
+    def previous(self, place):
+        """The last match that begins before a place, or None."""
+        return self._found(_zf.zf_live_previous, place)
+
+    def window(self, start, end, most=1024):
+        """The first matches that touch the bytes from start to end, at most so many."""
+        batch, count = (_Match * max(most, 1))(), _size()
+        _told(_zf.zf_live_window(self._call(), start, end, batch, most, count))
+        return [(it.start, it.end) for it in batch[:count.value]]
+
+
+class _Owned:
+    """A handle that is freed by its own thread, or by the next `compile` there."""
+
+    def __init__(self):
+        self.handle, self._dropped, self._thread = _Handle(), _owner.dropped, threading.get_ident()
+
+    def free(self):
+        if not self.handle.full:
+            return
+        if threading.get_ident() == self._thread:
+            _zf.zf_free(self.handle)
+        else:
+            self._dropped.append(self.handle)
+
+
 class Pattern:
     """Compiled patterns, with all that searches by them need."""
 
@@ -277,6 +371,16 @@ class Pattern:
         if threading.get_ident() != self._thread:
             raise RuntimeError("a Pattern is used by the thread that compiled it")
         return self._handle
+
+    def _shared(self):
+        """A second handle of the same patterns, which aren't compiled again."""
+        owned = _Owned()
+        _told(_zf.zf_share(self._own(), owned.handle))
+        return owned
+
+    def live(self, text):
+        """The list of all matches of the text, which can be kept under edits."""
+        return Live(self, text)
 
     def is_match(self, text, start=0, end=None):
         """Whether there is a match from start to end."""

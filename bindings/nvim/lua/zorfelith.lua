@@ -16,11 +16,18 @@ struct zf_fault { size_t start; size_t end; size_t len; };
 struct zf_refused { uint32_t status; size_t pattern; size_t at; };
 struct zf_match { size_t pattern; size_t start; size_t end; };
 struct zf_progress { size_t count; size_t next; };
+struct zf_change { size_t first; size_t dropped; size_t added; size_t start; size_t end; };
 uint32_t zf_compile(struct zf_handle *, const struct zf_bytes *, size_t, const struct zf_settings *, size_t, struct zf_refused *);
 uint32_t zf_explain(const uint8_t *, size_t, const struct zf_settings *, size_t, struct zf_fault *, uint8_t *, size_t);
+uint32_t zf_share(struct zf_handle *, struct zf_handle *);
 void zf_free(struct zf_handle *);
 uint32_t zf_restart(struct zf_handle *, size_t, uint8_t);
 uint32_t zf_next(struct zf_handle *, const struct zf_bytes *, size_t, size_t, struct zf_match *, size_t, struct zf_progress *);
+uint32_t zf_live_new(struct zf_handle *, const struct zf_bytes *, size_t);
+uint32_t zf_live_edit(struct zf_handle *, size_t, size_t, size_t, const struct zf_bytes *, size_t, struct zf_change *);
+uint32_t zf_live_len(struct zf_handle *, size_t *);
+uint32_t zf_live_get(struct zf_handle *, size_t, struct zf_match *);
+uint32_t zf_live_window(struct zf_handle *, size_t, size_t, struct zf_match *, size_t, size_t *);
 ]])
 
 local M = {}
@@ -69,21 +76,56 @@ function M.compile(pattern, flags)
   return handle
 end
 
--- The text of lines, each with a line end behind it. The lines are kept, for the chunks point into them.
-function M.text(lines)
-  local count = #lines
-  local chunks = ffi.new("struct zf_bytes[?]", 2 * count + 1)
-  local starts = ffi.new("size_t[?]", count + 1)
-  local at, line_end = 0, as_bytes(newline)
-  for i = 1, count do
+-- The chunks of some of the lines, from line `first` to line `last`, from the place `at` on; returns the place behind them.
+local function fill(text, first, last, at)
+  local lines, chunks, starts, line_end = text.lines, text.chunks, text.starts, as_bytes(newline)
+  for i = first, last do
     local line = lines[i]
     chunks[2 * i - 2].bytes, chunks[2 * i - 2].len = as_bytes(line), #line
     chunks[2 * i - 1].bytes, chunks[2 * i - 1].len = line_end, 1
     starts[i - 1] = at
     at = at + #line + 1
   end
-  starts[count] = at
-  return { lines = lines, count = count, chunks = chunks, starts = starts }
+  return at
+end
+
+-- How many of the first lines of two lists are the same, and how many of the last ones behind these.
+local function same_lines(old, new)
+  local most = math.min(#old, #new)
+  local before, behind = 0, 0
+  while before < most and old[before + 1] == new[before + 1] do
+    before = before + 1
+  end
+  while before + behind < most and old[#old - behind] == new[#new - behind] do
+    behind = behind + 1
+  end
+  return before, behind
+end
+
+local BYTES = ffi.sizeof("struct zf_bytes")
+
+-- The text of lines, each with a line end behind it. The lines are kept, for the chunks point into them. If there is an older text, the chunks
+-- of the lines that are the same are taken from it, and the edit between the two is returned: where it starts and ends in the older text, and
+-- how many bytes were inserted.
+function M.text(lines, old)
+  local count = #lines
+  local text = { lines = lines, count = count, chunks = ffi.new("struct zf_bytes[?]", 2 * count + 1), starts = ffi.new("size_t[?]", count + 1) }
+  if not old then
+    text.starts[count] = fill(text, 1, count, 0)
+    return text
+  end
+  local before, behind = same_lines(old.lines, lines)
+  local first, was = count - behind, old.count - behind
+  ffi.copy(text.chunks, old.chunks, 2 * before * BYTES)
+  ffi.copy(text.starts, old.starts, before * ffi.sizeof("size_t"))
+  ffi.copy(text.chunks + 2 * first, old.chunks + 2 * was, 2 * behind * BYTES)
+  local start = tonumber(old.starts[before])
+  local at = fill(text, before + 1, first, start)
+  local moved = at - tonumber(old.starts[was])
+  for i = 0, behind do
+    text.starts[first + i] = tonumber(old.starts[was + i]) + moved
+  end
+  return text, { start = start, stop = tonumber(old.starts[was]), inserted = at - start }
 end
 
 -- The matches of a text: their starts and ends in bytes, in two lists. Returns nil and a message if there is no answer.
@@ -127,39 +169,81 @@ end
 
 local space = vim.api.nvim_create_namespace("zorfelith")
 local sought -- the regex that all windows show, its pattern and flags
-local known = {} -- for each buffer the text and the matches at a changedtick
+local known = {} -- for each buffer the text at a changedtick, and a handle with the list of its matches
 
--- The text and the matches of a buffer as it is now.
+-- A handle of the same patterns, for a list of its own. Returns nil and a message if there is none.
+local function shared(handle)
+  local other = ffi.gc(ffi.new("struct zf_handle"), zf().zf_free)
+  local status = zf().zf_share(handle, other)
+  if status ~= 0 then
+    return nil, WORDS[status] or ("status %d"):format(status)
+  end
+  return other
+end
+
+-- Keeps the list of a buffer in step with its text. The edit is what lies between the lines that are the same, so it is one of the older text.
+local function keep(found, text, edit)
+  local status = 13
+  if edit then
+    local change = ffi.new("struct zf_change")
+    status = zf().zf_live_edit(found.handle, edit.start, edit.stop, edit.inserted, text.chunks, 2 * text.count, change)
+  end
+  if status ~= 0 then
+    status = zf().zf_live_new(found.handle, text.chunks, 2 * text.count)
+  end
+  return status == 0, WORDS[status] or ("status %d"):format(status)
+end
+
+-- The text of a buffer as it is now, with the list of its matches.
 local function look(buffer)
   local tick = vim.api.nvim_buf_get_changedtick(buffer)
   local found = known[buffer]
   if found and found.tick == tick and found.sought == sought then
     return found
   end
-  local text = M.text(vim.api.nvim_buf_get_lines(buffer, 0, -1, false))
-  local matches, fault = M.matches(sought.handle, text)
-  if not matches then
-    return nil, fault
+  local lines, edit, fault = vim.api.nvim_buf_get_lines(buffer, 0, -1, false), nil, nil
+  if not (found and found.sought == sought) then
+    found = { sought = sought }
+    found.handle, fault = shared(sought.handle)
+    if not found.handle then
+      return nil, fault
+    end
   end
-  known[buffer] = { tick = tick, sought = sought, text = text, matches = matches }
-  return known[buffer]
+  known[buffer] = nil
+  found.text, edit = M.text(lines, found.text)
+  local ok, words = keep(found, found.text, edit)
+  if not ok then
+    return nil, words
+  end
+  local count = ffi.new("size_t[1]")
+  zf().zf_live_len(found.handle, count)
+  found.tick, found.count = tick, tonumber(count[0])
+  known[buffer] = found
+  return found
+end
+
+-- The match of a list with an index, from 1 on: where it starts and where it ends.
+function M.match(found, i)
+  local at = ffi.new("struct zf_match")
+  zf().zf_live_get(found.handle, i - 1, at)
+  return tonumber(at.start), tonumber(at["end"])
 end
 
 -- The parts of matches that lie in a row: a list of pairs, the byte at which one starts and the byte behind it.
 function M.in_row(found, row)
-  local starts, matches = found.text.starts, found.matches
+  local starts = found.text.starts
   local low, high = tonumber(starts[row]), tonumber(starts[row + 1]) - 1
-  local out = {}
-  local i = first(1, matches.count, function(k)
-    return matches.ends[k] > low
-  end)
-  while i <= matches.count and matches.starts[i] < high do
-    local from, to = math.max(matches.starts[i], low), math.min(matches.ends[i], high)
-    if from < to then
-      out[#out + 1] = { from - low, to - low }
+  local batch, count, out, from = ffi.new("struct zf_match[?]", BATCH), ffi.new("size_t[1]"), {}, low
+  repeat
+    zf().zf_live_window(found.handle, from, high, batch, BATCH, count)
+    for i = 0, tonumber(count[0]) - 1 do
+      local start, stop = math.max(tonumber(batch[i].start), low), math.min(tonumber(batch[i]["end"]), high)
+      if start < stop then
+        out[#out + 1] = { start - low, stop - low }
+      end
     end
-    i = i + 1
-  end
+    from = count[0] > 0 and tonumber(batch[count[0] - 1]["end"]) or high
+  until count[0] < BATCH
   return out
 end
 
@@ -192,13 +276,13 @@ end
 
 -- Goes to a match, and says which of how many it is.
 local function go(found, i)
-  local row, column = M.position(found.text, found.matches.starts[i])
+  local row, column = M.position(found.text, (M.match(found, i)))
   if row >= found.text.count then -- an empty match behind the last line's end
     row, column = found.text.count - 1, #found.text.lines[found.text.count]
   end
   vim.cmd("normal! m'")
   vim.api.nvim_win_set_cursor(0, { row + 1, column })
-  vim.api.nvim_echo({ { ("%s  %d of %d"):format(sought.pattern, i, found.matches.count) } }, false, {})
+  vim.api.nvim_echo({ { ("%s  %d of %d"):format(sought.pattern, i, found.count) } }, false, {})
 end
 
 -- Goes to the next match behind the cursor, or with `step` -1 to the last one before it; round the buffer's end if 'wrapscan' is set.
@@ -210,16 +294,16 @@ local function move(step)
   if not found then
     return tell(fault)
   end
-  local matches, cursor = found.matches, vim.api.nvim_win_get_cursor(0)
+  local count, cursor = found.count, vim.api.nvim_win_get_cursor(0)
   local place = tonumber(found.text.starts[cursor[1] - 1]) + cursor[2]
-  local i = first(1, matches.count, function(k)
-    return matches.starts[k] > (step > 0 and place or place - 1)
+  local i = first(1, count, function(k)
+    return M.match(found, k) > (step > 0 and place or place - 1)
   end)
   i = step > 0 and i or i - 1
-  if (i < 1 or i > matches.count) and vim.o.wrapscan and matches.count > 0 then
-    i = step > 0 and 1 or matches.count
+  if (i < 1 or i > count) and vim.o.wrapscan and count > 0 then
+    i = step > 0 and 1 or count
   end
-  if i < 1 or i > matches.count then
+  if i < 1 or i > count then
     return tell("no match of " .. sought.pattern)
   end
   go(found, i)
@@ -256,7 +340,7 @@ function M.forget(buffer)
   known[buffer] = nil
 end
 
--- What is known of a buffer: its text and matches.
+-- What is known of a buffer: its text, and the list of its matches.
 function M.looked_up(buffer)
   return sought and look(buffer)
 end

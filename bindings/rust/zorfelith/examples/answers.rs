@@ -36,6 +36,8 @@ fn status(error: Error) -> u32 {
         Error::TooLarge => 9,
         Error::Memory => 10,
         Error::NoKind => 11,
+        Error::NoList => 13,
+        Error::Misfit => 14,
     }
 }
 
