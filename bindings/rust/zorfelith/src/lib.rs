@@ -13,6 +13,8 @@
 //!     assert_eq!(captures.get(2).map(|month| month.len()), Some(2));
 //! }
 //! assert_eq!(dates.replace_all(&text, |_| "soon")?, b"due soon, paid soon");
+//! assert_eq!(dates.replace(&text, |_| "soon")?, b"due soon, paid 2027-01");
+//! assert_eq!(dates.split(&text).collect::<Result<Vec<_>, _>>()?, [0..4, 11..18, 25..25]);
 //! assert_eq!(dates.replace_by(&text, "${2}/${year}")?, (b"due 11/2026, paid 01/2027".to_vec(), 2));
 //! assert_eq!(dates.find_last(&text, 18)?.map(|found| found.range()), Some(4..11));
 //! assert_eq!(dates.match_at(Input::new(&text).range(18..))?.map(|found| found.range()), Some(18..25));
@@ -425,15 +427,42 @@ impl Regex {
         CapturesIter(self.find_iter(input))
     }
 
+    /// The parts of the range between its matches, from left to right: one more than it has matches.
+    pub fn split<'r, 't>(&'r mut self, input: impl Into<Input<'t>>) -> Split<'r, 't> {
+        let input = input.into();
+        let end = input.end.min(input.text.iter().map(|chunk| chunk.bytes().len()).sum());
+        Split { matches: self.find_iter(input), at: Some(input.start), end }
+    }
+
+    /// The bytes of the range in which the first match is replaced by what the function makes of it.
+    pub fn replace<'t, R: AsRef<[u8]>>(
+        &mut self,
+        input: impl Into<Input<'t>>,
+        replacement: impl FnMut(&Captures) -> R,
+    ) -> Result<Vec<u8>, Error> {
+        self.replacen(input, 1, replacement)
+    }
+
     /// The bytes of the range in which each match is replaced by what the function makes of it.
     pub fn replace_all<'t, R: AsRef<[u8]>>(
         &mut self,
         input: impl Into<Input<'t>>,
+        replacement: impl FnMut(&Captures) -> R,
+    ) -> Result<Vec<u8>, Error> {
+        self.replacen(input, 0, replacement)
+    }
+
+    /// The bytes of the range in which the first matches, at most `limit`, are replaced by what the function makes of them. A limit of 0 is
+    /// none.
+    pub fn replacen<'t, R: AsRef<[u8]>>(
+        &mut self,
+        input: impl Into<Input<'t>>,
+        limit: usize,
         mut replacement: impl FnMut(&Captures) -> R,
     ) -> Result<Vec<u8>, Error> {
         let input = input.into();
         let (mut out, mut at) = (Vec::new(), input.start);
-        for captures in self.captures_iter(input) {
+        for captures in self.captures_iter(input).take(if limit == 0 { usize::MAX } else { limit }) {
             let captures = captures?;
             input.range(at..captures.found.start()).copy_to(&mut out);
             out.extend_from_slice(replacement(&captures).as_ref());
@@ -685,6 +714,37 @@ impl Iterator for CapturesIter<'_, '_> {
         match self.0.next()? {
             Ok(found) => self.0.regex.captures(self.0.input.range(found.range())).transpose(),
             Err(error) => Some(Err(error)),
+        }
+    }
+}
+
+/// The parts of a text between its matches.
+pub struct Split<'r, 't> {
+    matches: FindIter<'r, 't>,
+    /// Where the next part begins; `None` behind the last one.
+    at: Option<usize>,
+    end: usize,
+}
+
+impl Iterator for Split<'_, '_> {
+    type Item = Result<Range<usize>, Error>;
+
+    /// The next part, in bytes of the text. An `Err` is the last item.
+    fn next(&mut self) -> Option<Result<Range<usize>, Error>> {
+        let start = self.at?;
+        match self.matches.next() {
+            Some(Ok(found)) => {
+                self.at = Some(found.end());
+                Some(Ok(start..found.start()))
+            }
+            Some(Err(error)) => {
+                self.at = None;
+                Some(Err(error))
+            }
+            None => {
+                self.at = None;
+                Some(Ok(start..self.end))
+            }
         }
     }
 }
