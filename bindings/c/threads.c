@@ -1,7 +1,10 @@
 /* Two threads, each with a handle of its own and a stack of 256 KiB, compile patterns that are nested 250 levels deep, and search one text. Then
- * four threads search by handles that share what one compiled, each with a live list of its own; each handle was made by the thread before,
- * and is freed by the one that got it, in any order. It prints what each found. scripts/bindings runs it under helgrind and under a
- * sanitizer of threads, which report data that two threads reach without an order. */
+ * four threads search by handles that share what one compiled, each with a live list of its own; each handle is made by the first thread, and
+ * freed by the one that got it. It prints what each found. scripts/bindings runs it under helgrind and drd, which report data that two
+ * threads reach without an order.
+ *
+ * usage: threads           does all that
+ *        threads copied    uses one handle in two threads at once, which no caller may do: helgrind has to see it */
 #include "../../include/zorfelith.h"
 #include <pthread.h>
 #include <stdio.h>
@@ -101,7 +104,38 @@ static int shared(void) {
     return 0;
 }
 
-int main(void) {
+/* Goes over the text again and again. */
+static void *run_copied(void *handle) {
+    struct zf_match found;
+    struct zf_group groups[1];
+    for (int round = 0; round < ROUNDS; round++) {
+        zf_restart(handle, 0, 0);
+        zf_find_groups(handle, text, 3, 0, ZF_NONE, &found, groups, 1);
+    }
+    return NULL;
+}
+
+/* A handle and a copy of it, at once. */
+static int copied(void) {
+    const struct zf_bytes pattern = {(const uint8_t *)"a[ab]x?", 7};
+    const struct zf_settings settings = {0};
+    struct zf_handle handle = {0}, copy;
+    struct zf_refused refused;
+    pthread_t threads[2];
+    if (zf_compile(&handle, &pattern, 1, &settings, sizeof settings, &refused) != ZF_DONE)
+        return 1;
+    copy = handle;
+    if (pthread_create(&threads[0], NULL, run_copied, &handle) != 0 || pthread_create(&threads[1], NULL, run_copied, &copy) != 0)
+        return 1;
+    pthread_join(threads[0], NULL);
+    pthread_join(threads[1], NULL);
+    zf_free(&handle);
+    return 0;
+}
+
+int main(int argc, char **argv) {
+    if (argc > 1 && strcmp(argv[1], "copied") == 0)
+        return copied();
     struct work works[2] = {{.letter = 'a'}, {.letter = 'b'}};
     pthread_t threads[2];
     pthread_attr_t attributes;

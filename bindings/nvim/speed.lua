@@ -1,4 +1,4 @@
--- Times all matches in a buffer of 100,000 lines, and the same by Neovim's own vim.regex line by line:
+-- Times all matches in a buffer of 100,000 lines, and the same by Neovim's own vim.regex line by line; and what follows an edit:
 --   ZORFELITH_LIBRARY=.. nvim --headless -u NONE --cmd 'set rtp^=bindings/nvim' -c 'luafile bindings/nvim/speed.lua'
 local zorfelith = require("zorfelith")
 
@@ -46,5 +46,18 @@ for _, row in ipairs({ { [[value_99\d+]], [[\Cvalue_99\d\+]] }, { "[a-z]+ed", [[
     return by_vim(row[2])
   end)
   io.stdout:write(("%-12s %7d matches: %5.0f ms; vim.regex %7d, %5.0f ms\n"):format(row[1], found.count, ours, count, theirs))
+end
+
+-- A line is changed in the middle: what it takes to keep the list of the buffer.
+vim.cmd("runtime plugin/zorfelith.lua")
+for _, pattern in ipairs({ [[value_99\d+]], "nowhere", [[\d+]] }) do
+  vim.cmd("ZfFind " .. pattern)
+  local buffer, round = vim.api.nvim_get_current_buf(), 0
+  local kept = timed(function()
+    round = round + 1
+    vim.api.nvim_buf_set_lines(buffer, 50000, 50001, false, { ("let value_99%d = other;"):format(round) })
+    return zorfelith.looked_up(buffer)
+  end)
+  io.stdout:write(("%-12s after an edit: %.0f ms\n"):format(pattern, kept))
 end
 vim.cmd("qall!")
