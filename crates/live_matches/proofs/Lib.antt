@@ -11,3 +11,6 @@ mod Lives
 mod Had
 mod Cuts
 mod Windows
+mod Bounds
+mod Quiets
+mod Spans

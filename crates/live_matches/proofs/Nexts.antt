@@ -13,9 +13,14 @@ use Rattle.live_matches.specs.declared.entry.Entry.{Entry}
 use Rattle.live_matches.specs.Entries.{AreBehind, Gapped, IsSkipped, is_before, last_end, len_after, moved_with, reach_of}
 use Rattle.live_matches.specs.Lists.{AreEntries, AreFirst, IsEntry, IsSearchedOn, Meets, mark_after, next_after, place_of}
 use Rattle.live_matches.specs.Live.{IsEdited}
+use Rattle.live_matches.specs.Quiet.{HasGone}
 use Rattle.live_matches.proofs.Moves.{lies}
 use Rattle.live_matches.proofs.Listed.{all_append, all_behind, first_append, moved}
 use Rattle.live_matches.proofs.Gaps.{end_push}
+
+-- the entries that are skipped go
+pub gone_by : (mark : Option ℕ) (at : ℕ) (g : Gapped) (now : Option ℕ) (h : Gapped) → IsSkipped mark at g now h → HasGone g h
+gone_by mark at g now h skip = record { dropped = skip.dropped; split = skip.split; before = skip.before; len = skip.len }
 
 module _ (kind : MatchKind) (s : Search) where
   -- the search from the next byte counts if the first match is the empty one again
@@ -76,19 +81,18 @@ module _ (kind : MatchKind) (s : Search) where
   ends_inside c last (e ∷ es) h first = ends_inside c (Some e.found.end) es (left_falls c last e.found first.0.found).1 first.1
 
   -- one more entry is found, and the entries that it passes are dropped
-  module _ (c : List ℕ) (g p h : Gapped) (e : Entry) (mark now : Option ℕ) (at : ℕ)
-      (pushed : p ≡ record g { before = g.before ++ e ∷ [] }) (skip : IsSkipped mark at p now h) where
+  module _ (c : List ℕ) (g p h : Gapped) (e : Entry) (pushed : p ≡ record g { before = g.before ++ e ∷ [] }) (went : HasGone p h) where
     pub before_is : h.before ≡ g.before ++ e ∷ []
-    before_is = skip.before ∙ ap (λ (x : Gapped). x.before) pushed
+    before_is = went.before ∙ ap (λ (x : Gapped). x.before) pushed
 
     pub one_on : (f : Gapped) → IsSearchedOn f g → IsSearchedOn f h
     one_on f i = record {
       anew = i.anew ++ e ∷ [];
-      gone = i.gone ++ skip.dropped;
+      gone = i.gone ++ went.dropped;
       before = before_is ∙ ap (λ es. es ++ e ∷ []) i.before ∙ append_assoc f.before i.anew (e ∷ []);
-      after = i.after ∙ ap (λ es. i.gone ++ es) (sym (ap (λ (x : Gapped). x.after) pushed) ∙ skip.split)
-          ∙ sym (append_assoc i.gone skip.dropped h.after);
-      len = skip.len ∙ ap (λ (x : Gapped). x.len) pushed ∙ i.len;
+      after = i.after ∙ ap (λ es. i.gone ++ es) (sym (ap (λ (x : Gapped). x.after) pushed) ∙ went.split)
+          ∙ sym (append_assoc i.gone went.dropped h.after);
+      len = went.len ∙ ap (λ (x : Gapped). x.len) pushed ∙ i.len;
     }
 
     pub one_last : last_end None h.before ≡ Some e.found.end
@@ -100,15 +104,17 @@ module _ (kind : MatchKind) (s : Search) where
         subst (AreFirst kind s c None) (sym before_is)
         (first_append kind s c None g.before (e ∷ []) first (subst (λ l. IsEntry kind s c l e) same is, tt))
 
-    pub one_rest : Meets kind s c mark g.after → Meets kind s c now h.after
-    one_rest meets = skipped c mark now g.after skip.dropped h.after meets (sym (ap (λ (x : Gapped). x.after) pushed) ∙ skip.split) skip.mark_is
+    module _ (mark now : Option ℕ) (at : ℕ) (skip : IsSkipped mark at p now h) where
+      pub one_rest : Meets kind s c mark g.after → Meets kind s c now h.after
+      one_rest meets =
+          skipped c mark now g.after skip.dropped h.after meets (sym (ap (λ (x : Gapped). x.after) pushed) ∙ skip.split) skip.mark_is
 
-    -- the next match of both lists is the same
-    pub one_all : (last : Option ℕ) → last ≡ last_end None g.before → IsEntry kind s c last e → AreFirst kind s c None g.before →
-        Meets kind s c mark g.after → now ≡ Some e.found.end → AreEntries kind s c None (h.before ++ h.after)
-    one_all last same is first meets there =
-        all_append kind s c None h.before h.after (one_first last same is first)
-        (subst (λ l. AreEntries kind s c l h.after) (sym one_last) (subst (λ m. Meets kind s c m h.after) there (one_rest meets)))
+      -- the next match of both lists is the same
+      pub one_all : (last : Option ℕ) → last ≡ last_end None g.before → IsEntry kind s c last e → AreFirst kind s c None g.before →
+          Meets kind s c mark g.after → now ≡ Some e.found.end → AreEntries kind s c None (h.before ++ h.after)
+      one_all last same is first meets there =
+          all_append kind s c None h.before h.after (one_first last same is first)
+          (subst (λ l. AreEntries kind s c l h.after) (sym one_last) (subst (λ m. Meets kind s c m h.after) there (one_rest meets)))
 
   -- the entries after the gap are dropped
   pub none_on : (f g h : Gapped) → h ≡ record g { after = [] } → IsSearchedOn f g → IsSearchedOn f h

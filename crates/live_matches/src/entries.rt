@@ -1,6 +1,7 @@
 //! Entries: a list of matches with a gap that follows the edits.
 ghost use Rattle.std.specs.Prelude.{◌≡◌, ◌+◌, ◌++◌, ◌<◌, ◌≤◌, IfOk, min};
 ghost use Rattle.live_matches.specs.Entries.{AreBelow, Rise, counted_back, entries_of, is_before, most_of, reach_of};
+ghost use Rattle.live_matches.specs.Lists.{place_of};
 
 use crate::entry::{Edit, Entry};
 use std::alloc::{AllocError, Global};
@@ -42,6 +43,7 @@ impl Model for Entries {
 impl Entries {
     ghost use Rattle.std.specs.Prelude.{◌≡◌, ◌+◌, ◌-◌, ◌++◌, ◌<◌, ◌≤◌, ◌^◌, ◌∷◌, [], All, IfOk, IfSome, MatchOption, length, map, slice_get};
     ghost use Rattle.live_matches.specs.Entries.{AreBehind, AreBelow, FitsEdit, IsSettledTo, IsSkipped, all_of, last_end, len_after, moved_with};
+    ghost use Rattle.live_matches.specs.Quiet.{BeginFrom, IsSkippedOver};
 
     /// Returns an empty list for a text of `len` bytes. It takes no memory yet.
     pub fn new(alloc: Global, len: usize) -> Entries
@@ -184,6 +186,32 @@ impl Entries {
         mark
     }
 
+    /// Takes the first entry after the gap from the list, if it begins at a place or before it.
+    fn take_next_by(&mut self, at: usize) -> Option<Entry>
+        ensures { MatchOption result (BeginFrom (at + 1) self.new.after × (self.new ≡ self.old))
+            (λ e. (self.old.after ≡ e ∷ self.new.after)
+            × (self.new ≡ record self.old { after = self.new.after })) }
+    {
+        let first = self.get_after(0)?;
+        if at < first.found.start() {
+            return None;
+        }
+        self.take_next()
+    }
+
+    /// Drops the entries after the gap that begin at a place or before it. Returns the place, or
+    /// where the last one that it drops ends if that is later. The mark says where the one before
+    /// them ends.
+    pub fn skip_over(&mut self, mark: Option<usize>, at: usize) -> usize
+        ensures { IsSkippedOver mark at self.old result self.new }
+    {
+        let mut mark = mark;
+        'over: while let Some(entry) = self.take_next_by(at) {
+            mark = Some(entry.found.end());
+        }
+        place_of(mark).max(at)
+    }
+
     /// Goes over to the text after an edit. The places before the gap stay, and those after it move
     /// with the text.
     pub fn edit(&mut self, edit: Edit)
@@ -209,6 +237,16 @@ impl Entries {
         move_back(&mut self.before, &mut self.after, self.len, at)?;
         move_on(&mut self.before, &mut self.after, self.len, at)?;
         Ok(())
+    }
+}
+
+/// Where the next match is sought, if the one before ended at `last`.
+pub fn place_of(last: Option<usize>) -> usize
+    ensures { result ≡ place_of last }
+{
+    match last {
+        Some(last) => last,
+        None => 0,
     }
 }
 

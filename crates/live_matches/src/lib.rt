@@ -6,11 +6,14 @@ mod entries;
 pub mod entry;
 pub mod input;
 pub mod iter;
+pub mod lengths;
 pub mod live;
+mod quiet;
 mod ranges;
 mod search;
 
 pub use entry::{Changed, Edit};
 pub use input::whole_input;
 pub use iter::LiveMatchesIter;
+pub use lengths::longest_of;
 pub use live::LiveMatches;

@@ -41,13 +41,14 @@ impl Model for LiveMatches {
 }
 
 impl LiveMatches {
-    ghost use Rattle.std.specs.Prelude.{◌≡◌, ◌<◌, ◌≤◌, ℕ, IfErr, IfOk, filter, length, nat_eq, slice_get};
+    ghost use Rattle.std.specs.Prelude.{◌≡◌, ◌<◌, ◌≤◌, ℕ, IfErr, IfOk, IfSome, filter, length, nat_eq, slice_get};
     ghost use Rattle.rc_program.specs.Matches.{AreInOrder, begin_of, end_of};
     ghost use Rattle.live_matches.specs.Reading.{IsAbove, IsCut, IsDownTo, IsLastBefore, IsNextFrom, matches_left, touches};
     ghost use Rattle.rc_text.specs.Text.{Keeps};
     ghost use Rattle.live_matches.specs.Drawn.{IsDrawn};
     ghost use Rattle.live_matches.specs.Lists.{IsChanged};
     ghost use Rattle.live_matches.specs.Live.{IsCacheOf, IsLive, IsStale, IsWhole, WasLive, listed};
+    ghost use Rattle.live_matches.specs.Quiet.{IsLongest};
     ghost use Rattle.live_matches.specs.Ranges.{IsRange};
 
     /// Returns the list of the matches in the content of the input, in a cache that was made for
@@ -186,8 +187,34 @@ impl LiveMatches {
             IsDrawn edit (listed self.old) (listed self.new) c.span) }
         ensures stale { IfErr result (λ _. IsStale self.new) }
     {
+        self.edit_within(regex, cache, edit, input, None)
+    }
+
+    /// Keeps the list under an edit, as `edit` does. If `longest` is there, no match has more bytes
+    /// than that: `longest_of` tells it of the patterns. Then an edit reads about twice as many
+    /// bytes, however far the next match is, unless the kind is `MatchKind::All`.
+    pub fn edit_within<C: Cursor>(
+        &mut self,
+        regex: &Regex,
+        cache: &mut Cache,
+        edit: Edit,
+        input: &mut Input<C>,
+        longest: Option<usize>,
+    ) -> Result<Changed, AllocError>
+        requires made { IsCacheOf regex.now cache.old }
+        requires whole { IsWhole input.old }
+        requires was { WasLive regex.now edit input.old.content self.old }
+        requires longest { IfSome longest (IsLongest regex.now) }
+        ensures cache { IsCacheOf regex.now cache.new }
+        ensures keeps { Keeps input.old input.new }
+        ensures live { IfOk result (λ _. IsLive regex.now input.old.content self.new) }
+        ensures changed { IfOk result (IsChanged edit self.old.entries self.new.entries) }
+        ensures drawn { IfOk result (λ c.
+            IsDrawn edit (listed self.old) (listed self.new) c.span) }
+        ensures stale { IfErr result (λ _. IsStale self.new) }
+    {
         content_fits(input);
-        let changed = update(&mut self.entries, regex, cache, edit, input);
+        let changed = update(&mut self.entries, longest, regex, cache, edit, input);
         input.set_start(0);
         if changed.is_err() {
             self.make_stale();

@@ -6,8 +6,8 @@ ghost use Rattle.live_matches.specs.Lists.{AreFirst, place_of};
 ghost use Rattle.live_matches.specs.Live.{Goes, IsCacheOf, IsOver, seeks};
 ghost use Rattle.live_matches.specs.Ranges.{AreUpTo, MeetsUpTo, begin_of_range};
 
-use crate::entries::{Entries, is_before};
-use crate::search::{is_at, next_entry, place_of};
+use crate::entries::{Entries, is_before, place_of};
+use crate::search::{is_at, next_entry};
 use rc_text::input::content_fits;
 use regex_cursor::engines::meta::{Cache, Regex};
 use regex_cursor::types::Span;

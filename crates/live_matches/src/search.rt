@@ -5,13 +5,15 @@ ghost use Rattle.rc_reach.specs.Fixed.{IsFixed};
 ghost use Rattle.rc_reach.specs.Live.{found_by};
 ghost use Rattle.api_meta.specs.Views.{regex_kind};
 ghost use Rattle.live_matches.specs.Drawn.{IsDrawn};
-ghost use Rattle.live_matches.specs.Entries.{all_of};
+ghost use Rattle.live_matches.specs.Entries.{AreBelow, all_of};
 ghost use Rattle.live_matches.specs.Lists.{AreEntries, AreFirst, IsChanged, IsEntry, IsSearchedOn, Meets, founds, mark_after, next_after, place_of};
 ghost use Rattle.live_matches.specs.Live.{Goes, IsCacheOf, IsOver, WereEntries, seeks};
+ghost use Rattle.live_matches.specs.Quiet.{IsCarried, IsLongest};
 
 use crate::changes::{Ahead, change_of};
-use crate::entries::{Entries, is_before};
+use crate::entries::{Entries, is_before, place_of};
 use crate::entry::{Changed, Edit, Entry};
+use crate::quiet::{carry_near, short_length};
 use rc_text::input::content_fits;
 use regex_cursor::engines::meta::{Cache, Reached, Regex};
 use regex_cursor::types::Match;
@@ -19,10 +21,10 @@ use regex_cursor::{Cursor, Input};
 use std::alloc::AllocError;
 
 /// How many bytes before a position an assertion looks at, at most.
-const LOOKS_BEHIND: usize = 4;
+pub const LOOKS_BEHIND: usize = 4;
 
 /// What a search of the content from a place on finds, and how many bytes settle it.
-fn search_from<C: Cursor>(
+pub fn search_from<C: Cursor>(
     regex: &Regex,
     cache: &mut Cache,
     input: &mut Input<C>,
@@ -118,9 +120,11 @@ pub fn search_on<C: Cursor>(
     Ok(())
 }
 
-/// Makes the entries those of a text after an edit of it. An `Err` means out of memory.
+/// Makes the entries those of a text after an edit of it. `longest` is the greatest length of a
+/// match, if it is known. An `Err` means out of memory.
 pub fn update<C: Cursor>(
     entries: &mut Entries,
+    longest: Option<usize>,
     regex: &Regex,
     cache: &mut Cache,
     edit: Edit,
@@ -128,6 +132,7 @@ pub fn update<C: Cursor>(
 ) -> Result<Changed, AllocError>
     requires made { IsCacheOf regex.now cache.old }
     requires over { IsOver input.old }
+    requires longest { IfSome longest (IsLongest regex.now) }
     requires were { WereEntries regex.now edit input.old.content entries.old }
     ensures cache { IsCacheOf regex.now cache.new }
     ensures goes { Goes input.old input.new }
@@ -144,16 +149,70 @@ pub fn update<C: Cursor>(
     let ahead = Ahead::of(entries);
     let first = entries.count_before();
     let after = entries.count_after();
-    let last = entries.last_end();
-    let mark = entries.skip_to(last, edit.replaced.end, LOOKS_BEHIND);
-    entries.edit(edit);
-    search_on(entries, mark_after(mark, edit), regex, cache, input)?;
+    carry(entries, longest, regex, cache, edit, input)?;
     let dropped = after - entries.count_after();
     Ok(change_of(entries, &ahead, edit, first, dropped))
 }
 
+/// Carries the entries over an edit, which the bytes before it settle as far as they are before the
+/// gap. An `Err` means out of memory.
+fn carry<C: Cursor>(
+    entries: &mut Entries,
+    longest: Option<usize>,
+    regex: &Regex,
+    cache: &mut Cache,
+    edit: Edit,
+    input: &mut Input<C>,
+) -> Result<(), AllocError>
+    requires made { IsCacheOf regex.now cache.old }
+    requires over { IsOver input.old }
+    requires longest { IfSome longest (IsLongest regex.now) }
+    requires were { WereEntries regex.now edit input.old.content entries.old }
+    requires below { AreBelow edit.replaced.start entries.old.before }
+    ensures cache { IsCacheOf regex.now cache.new }
+    ensures goes { Goes input.old input.new }
+    ensures over { IsOver input.new }
+    ensures carried { IfOk result (λ _. IsCarried edit entries.old entries.new) }
+    ensures len { IfOk result (λ _. entries.new.len ≡ length input.old.content) }
+    ensures all { IfOk result (λ _. AreEntries (regex_kind regex.now) (seeks regex.now)
+        input.old.content None (all_of entries.new)) }
+{
+    match short_length(regex, longest) {
+        Some(longest) => carry_near(entries, longest, regex, cache, edit, input),
+        None => carry_over(entries, regex, cache, edit, input),
+    }
+}
+
+/// Carries the entries over an edit. It searches on until a match ends where one did, behind the
+/// edit. An `Err` means out of memory.
+fn carry_over<C: Cursor>(
+    entries: &mut Entries,
+    regex: &Regex,
+    cache: &mut Cache,
+    edit: Edit,
+    input: &mut Input<C>,
+) -> Result<(), AllocError>
+    requires made { IsCacheOf regex.now cache.old }
+    requires over { IsOver input.old }
+    requires were { WereEntries regex.now edit input.old.content entries.old }
+    requires below { AreBelow edit.replaced.start entries.old.before }
+    ensures cache { IsCacheOf regex.now cache.new }
+    ensures goes { Goes input.old input.new }
+    ensures over { IsOver input.new }
+    ensures carried { IfOk result (λ _. IsCarried edit entries.old entries.new) }
+    ensures len { IfOk result (λ _. entries.new.len ≡ length input.old.content) }
+    ensures all { IfOk result (λ _. AreEntries (regex_kind regex.now) (seeks regex.now)
+        input.old.content None (all_of entries.new)) }
+{
+    content_fits(input);
+    let last = entries.last_end();
+    let mark = entries.skip_to(last, edit.replaced.end, LOOKS_BEHIND);
+    entries.edit(edit);
+    search_on(entries, mark_after(mark, edit), regex, cache, input)
+}
+
 /// The mark in the text after an edit, if it is behind all that the edit may change.
-fn mark_after(mark: Option<usize>, edit: Edit) -> Option<usize>
+pub fn mark_after(mark: Option<usize>, edit: Edit) -> Option<usize>
     requires order { edit.replaced.start ≤ edit.replaced.end }
     requires fits { place_of mark - (edit.replaced.end - edit.replaced.start) + edit.inserted
         < 2 ^ 64 }
@@ -164,16 +223,6 @@ fn mark_after(mark: Option<usize>, edit: Edit) -> Option<usize>
         return None;
     }
     Some(place - (edit.replaced.end - edit.replaced.start) + edit.inserted)
-}
-
-/// Where the next match is sought, if the one before ended at `last`.
-pub fn place_of(last: Option<usize>) -> usize
-    ensures { result ≡ place_of last }
-{
-    match last {
-        Some(last) => last,
-        None => 0,
-    }
 }
 
 /// Whether the mark is there, and at this place.
@@ -197,7 +246,7 @@ fn is_again(last: Option<usize>, found: Match) -> bool
 }
 
 /// The entry of a match that so many bytes settle.
-fn entry_of(found: Match, reach: usize) -> Entry
+pub fn entry_of(found: Match, reach: usize) -> Entry
     requires { found.end ≤ reach }
     ensures found { result.found ≡ found }
     ensures reach { result.found.end + result.ahead ≡ reach }

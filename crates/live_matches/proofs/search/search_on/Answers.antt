@@ -3,7 +3,7 @@ use Rattle.std.proofs.lemmas.List.{append-nil}
 use Rattle.api_meta.specs.Views.{regex_kind}
 use Rattle.live_matches.specs.Lists.{IsEntry}
 use Rattle.live_matches.specs.Live.{seeks}
-use Rattle.live_matches.proofs.Nexts.{ends_inside, left_falls, none_on, one_all, one_first, one_last, one_on, one_rest}
+use Rattle.live_matches.proofs.Nexts.{ends_inside, gone_by, left_falls, none_on, one_all, one_first, one_last, one_on, one_rest}
 use Rattle.live_matches.proofs.search.search_on.Goals as goal
 
 pub on-init : goal.on-init
@@ -33,8 +33,8 @@ push-requires g c =
 pub returns-then-is_at-clause-on : goal.returns-then-is_at-clause-on
 returns-then-is_at-clause-on g c =
     let r = c.args.regex.now in
-    one_on (regex_kind r) (seeks r) c.args.input.now.content c.on.entries c.push.new.self c.skip_to-mark.new.self c.in-Some.entry c.on.mark
-    c.skip_to-mark.result _ c.in_ok-push.ensures c.skip_to-mark.ensures c.args.entries.now c.on.invariant.on
+    one_on (regex_kind r) (seeks r) c.args.input.now.content c.on.entries c.push.new.self c.skip_to-mark.new.self c.in-Some.entry c.in_ok-push.ensures
+    (gone_by c.on.mark _ c.push.new.self c.skip_to-mark.result c.skip_to-mark.new.self c.skip_to-mark.ensures) c.args.entries.now c.on.invariant.on
 
 pub returns-then-is_at-clause-all : goal.returns-then-is_at-clause-all
 returns-then-is_at-clause-all g c =
@@ -43,8 +43,9 @@ returns-then-is_at-clause-all g c =
     let e = c.in-Some.entry in
     let i = c.on.invariant in
     let is = subst (λ x. IsEntry (regex_kind r) (seeks r) x c.on.last e) i.goes.content c.in-Some.ensures.next in
-    one_all (regex_kind r) (seeks r) content c.on.entries c.push.new.self c.skip_to-mark.new.self e c.on.mark
-    c.skip_to-mark.result _ c.in_ok-push.ensures c.skip_to-mark.ensures c.on.last i.last is i.first i.rest
+    one_all (regex_kind r) (seeks r) content c.on.entries c.push.new.self c.skip_to-mark.new.self e c.in_ok-push.ensures
+    (gone_by c.on.mark _ c.push.new.self c.skip_to-mark.result c.skip_to-mark.new.self c.skip_to-mark.ensures) c.on.mark c.skip_to-mark.result _
+    c.skip_to-mark.ensures c.on.last i.last is i.first i.rest
     (c.if-is_at.ensures refl ∙ ap Some c.end-end.ensures.value)
 
 pub on-smaller : goal.on-smaller
@@ -65,6 +66,7 @@ on-preserved g c =
     let is = subst (λ x. IsEntry (regex_kind r) (seeks r) x c.on.last e) i.goes.content was.next in
     let h = left_falls (regex_kind r) (seeks r) content c.on.last e.found is.found in
     let same = c.end-end.ensures.value in
+    let gone = gone_by c.on.mark _ c.push.new.self c.skip_to-mark.result c.skip_to-mark.new.self c.skip_to-mark.ensures in
     record {
       cache = was.cache;
       over = was.over;
@@ -75,15 +77,15 @@ on-preserved g c =
         anchored = was.goes.anchored ∙ i.goes.anchored;
         earliest = was.goes.earliest ∙ i.goes.earliest;
       };
-      on = one_on (regex_kind r) (seeks r) content c.on.entries c.push.new.self c.skip_to-mark.new.self e c.on.mark
-          c.skip_to-mark.result _ c.in_ok-push.ensures c.skip_to-mark.ensures c.args.entries.now i.on;
-      last = ap Some same ∙ sym (one_last (regex_kind r) (seeks r) content c.on.entries c.push.new.self c.skip_to-mark.new.self e c.on.mark
-          c.skip_to-mark.result _ c.in_ok-push.ensures c.skip_to-mark.ensures);
+      on = one_on (regex_kind r) (seeks r) content c.on.entries c.push.new.self c.skip_to-mark.new.self e c.in_ok-push.ensures gone
+          c.args.entries.now i.on;
+      last = ap Some same ∙ sym (one_last (regex_kind r) (seeks r) content c.on.entries c.push.new.self c.skip_to-mark.new.self e
+          c.in_ok-push.ensures gone);
       inside = omega (arith, h.1, same);
-      first = one_first (regex_kind r) (seeks r) content c.on.entries c.push.new.self c.skip_to-mark.new.self e c.on.mark
-          c.skip_to-mark.result _ c.in_ok-push.ensures c.skip_to-mark.ensures c.on.last i.last is i.first;
-      rest = one_rest (regex_kind r) (seeks r) content c.on.entries c.push.new.self c.skip_to-mark.new.self e c.on.mark
-          c.skip_to-mark.result _ c.in_ok-push.ensures c.skip_to-mark.ensures i.rest;
+      first = one_first (regex_kind r) (seeks r) content c.on.entries c.push.new.self c.skip_to-mark.new.self e c.in_ok-push.ensures gone
+          c.on.last i.last is i.first;
+      rest = one_rest (regex_kind r) (seeks r) content c.on.entries c.push.new.self c.skip_to-mark.new.self e c.in_ok-push.ensures gone
+          c.on.mark c.skip_to-mark.result _ c.skip_to-mark.ensures i.rest;
     }
 
 pub returns-clause-on : goal.returns-clause-on

@@ -5,7 +5,7 @@ use Rattle.live_matches.specs.Lists.{AreEntries}
 use Rattle.live_matches.specs.Live.{Listed, seeks}
 use Rattle.live_matches.proofs.Had.{both_ok}
 use Rattle.live_matches.proofs.Lives.{is_live}
-use Rattle.live_matches.proofs.live.LiveMatches.edit.Goals as goal
+use Rattle.live_matches.proofs.live.LiveMatches.edit_within.Goals as goal
 
 pub returns-else-is_err-clause-live : goal.returns-else-is_err-clause-live
 returns-else-is_err-clause-live g c =

@@ -1,0 +1,276 @@
+//! Quiet stretches: edits of a text whose matches have a greatest length. Far from all matches
+//! they read about twice as many bytes.
+ghost use Rattle.std.specs.Prelude.{◌≡◌, ◌≢◌, ◌+◌, ◌<◌, ◌≤◌, ℕ, IfOk, IfSome, IsTrue, List, MatchOption, None, Some, false, length};
+ghost use Rattle.rc_text.specs.declared.types.MatchKind.{MatchKind as a_kind};
+ghost use Rattle.rc_text.specs.declared.types.MatchKind.TheVariants.{All as all_matches};
+ghost use Rattle.rc_program.specs.Answer.{Search, is_anchored};
+ghost use Rattle.rc_reach.specs.Live.{found_by};
+ghost use Rattle.api_meta.specs.Views.{regex_kind};
+ghost use Rattle.live_matches.specs.Entries.{AreBelow, all_of, last_end};
+ghost use Rattle.live_matches.specs.Lists.{AreEntries, AreFirst, IsEntry, IsSearchedOn, Meets, next_after, place_of};
+ghost use Rattle.live_matches.specs.Live.{Goes, IsCacheOf, IsOver, WereEntries, seeks};
+ghost use Rattle.live_matches.specs.Quiet.{BeginFrom, HasGone, IsCarried, IsFrom, IsLeft, IsLongest, IsShort};
+
+use crate::entries::{Entries, place_of};
+use crate::entry::{Edit, Entry};
+use crate::search::{LOOKS_BEHIND, entry_of, mark_after, next_entry, search_from};
+use rc_text::input::content_fits;
+use regex_cursor::engines::meta::{Cache, Regex};
+use regex_cursor::types::{MatchKind, Span};
+use regex_cursor::{Cursor, Input};
+use std::alloc::AllocError;
+
+/// How many bytes after a position an assertion looks at, at most.
+const LOOKS_AHEAD: usize = 4;
+
+/// The greatest length, if it is known and leftmost matches count.
+pub fn short_length(regex: &Regex, longest: Option<usize>) -> Option<usize>
+    requires longest { IfSome longest (IsLongest regex.now) }
+    ensures { IfSome result (IsShort regex.now) }
+{
+    match regex.get_config().get_match_kind() {
+        MatchKind::All => None,
+        MatchKind::LeftmostFirst | MatchKind::LeftmostLongest => longest,
+    }
+}
+
+/// Where the first match after the gap may begin at the earliest, once the bytes from `at` on
+/// change. It is 0 if that isn't known.
+fn first_place(entries: &Entries, at: usize, longest: usize) -> usize
+    ensures begins { BeginFrom result entries.now.after }
+    ensures settled { 0 < result → result + longest + 4 ≤ at }
+{
+    let reach = longest.saturating_add(LOOKS_AHEAD);
+    let place = at.saturating_sub(reach);
+    match entries.get_after(0) {
+        Some(entry) => place.min(entry.found.start()),
+        None => place,
+    }
+}
+
+/// Drops the entries after the gap that an edit may change. Returns where the list of the old text
+/// is taken up: four bytes behind the edit, or where the last dropped one ends if that is later.
+fn skip_behind(entries: &mut Entries, last: Option<usize>, edit: Edit) -> Option<usize>
+    ensures gone { HasGone entries.old entries.new }
+    ensures left { (kind : a_kind) (s : Search) (c : List ℕ) → kind ≢ all_matches
+        → is_anchored s.anchoring ≡ false → length c ≡ entries.old.len
+        → place_of last ≤ length c → AreEntries kind s c last entries.old.after
+        → IsLeft kind s c (edit.replaced.end + 4) result entries.new.after }
+{
+    let room = entries.text_len().saturating_sub(edit.replaced.end);
+    if room < LOOKS_BEHIND {
+        return entries.skip_to(last, edit.replaced.end, LOOKS_BEHIND);
+    }
+    Some(entries.skip_over(last, edit.replaced.end + LOOKS_BEHIND))
+}
+
+/// Drops the entries after the gap that begin before a new match ends, or there. Returns where the
+/// list is taken up: where that match ends, or the last dropped one if that is later.
+fn skip_past(entries: &mut Entries, mark: Option<usize>, end: usize) -> Option<usize>
+    ensures gone { HasGone entries.old entries.new }
+    ensures meets { (kind : a_kind) (s : Search) (c : List ℕ) → kind ≢ all_matches
+        → is_anchored s.anchoring ≡ false → Meets kind s c mark entries.old.after
+        → Meets kind s c result entries.new.after }
+{
+    match mark {
+        Some(_) => Some(entries.skip_over(mark, end)),
+        None => None,
+    }
+}
+
+/// Whether a search from a place on finds no match that the bytes before `stop` settle.
+fn finds_none_by<C: Cursor>(
+    regex: &Regex,
+    cache: &mut Cache,
+    input: &mut Input<C>,
+    at: usize,
+    stop: usize,
+) -> bool
+    requires made { IsCacheOf regex.now cache.old }
+    requires over { IsOver input.old }
+    requires inside { at ≤ length input.old.content }
+    requires order { at ≤ stop }
+    ensures cache { IsCacheOf regex.now cache.new }
+    ensures over { IsOver input.new }
+    ensures goes { Goes input.old input.new }
+    ensures none { IsTrue result → (n : ℕ) → IsShort regex.now n
+        → IfSome (found_by (regex_kind regex.now) (seeks regex.now) input.old.content at)
+        (λ m. stop < m.start + n + 4) }
+{
+    content_fits(input);
+    let end = input.get_span().end;
+    input.set_span(Span {
+        start: at,
+        end: stop,
+    });
+    let reached = regex.search_reach_with(cache, input);
+    input.set_span(Span { start: at, end });
+    match reached.found {
+        Some(_) => stop < reached.reach,
+        None => true,
+    }
+}
+
+/// Whether the entries after the gap come next after the last match before it. So they do if it
+/// ends at the mark, or if no match begins before the mark, or so near to it that it could reach
+/// there.
+fn is_met<C: Cursor>(
+    entries: &Entries,
+    mark: Option<usize>,
+    from: usize,
+    longest: usize,
+    regex: &Regex,
+    cache: &mut Cache,
+    input: &mut Input<C>,
+) -> bool
+    requires made { IsCacheOf regex.now cache.old }
+    requires over { IsOver input.old }
+    requires short { IsShort regex.now longest }
+    requires inside { place_of (last_end None entries.now.before) ≤ length input.old.content }
+    requires from { IsFrom (regex_kind regex.now) (seeks regex.now) input.old.content
+        (last_end None entries.now.before) longest from }
+    requires rest { Meets (regex_kind regex.now) (seeks regex.now) input.old.content mark
+        entries.now.after }
+    ensures cache { IsCacheOf regex.now cache.new }
+    ensures over { IsOver input.new }
+    ensures goes { Goes input.old input.new }
+    ensures met { IsTrue result → AreEntries (regex_kind regex.now) (seeks regex.now)
+        input.old.content (last_end None entries.now.before) entries.now.after }
+{
+    let Some(place) = mark else {
+        return false;
+    };
+    let last = entries.last_end();
+    if last == mark {
+        return true;
+    }
+    let start = place_of(last).max(from);
+    let stop = place
+        .saturating_add(longest)
+        .saturating_add(LOOKS_AHEAD + 1);
+    if start >= place || stop == usize::MAX || begins_before(entries.get_after(0), stop) {
+        return false;
+    }
+    finds_none_by(regex, cache, input, start, stop)
+}
+
+/// Whether the entry is there, and begins before a place.
+fn begins_before(entry: Option<Entry>, place: usize) -> bool
+    ensures { result ≡ false → IfSome entry (λ e. place ≤ e.found.start) }
+{
+    match entry {
+        Some(entry) => entry.found.start() < place,
+        None => false,
+    }
+}
+
+/// Returns the next entry of the list, if the match before it ended at `last`. The next match has
+/// to begin at `from` or later.
+fn entry_on<C: Cursor>(
+    regex: &Regex,
+    cache: &mut Cache,
+    input: &mut Input<C>,
+    last: Option<usize>,
+    from: usize,
+    longest: usize,
+) -> Option<Entry>
+    requires made { IsCacheOf regex.now cache.old }
+    requires over { IsOver input.old }
+    requires short { IsShort regex.now longest }
+    requires inside { place_of last ≤ length input.old.content }
+    requires from { IsFrom (regex_kind regex.now) (seeks regex.now) input.old.content last
+        longest from }
+    ensures cache { IsCacheOf regex.now cache.new }
+    ensures over { IsOver input.new }
+    ensures goes { Goes input.old input.new }
+    ensures next { MatchOption result
+        (next_after (regex_kind regex.now) (seeks regex.now) input.old.content last ≡ None)
+        (IsEntry (regex_kind regex.now) (seeks regex.now) input.old.content last) }
+{
+    content_fits(input);
+    if from <= place_of(last) {
+        return next_entry(regex, cache, input, last);
+    }
+    let first = search_from(regex, cache, input, from);
+    match first.found {
+        Some(found) => {
+            let least = from + longest + LOOKS_AHEAD;
+            Some(entry_of(found, first.reach.max(least)))
+        }
+        None => None,
+    }
+}
+
+/// Searches on from the last match before the gap, or from `from`, until a match ends where the
+/// list is taken up, or no match begins before that. An `Err` means out of memory.
+fn search_near<C: Cursor>(
+    entries: &mut Entries,
+    mark: Option<usize>,
+    from: usize,
+    longest: usize,
+    regex: &Regex,
+    cache: &mut Cache,
+    input: &mut Input<C>,
+) -> Result<(), AllocError>
+    requires made { IsCacheOf regex.now cache.old }
+    requires over { IsOver input.old }
+    requires short { IsShort regex.now longest }
+    requires len { entries.old.len ≡ length input.old.content }
+    requires first { AreFirst (regex_kind regex.now) (seeks regex.now) input.old.content None
+        entries.old.before }
+    requires from { IsFrom (regex_kind regex.now) (seeks regex.now) input.old.content
+        (last_end None entries.old.before) longest from }
+    requires rest { Meets (regex_kind regex.now) (seeks regex.now) input.old.content mark
+        entries.old.after }
+    ensures cache { IsCacheOf regex.now cache.new }
+    ensures goes { Goes input.old input.new }
+    ensures over { IsOver input.new }
+    ensures on { IfOk result (λ _. IsSearchedOn entries.old entries.new) }
+    ensures all { IfOk result (λ _. AreEntries (regex_kind regex.now) (seeks regex.now)
+        input.old.content None (all_of entries.new)) }
+{
+    let mut mark = mark;
+    'near: while !is_met(entries, mark, from, longest, regex, cache, input) {
+        let last = entries.last_end();
+        let Some(entry) = entry_on(regex, cache, input, last, from, longest) else {
+            entries.drop_after();
+            return Ok(());
+        };
+        let end = entry.found.end();
+        entries.push(entry)?;
+        mark = skip_past(entries, mark, end);
+    }
+    Ok(())
+}
+
+/// Carries the entries over an edit, as `carry_over` does. No match is longer than `longest` bytes.
+/// An `Err` means out of memory.
+pub fn carry_near<C: Cursor>(
+    entries: &mut Entries,
+    longest: usize,
+    regex: &Regex,
+    cache: &mut Cache,
+    edit: Edit,
+    input: &mut Input<C>,
+) -> Result<(), AllocError>
+    requires made { IsCacheOf regex.now cache.old }
+    requires over { IsOver input.old }
+    requires short { IsShort regex.now longest }
+    requires were { WereEntries regex.now edit input.old.content entries.old }
+    requires below { AreBelow edit.replaced.start entries.old.before }
+    ensures cache { IsCacheOf regex.now cache.new }
+    ensures goes { Goes input.old input.new }
+    ensures over { IsOver input.new }
+    ensures carried { IfOk result (λ _. IsCarried edit entries.old entries.new) }
+    ensures len { IfOk result (λ _. entries.new.len ≡ length input.old.content) }
+    ensures all { IfOk result (λ _. AreEntries (regex_kind regex.now) (seeks regex.now)
+        input.old.content None (all_of entries.new)) }
+{
+    content_fits(input);
+    let last = entries.last_end();
+    let from = first_place(entries, edit.replaced.start, longest);
+    let mark = skip_behind(entries, last, edit);
+    entries.edit(edit);
+    let mark = mark_after(mark, edit);
+    search_near(entries, mark, from, longest, regex, cache, input)
+}
