@@ -2,28 +2,32 @@
 //! the list takes.
 //!
 //! The arguments are the pattern, a file with the text, the number of edits, a seed, where the
-//! edits are (`near` a caret that moves, or `anywhere`), and maybe `check`. An edit deletes up to
-//! 40 bytes, and inserts up to 40 of the file.
+//! edits are (`near` a caret that moves, or `anywhere`), and maybe `check` and a kind of match:
+//! `first`, `longest` or `all`. An edit deletes up to 40 bytes, and inserts up to 40 of the file.
 //!
 //! It prints the number of matches after the edits, the median and the 99th percentile of the time
 //! that an edit of the list takes, and the number of bytes of the list. With `check` it prints, in
 //! place of times and bytes, how many matches differ: after each edit, the list is compared with
-//! that of `Regex::find_iter`.
+//! that of `Regex::find_iter`. The edits are then smaller, most of them.
 //!
 //! Without arguments it prints nothing.
 #![tactic(auto)]
 
+ghost use Rattle.std.specs.Prelude.{IfOk, IfSome};
 ghost use Rattle.live_matches.specs.Live.{IsCacheOf};
+ghost use Rattle.live_matches.specs.Quiet.{IsLongest};
 
 mod random;
 mod typing;
 
 use crate::random::Random;
-use crate::typing::{change_of, differences, keep, whole_of};
+use crate::typing::{MOST, change_of, differences, keep, whole_of};
 use gap_buffer::GapBuffer;
-use live_matches::LiveMatches;
-use regex_cursor::engines::meta::{Cache, Regex};
-use std::alloc::{AllocError, AllocFailed};
+use live_matches::{LiveMatches, longest_of};
+use regex_cursor::engines::meta::{BuildError, Cache, Regex};
+use regex_cursor::syntax;
+use regex_cursor::types::MatchKind;
+use std::alloc::{AllocError, AllocFailed, Global};
 use std::io::Write;
 use std::process::ExitCode;
 use std::{fs, io};
@@ -31,7 +35,8 @@ use std::{fs, io};
 /// The status of an error.
 const FAULT: u8 = 2;
 
-const USAGE: &str = "usage: bench_live PATTERN FILE EDITS SEED near|anywhere [check]";
+const USAGE: &str =
+    "usage: bench_live PATTERN FILE EDITS SEED near|anywhere [check [first|longest|all]]";
 
 /// What the arguments ask for.
 #[derive(Drop)]
@@ -42,6 +47,14 @@ struct Job<'a> {
     seed: u64,
     is_near: bool,
     is_checked: bool,
+    kind: MatchKind,
+}
+
+/// A regex, and the greatest length of its matches if that is known.
+#[derive(Drop)]
+pub(crate) struct Pattern {
+    pub(crate) regex: Regex,
+    pub(crate) longest: Option<usize>,
 }
 
 /// What the edits took.
@@ -57,9 +70,13 @@ struct Tally {
     bytes: usize,
 }
 
-/// Why the benchmark failed, once the pattern was built.
+/// Why the benchmark failed.
 #[derive(Drop)]
 pub(crate) enum BenchError {
+    /// The pattern doesn't parse.
+    Syntax(syntax::Error),
+    /// The pattern couldn't be built.
+    Build(BuildError),
     /// Out of memory.
     Memory,
     /// The file couldn't be read, the clock failed, or a line couldn't be written.
@@ -78,6 +95,18 @@ impl<T: Drop> From<AllocFailed<T>> for BenchError {
     }
 }
 
+impl From<syntax::Error> for BenchError {
+    fn from(error: syntax::Error) -> BenchError {
+        BenchError::Syntax(error)
+    }
+}
+
+impl From<BuildError> for BenchError {
+    fn from(error: BuildError) -> BenchError {
+        BenchError::Build(error)
+    }
+}
+
 impl From<io::Error> for BenchError {
     fn from(error: io::Error) -> BenchError {
         BenchError::Io(error)
@@ -86,7 +115,7 @@ impl From<io::Error> for BenchError {
 
 /// What these arguments ask for.
 fn job_of<'a>(words: &[&'a str]) -> Option<Job<'a>> {
-    if words.len() < 5 || words.len() > 6 {
+    if words.len() < 5 || words.len() > 7 {
         return None;
     }
     let is_near = match words[4] {
@@ -106,19 +135,47 @@ fn job_of<'a>(words: &[&'a str]) -> Option<Job<'a>> {
         seed: words[3].parse::<u64>().ok()?,
         is_near,
         is_checked,
+        kind: kind_of(words.get(6))?,
     })
+}
+
+/// The kind of match that this word names. Without one it is the leftmost-first match.
+fn kind_of(word: Option<&&str>) -> Option<MatchKind> {
+    let Some(word) = word else {
+        return Some(MatchKind::LeftmostFirst);
+    };
+    match *word {
+        "first" => Some(MatchKind::LeftmostFirst),
+        "longest" => Some(MatchKind::LeftmostLongest),
+        "all" => Some(MatchKind::All),
+        _ => None,
+    }
+}
+
+/// Builds the pattern.
+fn pattern_of(alloc: Global, text: &str, kind: MatchKind) -> Result<Pattern, BenchError>
+    ensures { IfOk result (λ p. IfSome p.longest (IsLongest p.regex)) }
+{
+    let hir = syntax::parse(alloc, text, &syntax::Config::new())?;
+    let longest = longest_of(std::slice::from_ref(&hir));
+    let mut builder = Regex::builder();
+    builder.configure(Regex::config().match_kind(kind));
+    let regex = builder.build_from_hir(alloc, &hir)?;
+    Ok(Pattern { regex, longest })
 }
 
 /// Edits the text as often as the job asks, and keeps the list.
 fn run_edits(
     rt: &HostRuntime,
-    regex: &Regex,
+    pattern: &Pattern,
     cache: &mut Cache,
     job: &Job<'_>,
     source: &[u8],
 ) -> Result<Tally, BenchError>
-    requires made { IsCacheOf regex.now cache.old }
+    requires made { IsCacheOf pattern.now.regex cache.old }
+    requires longest { IfSome pattern.now.longest (IsLongest pattern.now.regex) }
 {
+    let regex = &pattern.regex;
     let mut text = GapBuffer::new(rt.alloc());
     text.insert(source)?;
     let mut live = LiveMatches::new(rt.alloc(), regex, cache, &mut whole_of(&text))?;
@@ -126,8 +183,13 @@ fn run_edits(
     let mut times = Vec::new(rt.alloc());
     let mut differ: usize = 0;
     'edits: for _ in 0..job.edits {
-        let change = change_of(&mut random, &text, job.is_near, source);
-        let time = keep(rt, regex, cache, &mut text, &mut live, &change)?;
+        let most = if job.is_checked {
+            random.below(MOST + 1)
+        } else {
+            MOST
+        };
+        let change = change_of(&mut random, &text, job.is_near, most, source);
+        let time = keep(rt, pattern, cache, &mut text, &mut live, &change)?;
         times.push(time.as_nanos())?;
         if job.is_checked {
             let found = differences(rt.alloc(), regex, &text, &live)?;
@@ -172,10 +234,13 @@ fn put(rt: &HostRuntime, job: &Job<'_>, tally: &mut Tally) -> Result<(), BenchEr
 }
 
 /// Reads the text, edits it, and writes what that took.
-fn bench(rt: &HostRuntime, regex: &Regex, job: &Job<'_>) -> Result<(), BenchError> {
+fn bench(rt: &HostRuntime, pattern: &Pattern, job: &Job<'_>) -> Result<(), BenchError>
+    requires longest { IfSome pattern.now.longest (IsLongest pattern.now.regex) }
+{
     let source = fs::read(rt, job.file)?;
+    let regex = &pattern.regex;
     let mut cache = regex.create_cache(rt.alloc())?;
-    let mut tally = run_edits(rt, regex, &mut cache, job, &source)?;
+    let mut tally = run_edits(rt, pattern, &mut cache, job, &source)?;
     put(rt, job, &mut tally)
 }
 
@@ -188,25 +253,24 @@ fn run_with(rt: &HostRuntime, words: &[&str]) -> u8 {
         let _ = writeln!(rt.stderr(), "{USAGE}");
         return FAULT;
     };
-    match Regex::new(rt.alloc(), job.pattern) {
-        Ok(regex) => {
-            let done = bench(rt, &regex, &job);
-            drop(regex);
+    match pattern_of(rt.alloc(), job.pattern, job.kind) {
+        Ok(pattern) => {
+            let done = bench(rt, &pattern, &job);
+            drop(pattern);
             match done {
                 Ok(()) => 0,
                 Err(error) => report(rt, &error),
             }
         }
-        Err(error) => {
-            let _ = writeln!(rt.stderr(), "{error}");
-            FAULT
-        }
+        Err(error) => report(rt, &error),
     }
 }
 
 /// Writes the line of an error. An error of the standard error is ignored.
 fn report(rt: &HostRuntime, error: &BenchError) -> u8 {
     let _ = match error {
+        BenchError::Syntax(error) => writeln!(rt.stderr(), "{error}"),
+        BenchError::Build(error) => writeln!(rt.stderr(), "{error}"),
         BenchError::Memory => writeln!(rt.stderr(), "out of memory"),
         BenchError::Io(error) => writeln!(rt.stderr(), "{error}"),
     };

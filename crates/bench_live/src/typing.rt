@@ -1,9 +1,10 @@
 //! Typing: changes of a text, and the list that is kept under them.
-ghost use Rattle.std.specs.Prelude.{◌≡◌, IfOk};
+ghost use Rattle.std.specs.Prelude.{◌≡◌, IfOk, IfSome};
 ghost use Rattle.live_matches.specs.Live.{IsCacheOf, IsEdited, IsLive, IsWhole};
+ghost use Rattle.live_matches.specs.Quiet.{IsLongest};
 
-use crate::BenchError;
 use crate::random::Random;
+use crate::{BenchError, Pattern};
 use gap_buffer::{GapBuffer, GapCursor};
 use live_matches::{Edit, LiveMatches};
 use regex_cursor::Input;
@@ -13,7 +14,7 @@ use std::alloc::{AllocError, Global};
 use std::time::{Duration, Instant};
 
 /// How many bytes a change deletes, and how many it inserts, at most.
-const MOST: usize = 40;
+pub(crate) const MOST: usize = 40;
 
 /// How many bytes the caret moves between two changes near it, at most.
 const FAR: usize = 60;
@@ -29,11 +30,13 @@ pub(crate) struct Change<'b> {
     inserted: &'b [u8],
 }
 
-/// A random change of the text, near its caret or anywhere. It inserts bytes of the source.
+/// A random change of the text, near its caret or anywhere. It deletes up to `most` bytes, and
+/// inserts up to as many of the source.
 pub(crate) fn change_of<'b>(
     random: &mut Random,
     text: &GapBuffer,
     is_near: bool,
+    most: usize,
     source: &'b [u8],
 ) -> Change<'b> {
     let place = if is_near {
@@ -44,11 +47,11 @@ pub(crate) fn change_of<'b>(
     };
     let start = random.below(source.len());
     let end = start
-        .saturating_add(random.below(MOST + 1))
+        .saturating_add(random.below(most.saturating_add(1)))
         .min(source.len());
     Change {
         place,
-        deleted: random.below(MOST + 1),
+        deleted: random.below(most.saturating_add(1)),
         inserted: &source[start..end],
     }
 }
@@ -79,21 +82,23 @@ fn make(text: &mut GapBuffer, change: &Change<'_>) -> Result<Edit, AllocError>
 /// Makes the change, and keeps the list. Returns the time that the list takes.
 pub(crate) fn keep(
     rt: &HostRuntime,
-    regex: &Regex,
+    pattern: &Pattern,
     cache: &mut Cache,
     text: &mut GapBuffer,
     live: &mut LiveMatches,
     change: &Change<'_>,
 ) -> Result<Duration, BenchError>
-    requires made { IsCacheOf regex.now cache.old }
-    requires live { IsLive regex.now text.old.content live.old }
-    ensures made { IfOk result (λ _. IsCacheOf regex.now cache.new) }
-    ensures live { IfOk result (λ _. IsLive regex.now text.new.content live.new) }
+    requires made { IsCacheOf pattern.now.regex cache.old }
+    requires longest { IfSome pattern.now.longest (IsLongest pattern.now.regex) }
+    requires live { IsLive pattern.now.regex text.old.content live.old }
+    ensures made { IfOk result (λ _. IsCacheOf pattern.now.regex cache.new) }
+    ensures live { IfOk result (λ _. IsLive pattern.now.regex text.new.content live.new) }
 {
     let edit = make(text, change)?;
     let mut input = whole_of(text);
     let start = Instant::now(rt)?;
-    live.edit(regex, cache, edit, &mut input)?;
+    let regex = &pattern.regex;
+    live.edit_within(regex, cache, edit, &mut input, pattern.longest)?;
     Ok(start.elapsed(rt)?)
 }
 

@@ -4,6 +4,6 @@ use Rattle.bench_live.proofs.run_edits.Given as goal
 -- the list is that of the text
 abbrev pub invariant-edits : goal.invariant-edits
 invariant-edits l = record {
-  made : IsCacheOf l.regex l.cache;
-  live : IsLive l.regex l.text.content l.live;
+  made : IsCacheOf l.pattern.regex l.cache;
+  live : IsLive l.pattern.regex l.text.content l.live;
 }
