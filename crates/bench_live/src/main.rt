@@ -178,6 +178,7 @@ fn run_edits(
     let regex = &pattern.regex;
     let mut text = GapBuffer::new(rt.alloc());
     text.insert(source)?;
+    text.move_to(source.len() / 2);
     let mut live = LiveMatches::new(rt.alloc(), regex, cache, &mut whole_of(&text))?;
     let mut random = Random::new(job.seed);
     let mut times = Vec::new(rt.alloc());
@@ -204,10 +205,10 @@ fn run_edits(
     })
 }
 
-/// The time with this index, in microseconds, or 0 if there is none.
-fn micros_at(times: &[u128], index: usize) -> u128 {
+/// The time with this index, in nanoseconds, or 0 if there is none.
+fn time_at(times: &[u128], index: usize) -> u128 {
     match times.get(index) {
-        Some(time) => *time / 1000,
+        Some(time) => *time,
         None => 0,
     }
 }
@@ -223,12 +224,12 @@ fn put(rt: &HostRuntime, job: &Job<'_>, tally: &mut Tally) -> Result<(), BenchEr
     }
     tally.times.sort()?;
     let count = tally.times.len();
-    let median = micros_at(&tally.times, count / 2);
-    let late = micros_at(&tally.times, (count - count / 100).saturating_sub(1));
+    let median = time_at(&tally.times, count / 2);
+    let late = time_at(&tally.times, (count - count / 100).saturating_sub(1));
     let bytes = tally.bytes;
     writeln!(
         rt.stdout(),
-        "median {median} us, 99th percentile {late} us, {bytes} bytes"
+        "median {median} ns, 99th percentile {late} ns, {bytes} bytes"
     )?;
     Ok(())
 }
