@@ -61,7 +61,7 @@ add_depth p l = ap (λ n. max l.branches.deepest (max l.items.deepest p.depth + 
     less_one : (n : ℕ) → n + 1 - 1 ≡ n
     less_one n = omega arith
 
-add_grows : (p : Subpattern) (l : Level) → body_depth l ≤ body_depth (add p l)
+pub add_grows : (p : Subpattern) (l : Level) → body_depth l ≤ body_depth (add p l)
 add_grows p l =
     let same = add_depth p l in
     let more = item_grows l.branches.deepest l.items.deepest (length l.items.res) (length l.branches.res) p.depth in
@@ -80,7 +80,7 @@ module _ (s : Settings) where
   abbrev limit : ℕ
   limit = depth_limit s
 
-  deeper_depth : (re : Re) (d : ℕ) (p : Subpattern) → deeper s re d ≡ Some p → (p.depth ≡ d + 1) × (p.depth ≤ depth_limit s)
+  pub deeper_depth : (re : Re) (d : ℕ) (p : Subpattern) → deeper s re d ≡ Some p → (p.depth ≡ d + 1) × (p.depth ≤ depth_limit s)
   deeper_depth re d p h =
       let (less, same) = guard_parts (nat_lt d (depth_limit s)) (Some (record { re = re; depth = d + 1 })) p h in
       let l = ltb-true d (depth_limit s) less in
@@ -192,7 +192,7 @@ module _ (s : Settings) where
       at q e = rw (add_depth p l) (rw (add_depth q l)
           (with_grows l.branches.deepest l.items.deepest (length l.items.res) (length l.branches.res) p.depth q.depth (omega (arith, e))))
 
-  take_deeper : (k : Said) (w v : Work) → take_said s k w ≡ Some v → least_depth w ≤ least_depth v
+  pub take_deeper : (k : Said) (w v : Work) → take_said s k w ≡ Some v → least_depth w ≤ least_depth v
   take_deeper (Repeats b) w v h = repeat_deeper b w.last w.level w.outer v h
   take_deeper (Stands k) w v h = step_deeper (Stands k) (settled w.last w.level) w.outer v h
   take_deeper Bar w v h = step_deeper Bar (settled w.last w.level) w.outer v h
@@ -200,7 +200,7 @@ module _ (s : Settings) where
   take_deeper (Opens k) w v h = step_deeper (Opens k) (settled w.last w.level) w.outer v h
   take_deeper Closes w v h = step_deeper Closes (settled w.last w.level) w.outer v h
 
-  finish_deeper : (l : Level) (outer : List Outside) (p : Subpattern) → finish s l outer ≡ Some p → closed_depth (body_depth l) outer ≤ p.depth
+  pub finish_deeper : (l : Level) (outer : List Outside) (p : Subpattern) → finish s l outer ≡ Some p → closed_depth (body_depth l) outer ≤ p.depth
   finish_deeper l [] p h = let (depth, _) = whole_depth l p h in omega (arith, depth)
   finish_deeper l (f ∷ outer) p h = absurd (none-some p h)
 
@@ -215,18 +215,18 @@ module _ (s : Settings) where
 
   -- ---- no part is deeper than the limit
 
-  abbrev Fits : Level → Type 0
+  abbrev pub Fits : Level → Type 0
   Fits l = (l.items.deepest ≤ depth_limit s) × (l.branches.deepest ≤ depth_limit s)
 
-  abbrev FitsLast : Option Subpattern → Type 0
+  abbrev pub FitsLast : Option Subpattern → Type 0
   FitsLast None = Unit {0}
   FitsLast (Some p) = p.depth ≤ depth_limit s
 
-  abbrev AllFit : List Outside → Type 0
+  abbrev pub AllFit : List Outside → Type 0
   AllFit [] = Unit {0}
   AllFit (f ∷ outer) = Fits (f.1) × AllFit outer
 
-  abbrev WorkFits : Work → Type 0
+  abbrev pub WorkFits : Work → Type 0
   WorkFits w = Fits w.level × FitsLast w.last × AllFit w.outer
 
   leaf_within : (o : Option Re) (p : Subpattern) → (o >>= λ re. Some (leaf re)) ≡ Some p → p.depth ≤ depth_limit s
@@ -247,10 +247,10 @@ module _ (s : Settings) where
       let (re, _, deep) = some_parts (set_re s f (class_of f.unicode f.case_insensitive negated rs)) (λ re. deeper s re 0) p next in
       (deeper_depth re 0 p deep).1
 
-  add_fits : (p : Subpattern) (l : Level) → p.depth ≤ depth_limit s → Fits l → Fits (add p l)
+  pub add_fits : (p : Subpattern) (l : Level) → p.depth ≤ depth_limit s → Fits l → Fits (add p l)
   add_fits p l h fits = let i = fits.0 in (omega (arith, i, h), fits.1)
 
-  settled_fits : (last : Option Subpattern) (l : Level) → FitsLast last → Fits l → Fits (settled last l)
+  pub settled_fits : (last : Option Subpattern) (l : Level) → FitsLast last → Fits l → Fits (settled last l)
   settled_fits None l h fits = fits
   settled_fits (Some p) l h fits = add_fits p l h fits
 
@@ -287,7 +287,7 @@ module _ (s : Settings) where
   step_fits Closes l outer v fits all h = close_fits l outer v fits all h
   step_fits (Repeats b) l outer v fits all h = absurd (none-some v h)
 
-  take_fits : (k : Said) (w v : Work) → WorkFits w → take_said s k w ≡ Some v → WorkFits v
+  pub take_fits : (k : Said) (w v : Work) → WorkFits w → take_said s k w ≡ Some v → WorkFits v
   take_fits (Repeats b) w v fits h =
       let (p, _, next) = some_parts w.last (λ p. repeated_once s w.level.flags b p >>= λ q. Some (work w.level (Some q) w.outer)) v h in
       let (q, made, same) = some_parts (repeated_once s w.level.flags b p) (λ q. Some (work w.level (Some q) w.outer)) v next in
@@ -298,7 +298,7 @@ module _ (s : Settings) where
   take_fits (Opens k) w v fits h = step_fits (Opens k) (settled w.last w.level) w.outer v (settled_fits w.last w.level (fits.1) (fits.0)) (fits.2) h
   take_fits Closes w v fits h = step_fits Closes (settled w.last w.level) w.outer v (settled_fits w.last w.level (fits.1) (fits.0)) (fits.2) h
 
-  finish_within : (l : Level) (outer : List Outside) (p : Subpattern) → Fits l → finish s l outer ≡ Some p → p.depth ≤ depth_limit s
+  pub finish_within : (l : Level) (outer : List Outside) (p : Subpattern) → Fits l → finish s l outer ≡ Some p → p.depth ≤ depth_limit s
   finish_within l [] p fits h = (whole_depth l p h).1 (fits.0) (fits.1)
   finish_within l (f ∷ outer) p fits h = absurd (none-some p h)
 

@@ -122,11 +122,11 @@ module _ (s : Settings) where
   pub plain_fit : (re : Re) → Plain re → Fit 1 (leaf re)
   plain_fit re h = record { fine = record { bounded = h.0; shallow = let d = h.1 in omega (arith, d); spine = h.2 }; within = omega arith }
 
-  plain_literal : (bs : List ℕ) → Plain (literal_of bs)
+  pub plain_literal : (bs : List ℕ) → Plain (literal_of bs)
   plain_literal [] = (tt, omega arith, tt, refl)
   plain_literal (b ∷ bs) = (tt, omega arith, tt, refl)
 
-  set_plain : (f : Flags) (rs : List Range) (re : Re) → AreAscending 0 rs → set_re s f rs ≡ Some re → Plain re
+  pub set_plain : (f : Flags) (rs : List Range) (re : Re) → AreAscending 0 rs → set_re s f rs ≡ Some re → Plain re
   set_plain f rs re h e = go f.unicode e
     where
       go : (b : Bool) → (if b then Some (char_in rs) else (not (s.utf8 && has_high rs) >> Some (byte_in rs))) ≡ Some re → Plain re
@@ -166,7 +166,7 @@ module _ (s : Settings) where
   bytes_ascending : (b : ℕ) → b < 256 → AreAscending 0 (bytes_except b)
   bytes_ascending b l = gap_ascending (b == 0) (b == 255) (b - 1) (b + 1) 255 (omega arith) (λ e. let n = eqb-false b 255 e in omega (arith, l, n))
 
-  dot_plain : (f : Flags) → s.line_terminator < 256 → has_dot s f ≡ true → Plain (dot_of (dot_kind s f))
+  pub dot_plain : (f : Flags) → s.line_terminator < 256 → has_dot s f ≡ true → Plain (dot_of (dot_kind s f))
   dot_plain f byte h = go f.dot_matches_new_line f.crlf f.unicode h
     where
       go : (d r u : Bool) → (if u then d || r || nat_lt s.line_terminator 128 else not s.utf8) ≡ true →

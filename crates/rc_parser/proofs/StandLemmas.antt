@@ -32,7 +32,7 @@ range_more a (suc n) = ap (λ t. a ∷ t) (range_more (a + 1) n ∙ ap (λ x. ra
     shift a n = omega arith
 
 -- the names that are there
-abbrev somes : List (Option (List ℕ)) → List (List ℕ)
+abbrev pub somes : List (Option (List ℕ)) → List (List ℕ)
 somes [] = []
 somes (None ∷ names) = somes names
 somes (Some name ∷ names) = name ∷ somes names
@@ -42,7 +42,7 @@ somes_append [] ys = refl
 somes_append (None ∷ xs) ys = somes_append xs ys
 somes_append (Some name ∷ xs) ys = ap (λ t. name ∷ t) (somes_append xs ys)
 
-abbrev given : List (List ℕ) → List (Option (List ℕ))
+abbrev pub given : List (List ℕ) → List (Option (List ℕ))
 given [] = []
 given (name ∷ names) = Some name ∷ given names
 
@@ -54,7 +54,7 @@ new_among name [] h = tt
 new_among name (None ∷ names) h = ((λ e. not_none name e), new_among name names h)
 new_among name (Some other ∷ names) h = (h.0, new_among name names h.1)
 
-distinct_among : (names : List (Option (List ℕ))) → AreDistinct (given (somes names)) → AreDistinct names
+pub distinct_among : (names : List (Option (List ℕ))) → AreDistinct (given (somes names)) → AreDistinct names
 distinct_among [] h = tt
 distinct_among (None ∷ names) h = (tt, distinct_among names h)
 distinct_among (Some name ∷ names) h = (new_among name names h.0, distinct_among names h.1)
@@ -92,7 +92,7 @@ pub record Ordered (gs : List Numbered) (n : ℕ) (names : List (List ℕ)) : Ty
   pub named : somes (map (λ (g : Numbered). g.1) gs) ≡ names
   pub distinct : AreDistinct (given names)
 
-ordered_as : (gs hs : List Numbered) (n : ℕ) (names : List (List ℕ)) → gs ≡ hs → Ordered hs n names → Ordered gs n names
+pub ordered_as : (gs hs : List Numbered) (n : ℕ) (names : List (List ℕ)) → gs ≡ hs → Ordered hs n names → Ordered gs n names
 ordered_as gs hs n names e h = subst (λ x. Ordered x n names) (sym e) h
 
 one_number : (n : ℕ) → 1 + n ≡ n + 1
@@ -128,7 +128,7 @@ ordered_named gs n names name new h = record {
 -- ---- levels
 
 -- the groups of what a level holds
-abbrev held : Level → List Numbered
+abbrev pub held : Level → List Numbered
 held l = all_groups l.branches.res ++ all_groups l.items.res
 
 pub record Stands (pre : List Numbered) (l : Level) : Type 0 where
@@ -136,7 +136,7 @@ pub record Stands (pre : List Numbered) (l : Level) : Type 0 where
   pub items : AllFit 1 l.items
   pub branches : AllFit 2 l.branches
 
-add_stands : (pre : List Numbered) (m : Level) (q : Subpattern) → AllFit 1 m.items → AllFit 2 m.branches → Fit 1 q →
+pub add_stands : (pre : List Numbered) (m : Level) (q : Subpattern) → AllFit 1 m.items → AllFit 2 m.branches → Fit 1 q →
     Ordered (pre ++ (held m ++ groups q.re)) m.groups m.names → Stands pre (add q m)
 add_stands pre m q i b f o = record {
   ordered = ordered_as (pre ++ held (add q m)) (pre ++ (held m ++ groups q.re)) m.groups m.names
@@ -146,13 +146,13 @@ add_stands pre m q i b f o = record {
   branches = b;
 }
 
-add_nothing : (pre : List Numbered) (m : Level) (q : Subpattern) → AllFit 1 m.items → AllFit 2 m.branches → Fit 1 q → groups q.re ≡ [] →
+pub add_nothing : (pre : List Numbered) (m : Level) (q : Subpattern) → AllFit 1 m.items → AllFit 2 m.branches → Fit 1 q → groups q.re ≡ [] →
     Ordered (pre ++ held m) m.groups m.names → Stands pre (add q m)
 add_nothing pre m q i b f none o = add_stands pre m q i b f (ordered_as (pre ++ (held m ++ groups q.re)) (pre ++ held m) m.groups m.names
     (ap (λ t. pre ++ t) (ap (λ t. held m ++ t) none ∙ append-nil (held m))) o)
 
 module _ (s : Settings) where
-  branch_stands : (pre : List Numbered) (l m : Level) → Stands pre l → end_branch s l ≡ Some m → Stands pre m × (all_groups m.branches.res ≡ held l)
+  pub branch_stands : (pre : List Numbered) (l m : Level) → Stands pre l → end_branch s l ≡ Some m → Stands pre m × (all_groups m.branches.res ≡ held l)
   branch_stands pre l m h e =
       let (branch, is, same) = some_parts (join s concat_of l.items) (λ branch. Some (record l { branches = with_part branch l.branches; items = no_parts })) m e in
       let (fit, gs) = join_fit s 1 concat_of l.items branch concat_fine concat_groups h.items is in
@@ -167,25 +167,25 @@ module _ (s : Settings) where
         all,
       )
 
-  whole_stands : (pre : List Numbered) (l : Level) (body : Subpattern) → Stands pre l → whole s l ≡ Some body → Fit 3 body × (groups body.re ≡ held l)
+  pub whole_stands : (pre : List Numbered) (l : Level) (body : Subpattern) → Stands pre l → whole s l ≡ Some body → Fit 3 body × (groups body.re ≡ held l)
   whole_stands pre l body h e =
       let (m, is, joined) = some_parts (end_branch s l) (λ m. join s alternation_of m.branches) body e in
       let (stands, all) = branch_stands pre l m h is in
       let (fit, gs) = join_fit s 2 alternation_of m.branches body alternation_fine alternation_groups stands.branches joined in
       (fit, gs ∙ all)
 
-  closed_fit : (t : Tie) (body p : Subpattern) → Fit 3 body → closed s t body ≡ Some p → Fit 1 p × (p.re ≡ tied t body.re)
+  pub closed_fit : (t : Tie) (body p : Subpattern) → Fit 3 body → closed s t body ≡ Some p → Fit 1 p × (p.re ≡ tied t body.re)
   closed_fit None body p h e = deeper_fit s 1 3 body.re body.depth p (omega arith) h.fine e
   closed_fit (Some t) body p h e =
       let deep = h.fine.shallow in
       deeper_fit s 1 4 (capture t.0 t.1 body.re) body.depth p (omega arith) (record { bounded = h.fine.bounded; shallow = omega (arith, deep); spine = tt }) e
 
   -- what stands before the inside of a group
-  abbrev before : List Numbered → Level → Tie → List Numbered
+  abbrev pub before : List Numbered → Level → Tie → List Numbered
   before pre l None = pre ++ held l
   before pre l (Some t) = (pre ++ held l) ++ t ∷ []
 
-  begin_stands : (gs : List Numbered) (start : Level) → start.items ≡ no_parts → start.branches ≡ no_parts → Ordered gs start.groups start.names → Stands gs start
+  pub begin_stands : (gs : List Numbered) (start : Level) → start.items ≡ no_parts → start.branches ≡ no_parts → Ordered gs start.groups start.names → Stands gs start
   begin_stands gs start i b o = record {
     ordered = ordered_as (gs ++ held start) gs start.groups start.names
         (ap (λ t. gs ++ t) (ap (λ (ps : Parts). all_groups ps.res ++ all_groups start.items.res) b ∙ ap (λ (ps : Parts). all_groups ps.res) i) ∙ append-nil gs) o;
@@ -193,7 +193,7 @@ module _ (s : Settings) where
     branches = subst (AllFit 2) (sym b) (no_fit 2);
   }
 
-  inside_stands : (k : Start) (pre : List Numbered) (l start : Level) → Stands pre l → inside k l ≡ Some start → Stands (before pre l (tie k l)) start
+  pub inside_stands : (k : Start) (pre : List Numbered) (l start : Level) → Stands pre l → inside k l ≡ Some start → Stands (before pre l (tie k l)) start
   inside_stands Capturing pre l start h e =
       subst (Stands ((pre ++ held l) ++ (l.groups + 1, None) ∷ [])) (same_Some (begin l.flags (l.groups + 1) l.names) start e)
       (begin_stands ((pre ++ held l) ++ (l.groups + 1, None) ∷ []) (begin l.flags (l.groups + 1) l.names) refl refl (ordered_plain (pre ++ held l) l.groups l.names h.ordered))
@@ -210,7 +210,7 @@ module _ (s : Settings) where
       subst (Stands (pre ++ held l)) (same_Some (begin (set_flags to l.flags) l.groups l.names) start e)
       (begin_stands (pre ++ held l) (begin (set_flags to l.flags) l.groups l.names) refl refl h.ordered)
 
-  around : (t : Tie) (pre : List Numbered) (l : Level) (re : Re) (gs : List Numbered) → groups re ≡ gs → pre ++ (held l ++ groups (tied t re)) ≡ before pre l t ++ gs
+  pub around : (t : Tie) (pre : List Numbered) (l : Level) (re : Re) (gs : List Numbered) → groups re ≡ gs → pre ++ (held l ++ groups (tied t re)) ≡ before pre l t ++ gs
   around None pre l re gs e = sym (append_assoc pre (held l) (groups re)) ∙ ap (λ t. (pre ++ held l) ++ t) e
   around (Some t) pre l re gs e = sym (append_assoc pre (held l) (t ∷ groups re)) ∙ ap (λ x. (pre ++ held l) ++ t ∷ x) e ∙ sym (append_assoc (pre ++ held l) (t ∷ []) gs)
 

@@ -388,6 +388,18 @@ impl Work {
         self.step(alloc, token)
     }
 
+    /// Adds the pattern of an atom behind all items so far. An operator may follow it.
+    pub fn append(&mut self, item: Nested) -> Result<(), Refusal>
+        ensures value { MatchResult result
+            (λ _. state self.new ≡ work (settled (state self.old).last (state self.old).level)
+            (Some (part item)) (state self.old).outer) (λ e. e ≡ Refusal.Memory) }
+        ensures config { self.new.config ≡ self.old.config }
+        ensures groups { self.new.level.groups ≡ self.old.level.groups }
+    {
+        self.settle()?;
+        self.put(Ok(item))
+    }
+
     /// How deep the innermost body is nested, if it ends here.
     fn depth(&self) -> u64
         ensures value { result ≡ body_depth (settled (state self.now).last (state self.now).level) }

@@ -179,7 +179,7 @@ impl Config {
     }
 
     /// The flags with which a pattern begins.
-    pub(crate) fn flags(&self) -> Flags
+    pub fn flags(&self) -> Flags
         ensures { result ≡ first_flags (settings_of self.now) }
     {
         Flags {
@@ -193,7 +193,7 @@ impl Config {
     }
 
     /// How deep a pattern may be nested.
-    pub(crate) fn depth_limit(&self) -> u32
+    pub fn depth_limit(&self) -> u32
         ensures { result ≡ depth_limit (settings_of self.now) }
     {
         self.get_nest_limit().min(250)

@@ -1,15 +1,15 @@
 //! Parser: reads the text of a pattern as a `Hir`.
 #![tactic(auto)]
 
-mod builder;
+pub mod builder;
 mod config;
 mod error;
-mod flags;
-mod names;
-mod nested;
-mod parts;
-mod pieces;
-mod reader;
+pub mod flags;
+pub mod names;
+pub mod nested;
+pub mod parts;
+pub mod pieces;
+pub mod reader;
 
 pub use config::Config;
 pub use error::Error;

@@ -24,7 +24,8 @@ use rc_tokens::refusal::Refusal;
 use rc_tokens::tokens::{Assertion, List, Perl};
 use std::alloc::{AllocError, Global};
 
-fn leaf(hir: Hir) -> Nested
+/// A pattern in which nothing is nested.
+pub fn leaf(hir: Hir) -> Nested
     requires { IsTrue (has_plain_nodes hir) }
     ensures { part result ≡ leaf (meaning hir) }
 {
@@ -110,8 +111,9 @@ fn bytes(alloc: Global, ranges: &[CodeRange]) -> Result<Vec<ClassBytesRange>, Al
     Ok(all)
 }
 
-/// The class of the ranges.
-fn set(alloc: Global, config: Config, flags: Flags, ranges: &[CodeRange]) -> Result<Hir, Refusal>
+/// The class of the ranges. It fails with `Refusal::Syntax` if bytes of 128 or more aren't allowed, and
+/// the class has one.
+pub fn set(alloc: Global, config: Config, flags: Flags, ranges: &[CodeRange]) -> Result<Hir, Refusal>
     requires { AreCodes flags.unicode (pairs ranges.now) }
     ensures reads { IsResultOf result (set_re (settings_of config) flags
         (pairs ranges.now)) meaning }
@@ -135,7 +137,7 @@ fn is_letter(c: char) -> bool
 }
 
 /// The UTF-8 bytes of a character.
-fn literal(alloc: Global, c: char) -> Result<Hir, AllocError>
+pub fn literal(alloc: Global, c: char) -> Result<Hir, AllocError>
     ensures reads { IfOk result (λ h. meaning h ≡ literal_of (encode_utf8_all (c ∷ []))) }
     ensures kind { IfOk result (λ h. IsTrue (has_plain_nodes h)) }
 {

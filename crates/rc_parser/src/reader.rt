@@ -66,8 +66,9 @@ fn read(alloc: Global, chars: &[char], config: Config) -> Result<Nested, Fault>
     }
 }
 
-/// The byte of the text at which the character after the first `count` begins.
-fn byte_before(text: &str, count: usize) -> usize
+/// The byte of the text at which the character after the first `count` begins, or the length of the
+/// text if it has no more than `count`.
+pub fn byte_before(text: &str, count: usize) -> usize
     ensures { result ≤ length text.now }
 {
     let mut seen: usize = 0;
@@ -80,8 +81,9 @@ fn byte_before(text: &str, count: usize) -> usize
     text.len()
 }
 
+/// The characters of the text.
 #[tactic(auto, using(std::proofs::lemmas::Str::chars_from_encodes))]
-fn characters(alloc: Global, text: &str) -> Result<Vec<char>, AllocError>
+pub fn characters(alloc: Global, text: &str) -> Result<Vec<char>, AllocError>
     ensures { IfOk result (λ v. v.items ≡ chars text.now) }
 {
     text.chars().collect(alloc)
