@@ -1,13 +1,9 @@
 -- Whether the sorted table of folding has a character.
-use Rattle.std.proofs.Common.{◌≡◌, ℕ, zero, suc, ◌<◌, ◌≤◌, Bool, true, false, ◌||◌, ◌==◌, nat_lt, List, [], ◌∷◌, length, slice_index_or, refl, sym, ap, subst, ◌∙◌, arith, eq-eqb, eqb-true, not-suc-le-zero, zero-lt-suc, suc-le-suc, le_of_suc-le-suc}
+use Rattle.std.proofs.Common.{◌≡◌, ℕ, zero, suc, ◌<◌, ◌≤◌, Bool, true, false, ◌||◌, ◌==◌, nat_lt, List, [], ◌∷◌, length, slice_index_or, refl, sym, arith, eq-eqb, eqb-true, not-suc-le-zero, zero-lt-suc, suc-le-suc, le_of_suc-le-suc}
 use Rattle.std.proofs.lemmas.Bool.{false_from_ne_true, eqb-false, ltb-true, ltb-false}
 use Rattle.std.specs.List.{list_any}
 use Rattle.std.specs.List.Sorted.{IsNonDecreasingBy}
-use Rattle.unicode.specs.CaseFolding.{fold_pairs}
-use Rattle.rc_tokens.specs.Text.{is_scalar}
-use Rattle.rc_class_sets.proofs.OthersLemmas.{fold_pairs_up}
 use Rattle.rc_class_sets.proofs.SetLemmas.{or_left, or_right}
-use Rattle.rc_full_parser.specs.Pieces.{has_cases}
 
 abbrev begins : ℕ → ℕ × ℕ → Bool
 begins c pair = pair.0 == c

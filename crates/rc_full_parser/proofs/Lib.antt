@@ -5,3 +5,10 @@ pub mod OneLemmas
 pub mod Examples
 pub mod MachineLemmas
 pub mod CaseLemmas
+pub mod ShorterLemmas
+pub mod DepthLemmas
+pub mod ReadLemmas
+pub mod AtomLemmas
+pub mod StandLemmas
+pub mod SharedLemmas
+pub mod AlikeLemmas

@@ -1,6 +1,6 @@
 -- The reader of marks finds exactly the marks.
 use Rattle.std.proofs.Common.{◌≡◌, ℕ, Bool, true, false, not, ◌&&◌, ◌||◌, ◌==◌, [], ◌∷◌, ◌++◌, Option, Some, None, drop, encode_utf8_all, refl, ap, sym, subst, ◌∙◌, true≢false, eqb-true, if◌then◌else◌}
-use Rattle.std.proofs.lemmas.Option.{none-some, same_Some}
+use Rattle.std.proofs.lemmas.Option.{none-some}
 use Rattle.std.proofs.lemmas.Bool.{and_parts}
 use Rattle.rc_tokens.specs.Text.{Characters, ◌>>=◌, ◌>>◌, is_at, is_empty, each}
 use Rattle.rc_tokens.specs.Marks.{is_special, bounds}

@@ -1,7 +1,6 @@
 -- A text is read as one pattern.
-use Rattle.std.proofs.Common.{◌≡◌, ℕ, Bool, true, false, ◌⊎◌, inl, inr, ⊎_elim, List, [], ◌∷◌, Option, Some, None, refl, ap, sym, subst, ◌∙◌}
+use Rattle.std.proofs.Common.{◌≡◌, ℕ, Bool, true, false, ◌⊎◌, inl, inr, ⊎_elim, [], Some, None, refl, ap, sym, subst, ◌∙◌}
 use Rattle.std.proofs.lemmas.Option.{none-some, same_Some}
-use Rattle.rc_pattern.specs.Re.{Re}
 use Rattle.rc_tokens.specs.Text.{Characters}
 use Rattle.rc_tokens.proofs.StepLemmas.{pair_parts}
 use Rattle.rc_parser.specs.Pieces.{Subpattern}
@@ -16,7 +15,7 @@ use Rattle.rc_full_parser.specs.Marks as mark
 use Rattle.rc_full_parser.specs.Marks.{Mark}
 use Rattle.rc_full_parser.specs.Marked.{read_mark}
 use Rattle.rc_full_parser.specs.Pieces.{IsPiece, IsListPart}
-use Rattle.rc_full_parser.specs.Grammar.{Place, flags, here, at, behind, with_flags, behind_group, mark_settings, list_settings, Begins, Items, ends, closes, bars, sets, repeats, stands, list, group, fresh, Reads}
+use Rattle.rc_full_parser.specs.Grammar.{Place, flags, here, at, behind, with_flags, behind_group, mark_settings, list_settings, Begins, Items, ends, closes, bars, sets, repeats, stands, list, group, fresh}
 use Rattle.rc_full_parser.specs.Laws.{PatternsInOneWay}
 use Rattle.rc_full_parser.proofs.MarkLemmas.{mark_sound, mark_again}
 use Rattle.rc_full_parser.proofs.PieceLemmas.{one_piece, one_list_part}

@@ -1,5 +1,5 @@
 -- A mark that stands alone is read as one item.
-use Rattle.std.proofs.Common.{◌≡◌, ℕ, ◌-◌, Bool, true, false, Some, refl, ap, sym, subst, ◌∙◌, true≢false}
+use Rattle.std.proofs.Common.{◌≡◌, ℕ, ◌-◌, refl, ap, sym, ◌∙◌, true≢false}
 use Rattle.std.proofs.lemmas.Option.{same_Some}
 use Rattle.rc_pattern.specs.Re.{Re}
 use Rattle.rc_parser.specs.Settings.{Settings}

@@ -1,11 +1,10 @@
 -- Only proofs use this file.
 -- What the text of a pattern is read as, by the full grammar.
-use Rattle.std.specs.Prelude.{◌≡◌, ℕ, Bool, true, false, List, [], ◌∷◌, Option, Some, None}
+use Rattle.std.specs.Prelude.{◌≡◌, ℕ, Bool, true, false, [], Option, Some, None}
 use Rattle.rc_pattern.specs.Re.{Re, empty}
 use Rattle.rc_tokens.specs.Text.{Characters}
 use Rattle.rc_tokens.specs.Said.{Start}
 use Rattle.rc_tokens.specs.declared.tokens.Bounds.{Bounds}
-use Rattle.rc_tokens.specs.declared.tokens.Change.{Change}
 use Rattle.rc_parser.specs.Settings.{first_flags}
 use Rattle.rc_parser.specs.Pieces.{Subpattern, leaf}
 use Rattle.rc_parser.specs.Grammar.{Level, begin, add, switched, set_flags, end_branch, whole, repeated_once, inside, tie, closed}

@@ -1,6 +1,6 @@
 -- Only proofs use this file.
 -- The first mark of a text, in the order in which its reader tests.
-use Rattle.std.specs.Prelude.{ℕ, Bool, true, not, ◌&&◌, ◌==◌, [], ◌∷◌, drop, Option, Some, None, encode_utf8_all, if◌then◌else◌}
+use Rattle.std.specs.Prelude.{ℕ, true, not, ◌&&◌, ◌==◌, [], ◌∷◌, drop, Option, Some, None, encode_utf8_all, if◌then◌else◌}
 use Rattle.rc_tokens.specs.Text.{Characters, ◌>>=◌, ◌>>◌, is_at, is_empty}
 use Rattle.rc_tokens.specs.Marks.{bounds}
 use Rattle.rc_tokens.specs.Said.{Capturing, Named, Flagged}

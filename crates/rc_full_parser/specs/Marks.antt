@@ -1,6 +1,6 @@
 -- Only proofs use this file.
 -- The marks of which the text of a pattern is made, from left to right.
-use Rattle.std.specs.Prelude.{◌≡◌, ℕ, Bool, true, false, [], ◌∷◌, ◌++◌, Option, Some, None, encode_utf8_all, if◌then◌else◌}
+use Rattle.std.specs.Prelude.{◌≡◌, ℕ, Bool, true, false, ◌∷◌, ◌++◌, Option, Some, None, encode_utf8_all, if◌then◌else◌}
 use Rattle.rc_tokens.specs.Text.{Characters, ◌>>◌, is_at, is_empty, each}
 use Rattle.rc_tokens.specs.Marks.{is_special, bounds}
 use Rattle.rc_tokens.specs.Said.{Start, Capturing, Named, Flagged}

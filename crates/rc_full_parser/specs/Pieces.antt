@@ -1,6 +1,6 @@
 -- Only proofs use this file.
 -- What a mark that stands alone is read as, under the flags that hold.
-use Rattle.std.specs.Prelude.{◌≡◌, ℕ, ◌-◌, Bool, true, false, not, ◌&&◌, ◌||◌, ◌==◌, nat_le, List, [], ◌∷◌, Option, Some, encode_utf8_all}
+use Rattle.std.specs.Prelude.{◌≡◌, ℕ, ◌-◌, Bool, true, false, not, ◌&&◌, ◌==◌, nat_le, List, [], ◌∷◌, Some, encode_utf8_all}
 use Rattle.std.specs.List.{list_any}
 use Rattle.unicode.specs.CaseFolding.{fold_pairs}
 use Rattle.rc_pattern.specs.Re.{Re, Range, look}
@@ -13,8 +13,10 @@ use Rattle.rc_parser.specs.Pieces.{Subpattern, leaf, deeper, set_re, has_dot, do
 use Rattle.rc_parser.specs.declared.flags.Flags.{Flags}
 use Rattle.rc_class_sets.specs.Sets.{CodeSet, AreRangesOf}
 use Rattle.rc_full_lists.specs.declared.items.Item.{Item}
-use Rattle.rc_full_lists.specs.Items.{item_set}
+use Rattle.rc_full_lists.specs.Items.{HasCodes, item_set}
 use Rattle.rc_full_lists.specs.Lists.{one}
+use Rattle.rc_full_parser.specs.Marks as mark
+use Rattle.rc_full_parser.specs.Marks.{Mark}
 use Rattle.rc_full_parser.specs.declared.marks.Piece.{Piece}
 use Rattle.rc_full_parser.specs.declared.marks.Piece.TheVariants as piece
 
@@ -25,6 +27,10 @@ has_cases false c = is_letter c
 
 abbrev pub is_folded : Flags → ℕ → Bool
 is_folded f c = f.case_insensitive && has_cases f.unicode c
+
+-- With u off a byte of 128 or more stands for itself, else for the character with its number.
+abbrev pub is_high : Flags → ℕ → Bool
+is_high f b = not f.unicode && nat_le 128 b
 
 module _ (s : Settings) (f : Flags) where
   -- the class of a set, which holds no byte of 128 or more if the pattern is of UTF-8
@@ -41,14 +47,10 @@ module _ (s : Settings) (f : Flags) where
     plain : (c : ℕ) → is_folded f c ≡ false → IsCharacter c (literal_of (encode_utf8_all (c ∷ [])))
     cases : (c : ℕ) (re : Re) → is_folded f c ≡ true → IsClass (folded_set (one c)) re → IsCharacter c re
 
-  -- With u off a byte of 128 or more stands for itself, else for the character with its number.
-  abbrev pub is_high : ℕ → Bool
-  is_high b = not f.unicode && nat_le 128 b
-
   pub data IsPiece : Piece → Subpattern → Type 0 where
     character : (c : ℕ) (re : Re) → IsCharacter c re → IsPiece (piece.Character c) (leaf re)
-    low_byte : (b : ℕ) (re : Re) → is_high b ≡ false → IsCharacter b re → IsPiece (piece.Byte b) (leaf re)
-    high_byte : (b : ℕ) → is_high b ≡ true → s.utf8 ≡ false → IsPiece (piece.Byte b) (leaf (literal_of (b ∷ [])))
+    low_byte : (b : ℕ) (re : Re) → is_high f b ≡ false → IsCharacter b re → IsPiece (piece.Byte b) (leaf re)
+    high_byte : (b : ℕ) → is_high f b ≡ true → s.utf8 ≡ false → IsPiece (piece.Byte b) (leaf (literal_of (b ∷ [])))
     set : (i : Item) (re : Re) → IsClass (folded_set i) re → IsPiece (piece.Set i) (leaf re)
     dot : has_dot s f ≡ true → IsPiece piece.Dot (leaf (dot_of (dot_kind s f)))
     asserts : (a : Assertion) → IsPiece (piece.Asserts a) (leaf (look (look_of f a)))
@@ -56,3 +58,20 @@ module _ (s : Settings) (f : Flags) where
   -- a list with these codes, nested so deep
   pub data IsListPart : CodeSet → ℕ → Subpattern → Type 0 where
     list : (p : CodeSet) (d : ℕ) (re : Re) (part : Subpattern) → IsClass p re → deeper s re (d - 1) ≡ Some part → IsListPart p d part
+
+-- a set that is a piece is one of characters, or with u off of bytes
+abbrev pub HasCodesOf : Bool → Piece → Type 0
+HasCodesOf unicode (piece.Set i) = HasCodes unicode i
+HasCodesOf unicode (piece.Character c) = Unit {0}
+HasCodesOf unicode (piece.Byte b) = Unit {0}
+HasCodesOf unicode piece.Dot = Unit {0}
+HasCodesOf unicode (piece.Asserts a) = Unit {0}
+
+abbrev pub HasCodesAt : Bool → Mark → Type 0
+HasCodesAt unicode (mark.stands k) = HasCodesOf unicode k
+HasCodesAt unicode mark.bar = Unit {0}
+HasCodesAt unicode mark.closes = Unit {0}
+HasCodesAt unicode (mark.sets to) = Unit {0}
+HasCodesAt unicode (mark.opens k x) = Unit {0}
+HasCodesAt unicode (mark.repeats b) = Unit {0}
+HasCodesAt unicode mark.brackets = Unit {0}

@@ -113,7 +113,12 @@ fn bytes(alloc: Global, ranges: &[CodeRange]) -> Result<Vec<ClassBytesRange>, Al
 
 /// The class of the ranges. It fails with `Refusal::Syntax` if bytes of 128 or more aren't allowed, and
 /// the class has one.
-pub fn set(alloc: Global, config: Config, flags: Flags, ranges: &[CodeRange]) -> Result<Hir, Refusal>
+pub fn set(
+    alloc: Global,
+    config: Config,
+    flags: Flags,
+    ranges: &[CodeRange],
+) -> Result<Hir, Refusal>
     requires { AreCodes flags.unicode (pairs ranges.now) }
     ensures reads { IsResultOf result (set_re (settings_of config) flags
         (pairs ranges.now)) meaning }
