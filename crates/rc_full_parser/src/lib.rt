@@ -8,6 +8,8 @@ pub mod marks;
 mod pieces;
 pub mod reader;
 #[cfg(test)]
+mod rows;
+#[cfg(test)]
 mod tests;
 
 pub use config::FullConfig;
