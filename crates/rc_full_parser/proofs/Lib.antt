@@ -12,3 +12,4 @@ pub mod AtomLemmas
 pub mod StandLemmas
 pub mod SharedLemmas
 pub mod AlikeLemmas
+pub mod BracketLemmas

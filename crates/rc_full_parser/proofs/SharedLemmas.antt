@@ -232,6 +232,20 @@ as_mark (said.Opens k) = mark.opens k None
 as_mark said.Closes = mark.closes
 as_mark (said.Repeats b) = mark.repeats b
 
+-- the mark is no list
+abbrev pub IsSingle : stated.Mark → Type 0
+IsSingle (stated.stands (stated.character c)) = Unit {0}
+IsSingle (stated.stands stated.dot) = Unit {0}
+IsSingle (stated.stands stated.caret) = Unit {0}
+IsSingle (stated.stands stated.dollar) = Unit {0}
+IsSingle (stated.stands (stated.escape e)) = Unit {0}
+IsSingle (stated.stands (stated.brackets negated bracket xs)) = ⊥
+IsSingle stated.bar = Unit {0}
+IsSingle (stated.setting f) = Unit {0}
+IsSingle (stated.opens o) = Unit {0}
+IsSingle stated.closes = Unit {0}
+IsSingle (stated.repeats o) = Unit {0}
+
 abbrev IsAs : MarkSettings → Characters → said.Said → Characters → Type 0
 IsAs ms t k u = IsMark ms t (as_mark k) u
 
@@ -244,7 +258,7 @@ escape_piece ms t u (says.Byte b) is = mark.escaped t u (Stated (says.Byte b)) (
 escape_piece ms t u (says.Perl p) is = mark.escaped t u (Stated (says.Perl p)) (piece.Set (item.Perl p)) is refl
 escape_piece ms t u (says.Assertion a) is = mark.escaped t u (Stated (says.Assertion a)) (piece.Asserts a) is refl
 
-piece_as : (ms : MarkSettings) (p : stated.Piece) (k : said.Said) (u : Characters) → is_shared (stated.stands p) ≡ true → stated.said (stated.stands p) ≡ Some k →
+piece_as : (ms : MarkSettings) (p : stated.Piece) (k : said.Said) (u : Characters) → IsSingle (stated.stands p) → stated.said (stated.stands p) ≡ Some k →
     takes_more (stated.stands p) u ≡ false → IsAs ms (written (stated.stands p) ++ u) k u
 piece_as ms (stated.character c) k u shared h alone =
     let (x, is, same) = some_parts (piece_says (stated.character c)) (λ s. Some (said.Stands s)) k h in
@@ -259,7 +273,7 @@ piece_as ms (stated.escape e) k u shared h alone =
     let (s, meant, there) = some_parts (escape_says e) (λ s. Some (sense s)) x is in
     becomes ms (written_escape e ++ u) u (said.Stands (sense s)) k (ap (λ s. Some (said.Stands s)) (same_Some (sense s) x there) ∙ same)
     (escape_piece ms (written_escape e ++ u) u s (escape.stated e s u meant (takes_none e u alone)))
-piece_as ms (stated.brackets negated bracket xs) k u shared h alone = absurd (true≢false (sym shared))
+piece_as ms (stated.brackets negated bracket xs) k u single h alone = absurd single
 
 -- the name of the mark, if it has one, is one of the full grammar
 abbrev NameKnown : stated.Mark → Type 0
@@ -290,7 +304,7 @@ known ms (stated.setting f) k u found h r = tt
 known ms stated.closes k u found h r = tt
 known ms (stated.repeats o) k u found h r = tt
 
-is_as : (ms : MarkSettings) (m : stated.Mark) (k : said.Said) (u : Characters) → is_shared m ≡ true → NameKnown m → stated.said m ≡ Some k → takes_more m u ≡ false →
+is_as : (ms : MarkSettings) (m : stated.Mark) (k : said.Said) (u : Characters) → IsSingle m → NameKnown m → stated.said m ≡ Some k → takes_more m u ≡ false →
     IsAs ms (written m ++ u) k u
 is_as ms (stated.stands p) k u shared name h alone = piece_as ms p k u shared h alone
 is_as ms stated.bar k u shared name h alone = becomes ms (124 ∷ u) u said.Bar k h (mark.branch u)
@@ -332,7 +346,7 @@ is_as ms (stated.repeats o) k u shared name h alone =
     (mark.repeating (written_amount o.amount ++ v) v b.min b.max is_amount))))
 
 -- what the full grammar finds where a mark of both begins
-pub found_alike : (ms : MarkSettings) (m : stated.Mark) (k : said.Said) (u : Characters) (found : Mark × Characters) → is_shared m ≡ true → stated.said m ≡ Some k →
+pub found_alike : (ms : MarkSettings) (m : stated.Mark) (k : said.Said) (u : Characters) (found : Mark × Characters) → IsSingle m → stated.said m ≡ Some k →
     takes_more m u ≡ false → read_mark ms (written m ++ u) ≡ Some found → (as_mark k, u) ≡ found
 found_alike ms m k u found shared h alone r =
     same_Some (as_mark k, u) found (sym (mark_again ms (written m ++ u) (as_mark k) u (is_as ms m k u shared (known ms m k u found h r) h alone)) ∙ r)
@@ -361,35 +375,56 @@ same_sense (says.Byte b) h = tt
 same_sense (says.Perl p) h = absurd (true≢false (sym h))
 same_sense (says.Assertion a) h = tt
 
-pub said_same : (m : stated.Mark) (k : said.Said) → is_shared m ≡ true → stated.said m ≡ Some k → IsSame k
-said_same (stated.stands (stated.character c)) k shared h =
+pub said_same : (m : stated.Mark) (k : said.Said) → IsSingle m → is_shared m ≡ true → stated.said m ≡ Some k → IsSame k
+said_same (stated.stands (stated.character c)) k single shared h =
     let (x, is, same) = some_parts (piece_says (stated.character c)) (λ s. Some (said.Stands s)) k h in
     let (_, e) = guard_parts (not (is_special c)) (Some (said.Character c)) x is in
     subst IsSame (same_Some (said.Stands (said.Character c)) k (ap (λ s. Some (said.Stands s)) (same_Some (said.Character c) x e) ∙ same)) tt
-said_same (stated.stands stated.dot) k shared h = subst IsSame (same_Some _ k h) tt
-said_same (stated.stands stated.caret) k shared h = subst IsSame (same_Some _ k h) tt
-said_same (stated.stands stated.dollar) k shared h = subst IsSame (same_Some _ k h) tt
-said_same (stated.stands (stated.escape e)) k shared h =
+said_same (stated.stands stated.dot) k single shared h = subst IsSame (same_Some _ k h) tt
+said_same (stated.stands stated.caret) k single shared h = subst IsSame (same_Some _ k h) tt
+said_same (stated.stands stated.dollar) k single shared h = subst IsSame (same_Some _ k h) tt
+said_same (stated.stands (stated.escape e)) k single shared h =
     let (x, is, same) = some_parts (piece_says (stated.escape e)) (λ s. Some (said.Stands s)) k h in
     let (s, meant, there) = some_parts (escape_says e) (λ s. Some (sense s)) x is in
     subst IsSame (same_Some (said.Stands (sense s)) k (ap (λ s. Some (said.Stands s)) (same_Some (sense s) x there) ∙ same))
     (same_sense s (subst (λ o. is_no_class o ≡ true) meant shared))
-said_same (stated.stands (stated.brackets negated bracket xs)) k shared h = absurd (true≢false (sym shared))
-said_same stated.bar k shared h = subst IsSame (same_Some _ k h) tt
-said_same (stated.setting f) k shared h =
+said_same (stated.stands (stated.brackets negated bracket xs)) k single shared h = absurd single
+said_same stated.bar k single shared h = subst IsSame (same_Some _ k h) tt
+said_same (stated.setting f) k single shared h =
     let (to, is, same) = some_parts (flags_of f) (λ to. Some (said.Setting to)) k h in
     let (_, a) = set_alike f to is in
     subst IsSame (same_Some (said.Setting to) k same) (a.keeps shared)
-said_same (stated.opens stated.capturing) k shared h = subst IsSame (same_Some _ k h) tt
-said_same (stated.opens (stated.naming p name)) k shared h =
+said_same (stated.opens stated.capturing) k single shared h = subst IsSame (same_Some _ k h) tt
+said_same (stated.opens (stated.naming p name)) k single shared h =
     let (x, is, same) = some_parts (stated.opening_says (stated.naming p name)) (λ s. Some (said.Opens s)) k h in
     let (_, e) = guard_parts (is_name name) (Some (said.Named (encode_utf8_all name))) x is in
     subst IsSame (same_Some (said.Opens (said.Named (encode_utf8_all name))) k (ap (λ s. Some (said.Opens s)) (same_Some _ x e) ∙ same)) tt
-said_same (stated.opens (stated.flagging f)) k shared h =
+said_same (stated.opens (stated.flagging f)) k single shared h =
     let (x, is, same) = some_parts (stated.opening_says (stated.flagging f)) (λ s. Some (said.Opens s)) k h in
     let (to, changes, e) = some_parts (change_of true unchanged f) (λ to. Some (said.Flagged to)) x is in
     subst IsSame (same_Some (said.Opens (said.Flagged to)) k (ap (λ s. Some (said.Opens s)) (same_Some _ x e) ∙ same))
     ((flags_alike f true unchanged to changes).keeps shared)
-said_same stated.closes k shared h = subst IsSame (same_Some _ k h) tt
-said_same (stated.repeats o) k shared h =
+said_same stated.closes k single shared h = subst IsSame (same_Some _ k h) tt
+said_same (stated.repeats o) k single shared h =
     let (b, is, same) = some_parts (bounds_of o.lazy o.amount) (λ b. Some (said.Repeats b)) k h in subst IsSame (same_Some (said.Repeats b) k same) tt
+
+-- the flag i is neither set nor cleared
+abbrev pub KeepsCase : said.Said → Type 0
+KeepsCase (said.Stands k) = Unit {0}
+KeepsCase (said.Setting to) = to.case_insensitive ≡ None
+KeepsCase (said.Opens (said.Flagged to)) = to.case_insensitive ≡ None
+KeepsCase (said.Opens said.Capturing) = Unit {0}
+KeepsCase (said.Opens (said.Named name)) = Unit {0}
+KeepsCase said.Bar = Unit {0}
+KeepsCase said.Closes = Unit {0}
+KeepsCase (said.Repeats b) = Unit {0}
+
+pub same_keeps : (k : said.Said) → IsSame k → KeepsCase k
+same_keeps (said.Stands k) h = tt
+same_keeps (said.Setting to) h = h
+same_keeps (said.Opens (said.Flagged to)) h = h
+same_keeps (said.Opens said.Capturing) h = tt
+same_keeps (said.Opens (said.Named name)) h = tt
+same_keeps said.Bar h = tt
+same_keeps said.Closes h = tt
+same_keeps (said.Repeats b) h = tt

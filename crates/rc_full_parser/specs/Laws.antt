@@ -1,6 +1,6 @@
 -- Only proofs use this file.
 -- What holds of all that the full grammar reads.
-use Rattle.std.specs.Prelude.{◌≡◌, ◌↔◌, ◌<◌, ℕ, Bool, true, false, not, ◌==◌, List, [], ◌∷◌, Option, Some, None}
+use Rattle.std.specs.Prelude.{◌≡◌, ◌↔◌, ◌<◌, ℕ, Bool, true, false, not, ◌&&◌, ◌==◌, List, [], ◌∷◌, Option, Some, None}
 use Rattle.rc_pattern.specs.Re.{Re}
 use Rattle.rc_pattern.specs.WellFormed.{IsWellFormed}
 use Rattle.rc_tokens.specs.Text.{Characters, each}
@@ -39,14 +39,23 @@ is_no_class (Some (says.Assertion a)) = true
 abbrev pub keeps_case : Characters → Bool
 keeps_case f = each (λ c. not (c == 105)) f
 
--- the mark is no list and no Perl class, and neither sets nor clears the flag i
+-- the atom of a list is no Perl class
+abbrev pub is_plain : stated.Atom → Bool
+is_plain (stated.plain c) = true
+is_plain (stated.escaped e) = is_no_class (escape_says e)
+
+abbrev pub are_plain : List stated.Atom → Bool
+are_plain [] = true
+are_plain (x ∷ xs) = is_plain x && are_plain xs
+
+-- the mark is no Perl class and has none, and neither sets nor clears the flag i
 abbrev pub is_shared : Mark → Bool
 is_shared (stands (stated.character c)) = true
 is_shared (stands stated.dot) = true
 is_shared (stands stated.caret) = true
 is_shared (stands stated.dollar) = true
 is_shared (stands (stated.escape e)) = is_no_class (escape_says e)
-is_shared (stands (stated.brackets negated bracket xs)) = false
+is_shared (stands (stated.brackets negated bracket xs)) = are_plain xs
 is_shared bar = true
 is_shared (setting f) = keeps_case f
 is_shared (opens stated.capturing) = true
@@ -59,7 +68,7 @@ abbrev pub AreShared : List Mark → Type 0
 AreShared [] = Unit {0}
 AreShared (m ∷ ms) = (is_shared m ≡ true) × AreShared ms
 
--- A text that both grammars read, and that has no list, no Perl class and no flag i or x, both read alike.
+-- A text that both grammars read, and that has no Perl class and no flag i or x, both read alike.
 abbrev pub SharedLaw : Type 0
 SharedLaw = (s : FullSettings) (text : Characters) (a b : Re) → s.ignore_whitespace ≡ false → s.stated.case_insensitive ≡ false →
     (r : parser.Reads s.stated text a) → AreShared (parser.marks r.body) → Reads s text b → a ≡ b

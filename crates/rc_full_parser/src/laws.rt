@@ -17,8 +17,8 @@ pub fn patterns_are_well_formed()
     ensures { PatternsAreWellFormed }
 {}
 
-/// A text that both grammars read is read alike by both, if it has no list, no Perl class and no flag
-/// `i` or `x`.
+/// A text that both grammars read is read alike by both, if it has no Perl class and no flag `i` or
+/// `x`.
 pub fn shared_patterns_are_read_alike()
     ensures { SharedLaw }
 {}
