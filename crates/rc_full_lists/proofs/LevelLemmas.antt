@@ -1,5 +1,5 @@
 -- The lists that are open, and what the reader keeps of them.
-use Rattle.std.proofs.Common.{◌≡◌, ℕ, ◌+◌, ◌≤◌, Bool, true, false, List, [], ◌∷◌, ◌++◌, Option, Some, None, length, reverse, refl, ap, sym, subst, ◌∙◌, arith}
+use Rattle.std.proofs.Common.{◌≡◌, ℕ, ◌≤◌, Bool, true, false, List, [], ◌∷◌, ◌++◌, Option, length, reverse, refl, ap, sym, subst, ◌∙◌, arith}
 use Rattle.std.proofs.lemmas.List.{reverse-append, length-reverse}
 use Rattle.std.specs.Borrow.{Bor}
 use Rattle.rc_tokens.specs.Text.{Characters}
@@ -10,9 +10,9 @@ use Rattle.rc_full_lists.specs.declared.levels.Level as code
 use Rattle.rc_full_lists.specs.declared.levels.Levels as codes
 use Rattle.rc_full_lists.specs.declared.levels.Step.{Step}
 use Rattle.rc_full_lists.specs.declared.levels.Step.TheVariants.{Goes, Ends}
-use Rattle.rc_full_lists.specs.Openings.{Sign, Lead, nothing, hyphens, bracket, IsOpening, opening}
+use Rattle.rc_full_lists.specs.Openings.{Lead, nothing, hyphens, bracket, IsOpening, opening}
 use Rattle.rc_full_lists.specs.Laws.{LeadHasCodes}
-use Rattle.rc_full_lists.specs.Levels.{Level, Levels, at, around, Moves, item, operator, opens, closes, Fit, IsLevel, AreOuter, AreLevels, ClosesTo, StepsTo}
+use Rattle.rc_full_lists.specs.Levels.{Level, Levels, at, around, Moves, item, operator, opens, closes, Fit, IsLevel, AreOuter, ClosesTo, StepsTo}
 use Rattle.rc_full_lists.proofs.ShorterLemmas.{opening_shorter}
 
 -- ---- what leads

@@ -1,8 +1,8 @@
 -- Which codes a list has.
-use Rattle.std.proofs.Common.{◌≡◌, ℕ, Bool, true, false, not, ◌||◌, List, [], ◌∷◌, Option, Some, None, refl, ap, sym, subst, ◌∙◌}
+use Rattle.std.proofs.Common.{◌≡◌, ℕ, Bool, true, false, not, ◌||◌, List, ◌∷◌, Option, Some, None, refl, ap, sym, subst, ◌∙◌}
 use Rattle.std.specs.List.{list_any}
 use Rattle.rc_tokens.specs.Text.{Characters}
-use Rattle.rc_class_sets.specs.Sets.{CodeSet, union}
+use Rattle.rc_class_sets.specs.Sets.{CodeSet}
 use Rattle.rc_class_sets.specs.Folding.{IsClosed, complement_if, folded}
 use Rattle.rc_class_sets.proofs.FoldLemmas.{fold_order_law}
 use Rattle.rc_full_lists.specs.declared.parts.Settings.{Settings}
@@ -12,8 +12,7 @@ use Rattle.rc_full_lists.specs.declared.parts.Operation.TheVariants.{Intersectio
 use Rattle.rc_full_lists.specs.declared.items.Item.{Item}
 use Rattle.rc_full_lists.specs.Items.{is_negated, named_set, item_set}
 use Rattle.rc_full_lists.specs.Sides.{Side, no_codes, apply, so_far, so_far_by}
-use Rattle.rc_full_lists.specs.Openings.{IsOpening}
-use Rattle.rc_full_lists.specs.Lists.{Progress, begun, lead_set, one, with_item, with_list, operated, list_set, Inside, closes, item, operator, nested, IsList, brackets}
+use Rattle.rc_full_lists.specs.Lists.{Progress, begun, lead_set, one, with_item, with_list, operated, Inside, closes, item, operator, nested, IsList, brackets}
 use Rattle.rc_full_lists.specs.Laws as laws
 use Rattle.rc_full_lists.specs.Laws.{Union, ListsHaveTheirItems, ListsStayFolded}
 use Rattle.rc_full_lists.proofs.ListLemmas.{there, inside_next, list_parts, one_list}

@@ -1,5 +1,5 @@
 -- Why a text is no list.
-use Rattle.std.proofs.Common.{◌≡◌, ◌⊎◌, ⊎_elim, inl, inr, ℕ, ◌≤◌, Bool, Option, Some, None, Result, Ok, Err, MatchResult, subst, sym, ap, ◌∙◌}
+use Rattle.std.proofs.Common.{◌≡◌, ◌⊎◌, ⊎_elim, inl, inr, ℕ, ◌≤◌, Bool, Some, None, Result, Ok, Err, MatchResult, subst, sym, ap, ◌∙◌}
 use Rattle.std.specs.Result.{IsErrAnd}
 use Rattle.rc_tokens.specs.Text.{Characters}
 use Rattle.rc_tokens.specs.declared.refusal.Refusal.{Refusal}
@@ -7,7 +7,6 @@ use Rattle.rc_tokens.specs.declared.refusal.Refusal.TheVariants.{Memory}
 use Rattle.rc_class_sets.specs.Sets.{CodeSet}
 use Rattle.rc_full_lists.specs.declared.parts.Settings.{Settings}
 use Rattle.rc_full_lists.specs.declared.parts.Part.{Part}
-use Rattle.rc_full_lists.specs.declared.parts.Part.TheVariants as part
 use Rattle.rc_full_lists.specs.Lists.{IsList}
 use Rattle.rc_full_lists.specs.Read.{passed, read_part}
 use Rattle.rc_full_lists.specs.Levels.{Levels, IsTooDeep}

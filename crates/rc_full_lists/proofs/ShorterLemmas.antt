@@ -1,26 +1,27 @@
 -- What is read makes the text shorter.
-use Rattle.std.proofs.Common.{◌≡◌, ℕ, ◌≤◌, ◌<◌, Bool, true, false, ◌&&◌, [], ◌∷◌, ◌++◌, Option, Some, drop, length, length-append, ap, sym, subst, arith}
+use Rattle.std.proofs.Common.{◌≡◌, ℕ, ◌≤◌, ◌<◌, Bool, true, false, [], ◌∷◌, ◌++◌, Option, Some, drop, length, length-append, sym, subst, arith}
 use Rattle.std.proofs.lemmas.Option.{none-some}
-use Rattle.std.proofs.lemmas.Bool.{and_parts}
-use Rattle.rc_tokens.specs.Text.{Characters, is_at}
+use Rattle.rc_tokens.specs.Text.{Characters}
 use Rattle.rc_tokens.specs.Marks.{Escape, short, fixed, braced, written_escape}
-use Rattle.rc_tokens.proofs.StepLemmas.{at_splits}
-use Rattle.rc_tokens.proofs.ClassLemmas.{if_elim}
+use Rattle.rc_class_sets.specs.Sets.{CodeSet}
 use Rattle.rc_full_escapes.specs.Escapes.{IsEscape, stated, digits, letter, name}
 use Rattle.rc_full_escapes.specs.declared.escapes.FullEscape.{FullEscape}
 use Rattle.rc_full_lists.specs.declared.parts.Settings.{Settings}
 use Rattle.rc_full_lists.specs.declared.parts.Atom.{Atom}
 use Rattle.rc_full_lists.specs.declared.parts.Atom.TheVariants.{Code, Set}
 use Rattle.rc_full_lists.specs.declared.parts.Part.{Part}
+use Rattle.rc_full_lists.specs.declared.parts.Part.TheVariants as part
 use Rattle.rc_full_lists.specs.declared.parts.Operation.{Operation}
 use Rattle.rc_full_lists.specs.declared.items.Item.{Item}
 use Rattle.rc_full_lists.specs.Parts.{Passes, operator_at, IsPosix, posix, IsAtom, plain, escaped, GoesOn, IsPart, closes, operates, names, opens, range, single, set}
+use Rattle.rc_full_lists.specs.Lists as lists
+use Rattle.rc_full_lists.specs.Lists.{Progress, Inside, IsList, brackets}
 use Rattle.rc_full_lists.specs.Read.{passed, read_part}
 use Rattle.rc_full_lists.specs.Openings.{Hyphens, none, more, Sign, without_caret, caret, Lead, nothing, hyphens, bracket, IsOpening, opening}
 use Rattle.rc_full_lists.proofs.PartLemmas.{passes_there, part_sound}
 use Rattle.rc_full_lists.proofs.OpeningLemmas.{passed_shorter}
 
-passes_shorter : (x : Bool) (t u : Characters) → Passes x t u → length u ≤ length t
+pub passes_shorter : (x : Bool) (t u : Characters) → Passes x t u → length u ≤ length t
 passes_shorter x t u p = subst (λ y. length y ≤ length t) (sym (passes_there x t u p)) (passed_shorter x t)
 
 -- ---- openings
@@ -49,7 +50,7 @@ written_shorter (short c) u = omega arith
 written_shorter (fixed c ds) u = let h = length-append ds u in omega (arith, h)
 written_shorter (braced c t) u = let h = length-append (t ++ 125 ∷ []) u in omega (arith, h)
 
-escape_shorter : (octal : Bool) (t u : Characters) (e : FullEscape) → IsEscape octal t e u → length u < length t
+pub escape_shorter : (octal : Bool) (t u : Characters) (e : FullEscape) → IsEscape octal t e u → length u < length t
 escape_shorter octal _ _ _ (stated e s u says alone) = written_shorter e u
 escape_shorter octal _ _ _ (digits ds s u on says are few ends) = let h = length-append ds u in omega (arith, h)
 escape_shorter octal _ _ _ (letter negated c e u other says) = omega arith
@@ -88,3 +89,25 @@ shorter s _ _ _ (set t u i begins atom stands) = atom_shorter s t u (Set i) atom
 pub part_shorter : (s : Settings) (t u : Characters) (k : Part) → read_part s (passed s.verbose t) ≡ Some (k, u) → length u < length t
 part_shorter s t u k h =
     let a = shorter s (passed s.verbose t) u k (part_sound s (passed s.verbose t) k u h) in let b = passed_shorter s.verbose t in omega (arith, a, b)
+
+-- ---- lists
+
+front_shorter : (s : Settings) (t a u : Characters) (k : Part) → Passes s.verbose t a → IsPart s a k u → length u < length t
+front_shorter s t a u k p is = let f = passes_shorter s.verbose t a p in let g = shorter s a u k is in omega (arith, f, g)
+
+mutual
+  inside_shorter : (s : Settings) (fold : Bool) (t u : Characters) (r end : Progress) → Inside s fold r t end u → length u < length t
+  inside_shorter s fold _ _ _ _ (lists.closes r t a u p is) = front_shorter s t a u part.Closes p is
+  inside_shorter s fold _ _ _ _ (lists.item r end t a b u i p is n) =
+      let f = front_shorter s t a b (part.Has i) p is in let g = inside_shorter s fold b u _ end n in omega (arith, f, g)
+  inside_shorter s fold _ _ _ _ (lists.operator r end t a b u o p is n) =
+      let f = front_shorter s t a b (part.Operates o) p is in let g = inside_shorter s fold b u _ end n in omega (arith, f, g)
+  inside_shorter s fold _ _ _ _ (lists.nested r end t a b c u q d p is l n) =
+      let f = front_shorter s t a b part.Opens p is in
+      let g = list_shorter s fold b c q d l in
+      let h = inside_shorter s fold c u _ end n in
+      omega (arith, f, g, h)
+
+  pub list_shorter : (s : Settings) (fold : Bool) (t u : Characters) (p : CodeSet) (d : ℕ) → IsList s fold t p d u → length u < length t
+  list_shorter s fold _ _ _ _ (brackets t a u negated lead end o i) =
+      let f = opening_shorter s.verbose t a negated lead o in let g = inside_shorter s fold a u _ end i in omega (arith, f, g)

@@ -1,5 +1,5 @@
 -- The ranges of the sides of a list.
-use Rattle.std.proofs.Common.{◌≡◌, Bool, List, [], Option, Some, None, refl, sym, subst, true≢false}
+use Rattle.std.proofs.Common.{Bool, List, [], Option, Some, None, sym, subst, true≢false}
 use Rattle.rc_pattern.specs.Re.{Range}
 use Rattle.rc_tokens.specs.ClassView.{pairs}
 use Rattle.rc_class_sets.specs.Sets.{CodeSet, Denote, AreRangesOf}

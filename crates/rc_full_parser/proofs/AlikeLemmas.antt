@@ -33,7 +33,7 @@ use Rattle.rc_full_parser.specs.Marked.{read_mark}
 use Rattle.rc_full_parser.specs.Pieces.{has_cases, IsCharacter, plain, cases, is_high, IsPiece, character, low_byte, high_byte, dot, asserts, IsListPart, list}
 use Rattle.rc_full_parser.specs.Grammar.{mark_settings, list_settings}
 use Rattle.rc_full_parser.specs.Machine.{State, state, place, shut, Moves, Leads}
-use Rattle.rc_full_parser.specs.Laws.{are_plain, is_shared, AreShared, SharedLaw}
+use Rattle.rc_full_parser.specs.Laws.{are_plain, is_shared, AreShared, SharedPatternsAlike}
 use Rattle.rc_full_parser.proofs.SharedLemmas.{as_mark, IsSingle, found_alike, IsSame, said_same, KeepsCase, same_keeps}
 use Rattle.rc_full_parser.proofs.BracketLemmas.{tail, tail_is, NoSets, members_are, list_is, no_sets}
 use Rattle.rc_full_parser.proofs.MachineLemmas.{same_flags, took, marks_law}
@@ -304,7 +304,7 @@ module _ (s : FullSettings) where
       lockstep ms v n.around u p q (take_off s.stated k w v keeps off takes) around shs are rest on)
       (leads_first s (state w false xs) t q l)
 
-pub shared_law : SharedLaw
+pub shared_law : SharedPatternsAlike
 shared_law s text a b plain_start off r shared f =
     let (depth, l) = (marks_law s text b).0 f in
     let run = body_run s.stated r.body (begin (first_flags s.stated) 0 []) ∙ ap (λ o. o >>= whole s.stated) r.is_read ∙ r.is_whole in

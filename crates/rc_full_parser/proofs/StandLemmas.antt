@@ -1,10 +1,8 @@
 -- What the full grammar reads is well-formed.
-use Rattle.std.proofs.Common.{◌≡◌, ℕ, suc, ◌+◌, ◌*◌, ◌-◌, ◌<◌, ◌≤◌, Bool, true, false, not, List, [], ◌∷◌, ◌++◌, Option, Some, None, length, map, refl, ap, sym, subst, ◌∙◌, arith, if◌then◌else◌, encode_utf8_all}
+use Rattle.std.proofs.Common.{◌≡◌, ℕ, suc, ◌+◌, ◌*◌, ◌-◌, ◌<◌, ◌≤◌, Bool, true, false, not, List, [], ◌∷◌, ◌++◌, Option, Some, None, refl, ap, sym, subst, ◌∙◌, arith, if◌then◌else◌, encode_utf8_all}
 use Rattle.std.proofs.lemmas.Option.{none-some, same_Some}
-use Rattle.std.proofs.lemmas.List.FromFn.{length-range_with_len}
-use Rattle.std.specs.List.{range_with_len}
 use Rattle.rc_pattern.specs.Re.{Re, Range, empty, repeat}
-use Rattle.rc_pattern.specs.WellFormed.{AreAscending, HasBounds, group_numbers, AreDistinct, IsWellFormed}
+use Rattle.rc_pattern.specs.WellFormed.{AreAscending, HasBounds, IsWellFormed}
 use Rattle.rc_tokens.specs.Text.{Characters}
 use Rattle.rc_tokens.specs.Classes.{next}
 use Rattle.rc_tokens.specs.Members.{InOrder}
@@ -14,9 +12,9 @@ use Rattle.rc_parser.specs.Settings.{Settings, first_flags}
 use Rattle.rc_parser.specs.Pieces.{Subpattern, leaf}
 use Rattle.rc_parser.specs.Grammar.{Level, begin, switched, set_flags, repeated_once, tie}
 use Rattle.rc_parser.specs.declared.flags.Flags.{Flags}
-use Rattle.rc_parser.proofs.SpineLemmas.{Numbered, groups, all_groups, numbers_are, names_are, fine_more}
+use Rattle.rc_parser.proofs.SpineLemmas.{Numbered, groups, all_groups, fine_more}
 use Rattle.rc_parser.proofs.FitLemmas.{Fit, AllFit, fit_with, with_groups, deeper_fit, Plain, plain_fit, plain_literal, set_plain, dot_plain}
-use Rattle.rc_parser.proofs.StandLemmas.{given, distinct_among, ordered_as, held, Stands, add_stands, add_nothing, branch_stands, whole_stands, closed_fit, begin_stands, inside_stands, around}
+use Rattle.rc_parser.proofs.StandLemmas.{ordered_as, held, Stands, add_stands, add_nothing, branch_stands, whole_stands, closed_fit, inside_stands, around, first_stands, whole_formed}
 use Rattle.rc_parser.proofs.StandLemmas as parser
 use Rattle.rc_class_sets.specs.Sets.{CodeSet}
 use Rattle.rc_full_tokens.specs.Counts.{IsCount, exactly, from, between, up_to}
@@ -195,19 +193,8 @@ module _ (s : FullSettings) (byte : s.stated.line_terminator < 256) where
   reads_stand : (text : Characters) (re : Re) → Reads s text re → IsWellFormed re
   reads_stand text re r =
       let l = begin (first_flags s.stated) 0 [] in
-      let first : Stands [] l = begin_stands s.stated [] l refl refl (record { numbered = refl; named = refl; distinct = tt }) in
-      let last = (items_stand false (fresh s) r.end text [] [] r.is_read (level_stands [] l s.ignore_whitespace first)).stands in
-      let end = here r.end in
-      let (fit, gs) = whole_stands s.stated [] end (record { re = re; depth = r.depth }) last r.is_whole in
-      let numbers : group_numbers re ≡ range_with_len 1 end.groups = numbers_are re ∙ ap (map (λ (g : Numbered). g.0)) gs ∙ last.ordered.numbered in
-      let deep = fit.fine.shallow in let least = fit.within in
-      record {
-        numbered = numbers ∙ ap (range_with_len 1) (sym (ap length numbers ∙ length-range_with_len 1 end.groups));
-        named = subst AreDistinct (sym (names_are re ∙ ap (map (λ (g : Numbered). g.1)) gs))
-            (distinct_among (map (λ (g : Numbered). g.1) (held end)) (subst (λ x. AreDistinct (given x)) (sym last.ordered.named) last.ordered.distinct));
-        bounded = fit.fine.bounded;
-        shallow = omega (arith, deep, least);
-      }
+      let last = items_stand false (fresh s) r.end text [] [] r.is_read (level_stands [] l s.ignore_whitespace (first_stands s.stated)) in
+      whole_formed s.stated (here r.end) re r.depth last.stands r.is_whole
 
 pub well_formed_law : PatternsAreWellFormed
 well_formed_law s text re byte r = reads_stand s byte text re r

@@ -69,6 +69,6 @@ AreShared [] = Unit {0}
 AreShared (m ∷ ms) = (is_shared m ≡ true) × AreShared ms
 
 -- A text that both grammars read, and that has no Perl class and no flag i or x, both read alike.
-abbrev pub SharedLaw : Type 0
-SharedLaw = (s : FullSettings) (text : Characters) (a b : Re) → s.ignore_whitespace ≡ false → s.stated.case_insensitive ≡ false →
+abbrev pub SharedPatternsAlike : Type 0
+SharedPatternsAlike = (s : FullSettings) (text : Characters) (a b : Re) → s.ignore_whitespace ≡ false → s.stated.case_insensitive ≡ false →
     (r : parser.Reads s.stated text a) → AreShared (parser.marks r.body) → Reads s text b → a ≡ b

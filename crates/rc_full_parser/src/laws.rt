@@ -1,6 +1,6 @@
 //! What holds of the full grammar.
 
-ghost use Rattle.rc_full_parser.specs.Laws.{PatternsInOneWay, PatternsByMarks, PatternsAreWellFormed, SharedLaw};
+ghost use Rattle.rc_full_parser.specs.Laws.{PatternsInOneWay, PatternsByMarks, PatternsAreWellFormed, SharedPatternsAlike};
 
 /// No text is read as two patterns.
 pub fn patterns_are_one()
@@ -20,5 +20,5 @@ pub fn patterns_are_well_formed()
 /// A text that both grammars read is read alike by both, if it has no Perl class and no flag `i` or
 /// `x`.
 pub fn shared_patterns_are_read_alike()
-    ensures { SharedLaw }
+    ensures { SharedPatternsAlike }
 {}

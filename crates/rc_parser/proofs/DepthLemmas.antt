@@ -1,11 +1,11 @@
 -- How deep a pattern is nested at least, and at most.
-use Rattle.std.proofs.Common.{◌≡◌, ℕ, ◌+◌, ◌-◌, ◌<◌, ◌≤◌, max, min, Bool, true, false, nat_lt, nat_le, not, ◌&&◌, List, [], ◌∷◌, ◌++◌, Option, Some, None, length, map, reverse, take, get_or, refl, ap, sym, subst, ◌∙◌, arith, if◌then◌else◌}
+use Rattle.std.proofs.Common.{◌≡◌, ℕ, ◌+◌, ◌-◌, ◌<◌, ◌≤◌, max, min, Bool, true, false, nat_lt, nat_le, not, List, [], ◌∷◌, ◌++◌, Option, Some, None, length, map, reverse, take, get_or, refl, ap, sym, subst, ◌∙◌, arith, if◌then◌else◌}
 use Rattle.std.proofs.lemmas.Bool.{ltb-true, leb-false}
 use Rattle.std.proofs.lemmas.Option.{none-some, same_Some}
 use Rattle.std.proofs.lemmas.List.{length-append, reverse-append, take_more}
 use Rattle.rc_pattern.specs.Re.{Re, empty}
 use Rattle.rc_pattern.specs.Meaning.{concat_of, alternation_of}
-use Rattle.rc_tokens.specs.Text.{Characters, ◌>>=◌, ◌>>◌}
+use Rattle.rc_tokens.specs.Text.{Characters, ◌>>=◌}
 use Rattle.rc_tokens.specs.Classes.{class_of, perl_ranges, list_ranges}
 use Rattle.rc_tokens.specs.Marks.{Mark, said}
 use Rattle.rc_tokens.specs.Said as sense
@@ -13,9 +13,9 @@ use Rattle.rc_tokens.specs.Said.{Said, Start, Stands, Bar, Setting, Opens, Close
 use Rattle.rc_tokens.specs.declared.tokens.Bounds.{Bounds}
 use Rattle.rc_tokens.proofs.StepLemmas.{some_parts, guard_parts}
 use Rattle.rc_tokens.proofs.ClassLemmas.{le_true}
-use Rattle.rc_parser.specs.Settings.{Settings, first_flags}
-use Rattle.rc_parser.specs.Pieces.{Subpattern, leaf, depth_limit, deeper, set_re, char_re, byte_re, dot_kind, has_dot, look_of, sense_part}
-use Rattle.rc_parser.specs.Grammar.{Parts, no_parts, with_part, Level, Tie, begin, add, set_flags, tied, is_named, inside, tie, join, end_branch, whole, repeated_once, closed}
+use Rattle.rc_parser.specs.Settings.{Settings}
+use Rattle.rc_parser.specs.Pieces.{Subpattern, leaf, depth_limit, deeper, set_re, char_re, byte_re, has_dot, sense_part}
+use Rattle.rc_parser.specs.Grammar.{Parts, no_parts, with_part, Level, begin, add, set_flags, tied, is_named, inside, tie, join, end_branch, whole, repeated_once, closed}
 use Rattle.rc_parser.specs.Machine.{Outside, Work, work, nameless, settled, step, close, take_said, finish, run_marks, Has, fresh}
 use Rattle.rc_parser.specs.Nesting.{body_depth, body_depth_with, closed_depth, least_depth}
 use Rattle.rc_parser.specs.declared.flags.Flags.{Flags}

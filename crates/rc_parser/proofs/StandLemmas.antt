@@ -32,7 +32,7 @@ range_more a (suc n) = ap (λ t. a ∷ t) (range_more (a + 1) n ∙ ap (λ x. ra
     shift a n = omega arith
 
 -- the names that are there
-abbrev pub somes : List (Option (List ℕ)) → List (List ℕ)
+abbrev somes : List (Option (List ℕ)) → List (List ℕ)
 somes [] = []
 somes (None ∷ names) = somes names
 somes (Some name ∷ names) = name ∷ somes names
@@ -42,7 +42,7 @@ somes_append [] ys = refl
 somes_append (None ∷ xs) ys = somes_append xs ys
 somes_append (Some name ∷ xs) ys = ap (λ t. name ∷ t) (somes_append xs ys)
 
-abbrev pub given : List (List ℕ) → List (Option (List ℕ))
+abbrev given : List (List ℕ) → List (Option (List ℕ))
 given [] = []
 given (name ∷ names) = Some name ∷ given names
 
@@ -54,7 +54,7 @@ new_among name [] h = tt
 new_among name (None ∷ names) h = ((λ e. not_none name e), new_among name names h)
 new_among name (Some other ∷ names) h = (h.0, new_among name names h.1)
 
-pub distinct_among : (names : List (Option (List ℕ))) → AreDistinct (given (somes names)) → AreDistinct names
+distinct_among : (names : List (Option (List ℕ))) → AreDistinct (given (somes names)) → AreDistinct names
 distinct_among [] h = tt
 distinct_among (None ∷ names) h = (tt, distinct_among names h)
 distinct_among (Some name ∷ names) h = (new_among name names h.0, distinct_among names h.1)
@@ -185,7 +185,7 @@ module _ (s : Settings) where
   before pre l None = pre ++ held l
   before pre l (Some t) = (pre ++ held l) ++ t ∷ []
 
-  pub begin_stands : (gs : List Numbered) (start : Level) → start.items ≡ no_parts → start.branches ≡ no_parts → Ordered gs start.groups start.names → Stands gs start
+  begin_stands : (gs : List Numbered) (start : Level) → start.items ≡ no_parts → start.branches ≡ no_parts → Ordered gs start.groups start.names → Stands gs start
   begin_stands gs start i b o = record {
     ordered = ordered_as (gs ++ held start) gs start.groups start.names
         (ap (λ t. gs ++ t) (ap (λ (ps : Parts). all_groups ps.res ++ all_groups start.items.res) b ∙ ap (λ (ps : Parts). all_groups ps.res) i) ∙ append-nil gs) o;
@@ -246,17 +246,24 @@ module _ (s : Settings) where
       (ordered_as (pre ++ (held l ++ groups q.re)) (before pre l (tie k l) ++ held last) last.groups last.names
       (ap (λ t. pre ++ (held l ++ t)) (same ∙ ap groups is) ∙ around (tie k l) pre l body.re (held last) gs) within.ordered)) e6
 
-  pub well_formed : (text : Characters) (re : Re) → s.line_terminator < 256 → Reads s text re → IsWellFormed re
-  well_formed text re byte r =
-      let first : Stands [] (begin (first_flags s) 0 []) = begin_stands [] (begin (first_flags s) 0 []) refl refl (record { numbered = refl; named = refl; distinct = tt }) in
-      let last = reads_stands r.body [] (begin (first_flags s) 0 []) r.end byte first r.is_read in
-      let (fit, gs) = whole_stands [] r.end (record { re = re; depth = r.depth }) last r.is_whole in
-      let numbers : group_numbers re ≡ range_with_len 1 r.end.groups = numbers_are re ∙ ap (map (λ (g : Numbered). g.0)) gs ∙ last.ordered.numbered in
+  -- before a pattern
+  pub first_stands : Stands [] (begin (first_flags s) 0 [])
+  first_stands = begin_stands [] (begin (first_flags s) 0 []) refl refl (record { numbered = refl; named = refl; distinct = tt })
+
+  -- the whole of a body that stands so
+  pub whole_formed : (end : Level) (re : Re) (d : ℕ) → Stands [] end → whole s end ≡ Some (record { re = re; depth = d }) → IsWellFormed re
+  whole_formed end re d last is_whole =
+      let (fit, gs) = whole_stands [] end (record { re = re; depth = d }) last is_whole in
+      let numbers : group_numbers re ≡ range_with_len 1 end.groups = numbers_are re ∙ ap (map (λ (g : Numbered). g.0)) gs ∙ last.ordered.numbered in
       let deep = fit.fine.shallow in let least = fit.within in
       record {
-        numbered = numbers ∙ ap (range_with_len 1) (sym (ap length numbers ∙ length-range_with_len 1 r.end.groups));
+        numbered = numbers ∙ ap (range_with_len 1) (sym (ap length numbers ∙ length-range_with_len 1 end.groups));
         named = subst AreDistinct (sym (names_are re ∙ ap (map (λ (g : Numbered). g.1)) gs))
-            (distinct_among (map (λ (g : Numbered). g.1) (held r.end)) (subst (λ x. AreDistinct (given x)) (sym last.ordered.named) last.ordered.distinct));
+            (distinct_among (map (λ (g : Numbered). g.1) (held end)) (subst (λ x. AreDistinct (given x)) (sym last.ordered.named) last.ordered.distinct));
         bounded = fit.fine.bounded;
         shallow = omega (arith, deep, least);
       }
+
+  pub well_formed : (text : Characters) (re : Re) → s.line_terminator < 256 → Reads s text re → IsWellFormed re
+  well_formed text re byte r =
+      whole_formed r.end re r.depth (reads_stands r.body [] (begin (first_flags s) 0 []) r.end byte first_stands r.is_read) r.is_whole

@@ -1,11 +1,9 @@
 use Rattle.std.proofs.Common.{◌≡◌, ◌⊎◌, ◌≤◌, ◌<◌, [], Some, None, length, arith, subst, sym, ap, ◌∙◌}
-use Rattle.rc_tokens.specs.ClassView.{pairs}
 use Rattle.rc_tokens.specs.declared.refusal.Refusal.TheVariants.{Memory}
-use Rattle.rc_class_sets.specs.Sets.{AreRangesOf}
 use Rattle.rc_full_lists.specs.declared.parts.Part.TheVariants as part
 use Rattle.rc_full_lists.specs.Lists.{IsList}
 use Rattle.rc_full_lists.specs.Levels.{at, opened, level_set, StepsTo}
-use Rattle.rc_full_lists.specs.Read.{passed, read_part}
+use Rattle.rc_full_lists.specs.Read.{read_part}
 use Rattle.rc_full_lists.proofs.PartLemmas.{part_sound}
 use Rattle.rc_full_lists.proofs.CodeLemmas.{part_codes}
 use Rattle.rc_full_lists.proofs.ListLemmas.{same_start, same_moves, same_ends}

@@ -1,4 +1,4 @@
-use Rattle.std.proofs.Common.{◌+◌, sym, subst, ap}
+use Rattle.std.proofs.Common.{◌+◌, sym, subst}
 use Rattle.rc_tokens.specs.ClassView.{pairs}
 use Rattle.rc_class_sets.specs.Sets.{AreRangesOf}
 use Rattle.rc_full_lists.specs.Levels.{level_set, with_listed, IsLevel}

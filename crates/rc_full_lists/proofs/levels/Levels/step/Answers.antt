@@ -1,5 +1,4 @@
 use Rattle.std.proofs.Common.{sym, subst}
-use Rattle.rc_full_lists.specs.declared.parts.Part.TheVariants as part
 use Rattle.rc_full_lists.specs.Items.{item_set}
 use Rattle.rc_full_lists.specs.Levels.{at, more, past_operator, Moves, item, operator, StepsTo}
 use Rattle.rc_full_lists.proofs.LevelLemmas.{closed_steps}

@@ -1,4 +1,4 @@
-use Rattle.std.proofs.Common.{◌≡◌, option_map, ap, sym, ◌∙◌}
+use Rattle.std.proofs.Common.{option_map, ap, sym, ◌∙◌}
 use Rattle.rc_parser.specs.Machine.{settled}
 use Rattle.rc_parser.specs.Nesting.{body_depth}
 use Rattle.rc_parser.specs.View.{level, part}
