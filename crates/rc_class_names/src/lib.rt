@@ -3,5 +3,3 @@
 
 pub mod posix;
 pub mod properties;
-#[cfg(test)]
-mod tests;

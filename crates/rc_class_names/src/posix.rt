@@ -133,10 +133,8 @@ impl Posix {
     }
 }
 
-pub(crate) fn code_ranges(
-    alloc: Global,
-    ranges: &[(u32, u32)],
-) -> Result<Vec<CodeRange>, AllocError>
+/// Ranges of codes, each from its first code to its last.
+pub fn code_ranges(alloc: Global, ranges: &[(u32, u32)]) -> Result<Vec<CodeRange>, AllocError>
     ensures { IfOk result (λ v. pairs v.items ≡ ranges.now) }
 {
     let mut all = Vec::new(alloc);

@@ -8,5 +8,3 @@ pub mod lists;
 pub mod openings;
 pub mod parts;
 pub mod sides;
-#[cfg(test)]
-mod tests;

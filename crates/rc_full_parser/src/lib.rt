@@ -2,15 +2,11 @@
 #![tactic(auto)]
 
 pub mod characters;
-pub mod config;
+mod config;
 pub mod laws;
 pub mod marks;
 mod pieces;
-pub mod reader;
-#[cfg(test)]
-mod rows;
-#[cfg(test)]
-mod tests;
+mod reader;
 
 pub use config::FullConfig;
 pub use reader::parse;

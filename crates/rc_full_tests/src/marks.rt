@@ -1,8 +1,8 @@
 //! Worked examples of marks.
 
-use crate::characters::cases;
-use crate::marks::{Mark, MarkSettings, Piece, first_mark};
 use rc_full_lists::items::Item;
+use rc_full_parser::characters::cases;
+use rc_full_parser::marks::{Mark, MarkSettings, Piece, first_mark};
 use rc_tokens::refusal::Refusal;
 use rc_tokens::tokens::{Assertion, Bounds, Opening};
 use std::alloc::{AllocError, Global};

@@ -1,7 +1,6 @@
 //! Worked examples of whole patterns.
 
-use crate::config::FullConfig;
-use crate::reader::parse;
+use rc_full_parser::{FullConfig, parse};
 use rc_parser::{Config, Error};
 use rc_pattern::hir::{Class, Hir, HirKind, Look};
 use std::alloc::Global;

@@ -1,7 +1,7 @@
 //! Worked examples of whole lists.
 
-use crate::lists::list;
-use crate::parts::Settings;
+use rc_full_lists::lists::list;
+use rc_full_lists::parts::Settings;
 use rc_tokens::classes::CodeRange;
 use rc_tokens::refusal::Refusal;
 use std::alloc::{AllocError, Global};

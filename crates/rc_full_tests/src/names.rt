@@ -3,8 +3,8 @@
 ghost use Rattle.std.specs.Prelude.{true};
 ghost use Rattle.rc_tokens.specs.Classes.{AreCodes};
 
-use crate::posix::{Posix, code_ranges, posix_class};
-use crate::properties::{NameError, property_named};
+use rc_class_names::posix::{Posix, code_ranges, posix_class};
+use rc_class_names::properties::{NameError, property_named};
 use rc_class_sets::folding::item;
 use rc_class_sets::perl::perl_class;
 use rc_class_sets::properties::property;
