@@ -34,7 +34,8 @@ pub struct Output<W: Write + Drop> {
 }
 
 impl<W: Write + Drop> Output<W> {
-    /// Nothing was printed to the writer.
+    /// Returns an output to the writer, to which nothing was printed. `counts` says whether statistics
+    /// are kept, and `records` whether lines are printed as records.
     pub fn new(alloc: Global, inner: W, counts: bool, records: bool) -> Output<W> {
         Output {
             writer: Counter { inner, count: 0 },
@@ -49,8 +50,8 @@ impl<W: Write + Drop> Output<W> {
         }
     }
 
-    /// Counts a selected line, if that is asked for, and finds its matches: none if `is_inverted`. An
-    /// `Err` means out of memory.
+    /// Counts a selected line, and finds its matches: there are none if `is_inverted`, and `matches` is
+    /// left as it is. An `Err` means out of memory.
     pub fn count_line<F: MatchFinder>(
         &mut self,
         finder: &mut F,
@@ -110,7 +111,7 @@ impl<W: Write + Drop> Output<W> {
         Ok(())
     }
 
-    /// Prints what was counted of all files, if that is asked for. `total` is how long the program
+    /// Prints what was counted of all files, if that is asked for. `elapsed` is how long the program
     /// took.
     pub fn put_total(&mut self, elapsed: Duration) -> io::Result<()> {
         let out = &mut self.writer.inner;

@@ -23,7 +23,7 @@ impl From<PrintError> for Fault {
     }
 }
 
-/// An error of a file.
+/// The value, or the error as one of a file.
 pub fn read<T: Drop>(done: io::Result<T>) -> Result<T, Fault> {
     match done {
         Ok(value) => Ok(value),
@@ -31,7 +31,7 @@ pub fn read<T: Drop>(done: io::Result<T>) -> Result<T, Fault> {
     }
 }
 
-/// An error of the output.
+/// Whether something was written, or the error as one of the output.
 pub fn written(done: io::Result<()>) -> Result<(), Fault> {
     match done {
         Ok(()) => Ok(()),

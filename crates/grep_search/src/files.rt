@@ -20,7 +20,7 @@ const STDIN_RECORD: &str = "<stdin>";
 const IS_OUTPUT: &str = "input file is also the output";
 
 impl Job<'_, '_, '_> {
-    /// That lines of this file wouldn't be written to the file itself.
+    /// Refuses a file to which its own lines would be written.
     fn check_output(&self, file: Option<Identity>) -> Result<(), Fault> {
         if self.output.is_some() && self.output == file {
             return Err(Fault::IsOutput);
