@@ -6,6 +6,7 @@ mod cases;
 mod escaping;
 mod faults;
 mod finding;
+mod growing;
 mod kept;
 mod lent;
 mod lines;
@@ -20,6 +21,7 @@ use crate::cases::in_any_case;
 use crate::escaping::escaped;
 use crate::faults::fault_of;
 use crate::finding::{match_in_selection, matches_on_screen, next_match, previous_match};
+use crate::growing::{final_match, is_kept};
 use crate::kept::first_matches;
 use crate::lent::count_in_both;
 use crate::lines::{group_named, lines_with_a_match};
@@ -60,6 +62,30 @@ fn edit(rt: &HostRuntime, regex: &Regex, finder: &mut Finder<'_>, text: ChunkCur
         "on screen",
         &matches_on_screen(rt.alloc(), regex, text, part),
     );
+}
+
+/// The number at a place, if it is final, and whether edits leave the first one.
+fn grow_with(rt: &HostRuntime, finder: &mut Finder<'_>, text: ChunkCursor<'_>) {
+    show(rt, "final", &final_match(finder, text, 0, 9));
+    show(rt, "may go on", &final_match(finder, text, 3, 9));
+    let first = finder.find_reach(&mut Input::new(text));
+    show(rt, "kept", &(is_kept(&first, 1), is_kept(&first, 8)));
+}
+
+/// Numbers in a text that may grow.
+fn grow(rt: &HostRuntime) {
+    let chunks: [&[u8]; 2] = [b"12 a", b"nd 34"];
+    let Ok(text) = ChunkCursor::new(&chunks) else {
+        return;
+    };
+    let Ok(number) = Regex::new(rt.alloc(), "[0-9]+") else {
+        return;
+    };
+    if let Ok(mut finder) = Finder::new(rt.alloc(), &number) {
+        grow_with(rt, &mut finder, text);
+        drop(finder);
+    }
+    drop(number);
 }
 
 /// The lines with a match, the line of a place, and a group by its name.
@@ -222,4 +248,5 @@ fn main(rt: HostRuntime) {
     meet(&rt, text);
     replace(&rt, &chunks);
     ask(&rt, text);
+    grow(&rt);
 }
