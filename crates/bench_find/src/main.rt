@@ -7,6 +7,8 @@
 //! What is timed:
 //! - `matches`: the matches (the default)
 //! - `captures`: the matches with their groups
+//! - `searches`: the matches, by one search after another. Each begins where the last match ended
+//! - `reaches`: the same, by searches that tell how many bytes settle a match
 //! - `texts`: each chunk is a text of its own, searched in one cache, and those with a match count
 //! - `finds`: as `texts`, but with a cache for each text
 //! - `build`: the build of the pattern
@@ -32,7 +34,7 @@ mod sets;
 
 use regex_cursor::Input;
 use regex_cursor::cursor::{ChunkCursor, TooLong};
-use regex_cursor::engines::meta::{BuildError, Builder, Config, Regex};
+use regex_cursor::engines::meta::{BuildError, Builder, Config, Finder, Regex};
 use regex_cursor::hir::{Capture, Hir, Repetition};
 use std::alloc::{AllocError, Global};
 use std::io;
@@ -50,7 +52,7 @@ const ROUNDS: u32 = 3;
 const LEVELS: usize = 1024;
 
 const USAGE: &str =
-    "usage: bench_find PATTERN CHUNK [ROUNDS [matches|captures|texts|finds|build|tree [all|plain|met|lazy|pass]]]";
+    "usage: bench_find PATTERN CHUNK [ROUNDS [matches|captures|searches|reaches|texts|finds|build|tree [all|plain|met|lazy|pass]]]";
 
 /// What is timed.
 #[derive(Clone, Copy)]
@@ -59,6 +61,10 @@ enum What {
     Matches,
     /// All matches with their groups.
     Captures,
+    /// All matches, by one search after another.
+    Searches,
+    /// The same, by searches that tell how many bytes settle a match.
+    Reaches,
     /// A search of each chunk as a text of its own.
     Texts,
     /// A search of each chunk as a text of its own, without a cache.
@@ -139,6 +145,8 @@ fn what_of(word: &str) -> Option<What> {
     match word {
         "matches" => Some(What::Matches),
         "captures" => Some(What::Captures),
+        "searches" => Some(What::Searches),
+        "reaches" => Some(What::Reaches),
         "texts" => Some(What::Texts),
         "finds" => Some(What::Finds),
         "build" => Some(What::Build),
@@ -270,9 +278,13 @@ fn built(alloc: Global, job: &Job<'_>) -> Result<Regex, BuildError> {
     builder.configure(config_of(job.by));
     let built = match job.what {
         What::Tree => built_of_tree(alloc, &builder, job.pattern.as_bytes()),
-        What::Matches | What::Captures | What::Texts | What::Finds | What::Build => {
-            builder.build(alloc, job.pattern)
-        }
+        What::Matches
+        | What::Captures
+        | What::Searches
+        | What::Reaches
+        | What::Texts
+        | What::Finds
+        | What::Build => builder.build(alloc, job.pattern),
     };
     drop(builder);
     built
@@ -310,6 +322,46 @@ fn count_captures(alloc: Global, regex: &Regex, chunks: &[&[u8]]) -> Result<usiz
         captures?;
         count = count.saturating_add(1);
     }
+    Ok(count)
+}
+
+/// Where the first match in the input ends. Each match is settled by the bytes before its reach, so
+/// with `told` it has to end there at most.
+fn end_of(
+    finder: &mut Finder<'_>,
+    input: &mut Input<ChunkCursor<'_>>,
+    told: bool,
+) -> Option<usize> {
+    if !told {
+        return Some(finder.find(input)?.end());
+    }
+    let reached = finder.find_reach(input);
+    let end = reached.found?.end();
+    Some(end.min(reached.reach))
+}
+
+/// The number of matches in the chunks, by one search after another, which tell how many bytes
+/// settle a match if `told` is set.
+fn count_searches(
+    alloc: Global,
+    regex: &Regex,
+    chunks: &[&[u8]],
+    told: bool,
+) -> Result<usize, BenchError> {
+    let mut finder = Finder::new(alloc, regex)?;
+    let mut input = Input::new(ChunkCursor::new(chunks)?);
+    let len = input.end();
+    let mut count: usize = 0;
+    let mut at = 0;
+    'searches: while at < len {
+        input.set_range(at, len);
+        let Some(end) = end_of(&mut finder, &mut input, told) else {
+            break;
+        };
+        count = count.saturating_add(1);
+        at = end.max(at + 1);
+    }
+    drop(finder);
     Ok(count)
 }
 
@@ -354,6 +406,8 @@ fn count(
     match job.what {
         What::Matches | What::Tree => count_in(alloc, regex, chunks),
         What::Captures => count_captures(alloc, regex, chunks),
+        What::Searches => count_searches(alloc, regex, chunks, false),
+        What::Reaches => count_searches(alloc, regex, chunks, true),
         What::Texts => count_texts(alloc, regex, chunks),
         What::Finds => count_finds(alloc, regex, chunks),
         What::Build => Ok(count_built(alloc, job)),
