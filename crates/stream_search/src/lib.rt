@@ -4,6 +4,8 @@
 pub mod error;
 mod search;
 pub mod stream;
+#[cfg(test)]
+mod tests;
 
 pub use error::FeedError;
 pub use stream::StreamSearcher;
