@@ -8,6 +8,7 @@ invariant_of-over_utf8-in_err-over_bytes-2 c = record {
   programmed = c.in_ok-over_utf8.over_utf8.engines.programmed;
   bound = c.in_ok-over_utf8.over_utf8.engines.bound;
   needed = c.in_ok-over_utf8.over_utf8.engines.needed;
+  measured = c.in_ok-over_utf8.over_utf8.engines.measured;
   free = c.in_ok-over_utf8.over_utf8.engines.free;
   anchored = c.in_ok-over_utf8.over_utf8.engines.anchored;
 }
