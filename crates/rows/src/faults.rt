@@ -43,10 +43,11 @@ pub enum Fault {
     Dfa(Part),
     Hybrid(Part),
     SmallHybrid(Part),
-    /// How many bytes settle what a regex finds.
+    /// How many bytes settle what a regex finds, or the `PikeVM`.
     Reach,
     ReachUnfiltered,
     ReachByTables,
+    VmReach,
     Find,
     /// What `find` finds over a cursor that isn't lent.
     FindByValue,

@@ -1,4 +1,4 @@
-//! Reaches: how many bytes of the text settle what the regexes find.
+//! Reaches: how many bytes of the text settle what the regexes and the `PikeVM` find.
 
 use crate::engines::Engines;
 use crate::faults::Fault;
@@ -6,10 +6,12 @@ use crate::inputs::input;
 use crate::row::Row;
 use crate::slots::Asker;
 use api_meta::regex::Regex;
+use api_pikevm::reach::search_reach;
+use api_pikevm::vm::PikeVM;
 use rc_text::cursor::Cursor;
 use rc_text::types::Match;
 
-/// Where the row tells of a reach, each regex tells one within it, of this match.
+/// Where the row tells of a reach, each regex and the `PikeVM` tell one within it, of this match.
 pub fn reaches<C: Cursor + Copy + Drop>(
     asker: &mut Asker,
     engines: &Engines,
@@ -34,6 +36,7 @@ pub fn reaches<C: Cursor + Copy + Drop>(
         found,
         cursor,
     );
+    vm_reach(asker, &engines.vm, row, found, cursor);
 }
 
 /// Where the row tells of a reach, the regex finds this match, and tells a reach within the row's.
@@ -55,6 +58,30 @@ fn reach<C: Cursor + Drop>(
             drop(cache);
             let is_told = told.found == *found && least <= told.reach && told.reach <= most;
             asker.verdict.expect(is_told, fault);
+        }
+        Err(_) => asker.verdict.note(Fault::Memory),
+    }
+}
+
+/// Where the row tells of a reach, the `PikeVM` finds this match, and tells a reach within the
+/// row's.
+fn vm_reach<C: Cursor + Drop>(
+    asker: &mut Asker,
+    vm: &PikeVM,
+    row: &Row,
+    found: &Option<Match>,
+    mut cursor: C,
+) {
+    let Some((least, most)) = row.reach else {
+        return;
+    };
+    match vm.create_cache(asker.alloc) {
+        Ok(mut cache) => {
+            let mut input = input(row, &mut cursor);
+            let told = search_reach(vm, &mut cache, &mut input);
+            drop(cache);
+            let is_told = told.found == *found && least <= told.reach && told.reach <= most;
+            asker.verdict.expect(is_told, Fault::VmReach);
         }
         Err(_) => asker.verdict.note(Fault::Memory),
     }
