@@ -71,7 +71,7 @@ impl Job<'_, '_, '_> {
     /// Reports a file that couldn't be searched, unless messages are off.
     fn report_fault(&self, rt: &HostRuntime, path: &str, fault: &io::Error) {
         if !self.options.no_messages {
-            let name = if path == "-" { STDIN } else { path };
+            let name = name_of(path);
             let _ = writeln!(rt.stderr(), "rcgrep: {name}: {fault}");
         }
     }
@@ -89,8 +89,8 @@ impl Job<'_, '_, '_> {
             Ok(is_any) => return Ok(Some(is_any)),
             Err(Fault::Read(fault)) => self.report_fault(rt, found.path.as_str(), &fault),
             Err(Fault::IsOutput) => {
-                let path = found.path.as_str();
-                let _ = writeln!(rt.stderr(), "rcgrep: {path}: {IS_OUTPUT}");
+                let name = name_of(found.path.as_str());
+                let _ = writeln!(rt.stderr(), "rcgrep: {name}: {IS_OUTPUT}");
             }
             Err(Fault::Write(fault)) => return Err(fault),
         }
@@ -140,6 +140,11 @@ impl Job<'_, '_, '_> {
         out.writer.flush()?;
         Ok(status)
     }
+}
+
+/// The name of a file in messages.
+fn name_of(path: &str) -> &str {
+    if path == "-" { STDIN } else { path }
 }
 
 /// The status of a search.
