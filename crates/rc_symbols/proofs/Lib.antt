@@ -1,0 +1,4 @@
+pub mod ShapeLemmas
+pub mod SymbolLemmas
+pub mod ReaderLemmas
+mod Examples
