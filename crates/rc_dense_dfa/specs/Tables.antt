@@ -72,7 +72,7 @@ pub record IsTable (m : Machine) (states : List State) (d : Table) : Type 0 wher
 abbrev pub dead_state : State
 dead_state = record {
   list = [];
-  beside = record { edge = false; terminator = false; line_feed = false; carriage_return = false; word = false };
+  beside = record { edge = false; terminator = false; line_feed = false; carriage_return = false; word = false; letter = false; broken = false };
   goes_on = false;
   matched = None;
 }

@@ -56,6 +56,8 @@ pub(crate) fn dead(alloc: Global) -> State
             line_feed: false,
             carriage_return: false,
             word: false,
+            letter: false,
+            broken: false,
         },
         goes_on: false,
         matched: None,

@@ -10,9 +10,9 @@ use Rattle.rc_determinize.specs.declared.backward.Source.{Source}
 use Rattle.rc_determinize.specs.declared.backward.Reversed.{Reversed}
 use Rattle.rc_determinize.specs.Sparse.{Members}
 use Rattle.rc_determinize.specs.Steps.{HasPlace, AreBelow, IsRising, HasWay}
-use Rattle.rc_determinize.specs.States.{Setting, State}
-use Rattle.rc_determinize.specs.Sides.{told}
-use Rattle.rc_determinize.specs.Backward.{LeadsBy, listed, leads, still_out, LeadsHere, ReadsTo, IsFirstRoot, IsPrior}
+use Rattle.rc_determinize.specs.declared.sides.Sides.{Sides}
+use Rattle.rc_determinize.specs.States.{State}
+use Rattle.rc_determinize.specs.Backward.{LeadsBy, listed, leads, still_out, LeadsOver, ReadsTo, IsFirstRoot, IsPriorOver}
 use Rattle.rc_determinize.specs.Machine.{add_one, add_all}
 use Rattle.rc_determinize.specs.Reversed.{passes, reads_over, sources, into_at, IsReversed, AreInside}
 use Rattle.rc_determinize.proofs.SparseLemmas.{has_at, index_of}
@@ -197,29 +197,26 @@ leads_same out a b same (listed q h) = listed q (same q h)
 leads_same out a b same (leads q p w l) = leads q p w (leads_same out a b same l)
 
 -- what was gone back is the step
-pub is_prior : (g : Setting) (roots : List ℕ) (s : State) (before : Option ℕ) (t : State) (behind : Seen) (begun entered got : List ℕ) →
-    behind ≡ told g.needs g.terminator before → ((q : ℕ) → HasPlace q begun ↔ HasPlace q s.list) →
-    ((q : ℕ) → HasPlace q entered ↔ LeadsBy (still_out g.places behind s.beside) begun q) →
-    ((q : ℕ) → HasPlace q got ↔ ((b : ℕ) × (before ≡ Some b) × (p : ℕ) × ReadsTo g.places b q p × HasPlace p entered)) →
+pub is_prior : (places : List Place) (roots : List ℕ) (s : State) (sides : Sides) (t : State) (begun entered got : List ℕ) →
+    ((q : ℕ) → HasPlace q begun ↔ HasPlace q s.list) → ((q : ℕ) → HasPlace q entered ↔ LeadsBy (still_out places sides.near s.beside) begun q) →
+    ((q : ℕ) → HasPlace q got ↔ ((b : ℕ) × (sides.byte ≡ Some b) × (p : ℕ) × ReadsTo places b q p × HasPlace p entered)) →
     ((q : ℕ) → HasPlace q t.list ↔ HasPlace q got) → IsRising t.list → IsFirstRoot (λ q. HasPlace q entered) roots t.matched →
-    t.goes_on ≡ false → t.beside ≡ behind → IsPrior g roots s before t
-is_prior g roots s before t behind begun entered got told_is same back over list rising matched goes_on beside = record {
+    t.goes_on ≡ false → t.beside ≡ sides.far → IsPriorOver places roots s sides t
+is_prior places roots s sides t begun entered got same back over list rising matched goes_on beside = record {
   list = λ q. (
     (λ h. let w = (over q).0 ((list q).0 h) in (w.0, w.1, w.2, w.3, (here w.2).0 w.4)),
     (λ h. (list q).1 ((over q).1 (h.0, h.1, h.2, h.3, (here h.2).1 h.4))),
   );
   rising = rising;
-  matched = same_root (λ q. HasPlace q entered) (LeadsHere g s before) here roots t.matched matched;
+  matched = same_root (λ q. HasPlace q entered) (LeadsOver places s sides.near) here roots t.matched matched;
   goes_on = goes_on;
-  beside = beside ∙ told_is;
+  beside = beside;
 }
   where
-    here : (q : ℕ) → HasPlace q entered ↔ LeadsHere g s before q
+    here : (q : ℕ) → HasPlace q entered ↔ LeadsOver places s sides.near q
     here q = (
-      (λ h. subst (λ x. LeadsBy (still_out g.places x s.beside) s.list q) told_is
-          (leads_same (still_out g.places behind s.beside) begun s.list (λ p z. (same p).0 z) ((back q).0 h))),
-      (λ l. (back q).1 (leads_same (still_out g.places behind s.beside) s.list begun (λ p z. (same p).1 z)
-          (subst (λ x. LeadsBy (still_out g.places x s.beside) s.list q) (sym told_is) l))),
+      (λ h. leads_same (still_out places sides.near s.beside) begun s.list (λ p z. (same p).0 z) ((back q).0 h)),
+      (λ l. (back q).1 (leads_same (still_out places sides.near s.beside) s.list begun (λ p z. (same p).1 z) l)),
     )
 
 -- the set of a list

@@ -12,7 +12,7 @@ use Rattle.rc_determinize.specs.declared.sides.Seen.{Seen}
 use Rattle.rc_determinize.specs.declared.sides.Asked.{Asked}
 use Rattle.rc_determinize.specs.Steps.{IsByBytes}
 use Rattle.rc_determinize.specs.Sides.{told, ranges_of, holds_both, IsReadable, AreAlike}
-use Rattle.rc_determinize.specs.Classes.{parts, are_parted, is_other, is_border, AreClasses, TellsAlike, ClassLaw}
+use Rattle.rc_determinize.specs.Classes.{parts, are_parted, is_other_line, is_other_word, is_other, is_border, AreClasses, TellsAlike, ClassLaw}
 use Rattle.rc_determinize.proofs.SidesLemmas.{uncut}
 
 -- WHAT A BORDER IS
@@ -42,15 +42,27 @@ not_parted (p ∷ ps) b (suc q) h = not_parted ps b q (none_right (list_any (par
 
 same_told : (x y : Seen) → is_other x y ≡ false → x ≡ y
 same_told x y h =
-    let h2 = none_right (differ x.edge y.edge) _ h in
-    let h3 = none_right (differ x.terminator y.terminator) _ h2 in
-    let h4 = none_right (differ x.line_feed y.line_feed) _ h3 in
-    let edge = same_if x.edge y.edge (none_left _ _ h) in
-    let terminator = same_if x.terminator y.terminator (none_left _ _ h2) in
-    let line_feed = same_if x.line_feed y.line_feed (none_left _ _ h3) in
-    let carriage_return = same_if x.carriage_return y.carriage_return (none_left _ _ h4) in
-    let word = same_if x.word y.word (none_right (differ x.carriage_return y.carriage_return) _ h4) in
-    λ i. record { edge = edge i; terminator = terminator i; line_feed = line_feed i; carriage_return = carriage_return i; word = word i }
+    let line = none_left (is_other_line x y) (is_other_word x y) h in
+    let line2 = none_right (differ x.edge y.edge) _ line in
+    let line3 = none_right (differ x.terminator y.terminator) _ line2 in
+    let words = none_right (is_other_line x y) (is_other_word x y) h in
+    let words2 = none_right (differ x.word y.word) _ words in
+    let edge = same_if x.edge y.edge (none_left _ _ line) in
+    let terminator = same_if x.terminator y.terminator (none_left _ _ line2) in
+    let line_feed = same_if x.line_feed y.line_feed (none_left _ _ line3) in
+    let carriage_return = same_if x.carriage_return y.carriage_return (none_right (differ x.line_feed y.line_feed) _ line3) in
+    let word = same_if x.word y.word (none_left _ _ words) in
+    let letter = same_if x.letter y.letter (none_left _ _ words2) in
+    let broken = same_if x.broken y.broken (none_right (differ x.letter y.letter) _ words2) in
+    λ i. record {
+      edge = edge i;
+      terminator = terminator i;
+      line_feed = line_feed i;
+      carriage_return = carriage_return i;
+      word = word i;
+      letter = letter i;
+      broken = broken i;
+    }
 
 -- a byte of ASCII with no border behind it stands before one
 both_readable : (needs : Asked) (b : ℕ) → (needs.unicode && nat_eq b 127) ≡ false → IsReadable needs (Some b) ↔ IsReadable needs (Some (b + 1))

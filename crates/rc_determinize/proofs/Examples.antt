@@ -1,11 +1,14 @@
 -- Worked rows of the definitions.
-use Rattle.std.proofs.Common.{◌≡◌, List, [], ◌∷◌, Some, None, true, false, true≢false, refl, sym, ⊎_elim, arith}
-use Rattle.rc_pattern.specs.declared.hir.Look.TheVariants.{EndLF, WordAscii, WordUnicode, StartCRLF}
+use Rattle.std.proofs.Common.{◌≡◌, List, [], ◌∷◌, map, Some, None, true, false, true≢false, refl, sym, ⊎_elim, arith}
+use Rattle.unicode.proofs.CategoryComputing.{ucd_category}
+use Rattle.unicode.proofs.DerivedComputing.{ucd_derived}
+use Rattle.rc_pattern.specs.declared.hir.Look.TheVariants.{EndLF, WordAscii, WordUnicode, WordUnicodeNegate, WordStartHalfUnicode, WordEndHalfUnicode, StartCRLF}
+use Rattle.rc_program.specs.Looks.{stands}
 use Rattle.rc_program.specs.Program.{Place, byte, guard, accept, stays}
 use Rattle.rc_determinize.specs.declared.sides.Seen.{Seen}
 use Rattle.rc_determinize.specs.declared.sides.Asked.{Asked}
 use Rattle.rc_determinize.specs.Steps.{Steps, out_of_ways, hands_on, comes_back}
-use Rattle.rc_determinize.specs.Sides.{seen_of, holds_by, told, asking, out_seen}
+use Rattle.rc_determinize.specs.Sides.{seen_of, holds_by, told, told_side, asking, out_seen}
 use Rattle.rc_determinize.specs.States.{is_match, best_at}
 use Rattle.rc_determinize.specs.Classes.{is_border}
 use Rattle.rc_determinize.specs.Machine.{add_all}
@@ -14,16 +17,18 @@ abbrev nothing : Asked
 nothing = record { facts = record { edge = false; terminator = false; line_feed = false; carriage_return = false; word = false }; unicode = false }
 
 abbrev edge : Seen
-edge = record { edge = true; terminator = false; line_feed = false; carriage_return = false; word = false }
+edge = record { edge = true; terminator = false; line_feed = false; carriage_return = false; word = false; letter = false; broken = false }
 
 abbrev none : Seen
-none = record { edge = false; terminator = false; line_feed = false; carriage_return = false; word = false }
+none = record { edge = false; terminator = false; line_feed = false; carriage_return = false; word = false; letter = false; broken = false }
 
 -- what is told of a letter, of an LF that is the terminator, and of the end
-letter : seen_of 10 (Some 97) ≡ record { edge = false; terminator = false; line_feed = false; carriage_return = false; word = true }
+letter : seen_of 10 (Some 97) ≡ record { edge = false; terminator = false; line_feed = false; carriage_return = false; word = true; letter = true; broken = false }
+unfolding ucd_category ucd_derived
 letter = refl
 
-line_feed : seen_of 10 (Some 10) ≡ record { edge = false; terminator = true; line_feed = true; carriage_return = false; word = false }
+line_feed : seen_of 10 (Some 10) ≡ record { edge = false; terminator = true; line_feed = true; carriage_return = false; word = false; letter = false; broken = false }
+unfolding ucd_category ucd_derived
 line_feed = refl
 
 at_end : seen_of 10 None ≡ edge
@@ -34,10 +39,10 @@ unasked : told nothing 10 (Some 97) ≡ none
 unasked = refl
 
 -- `\b` asks for words, and `$` with `m` for the edge and the terminator
-words_asked : told (asking WordAscii nothing) 10 (Some 97) ≡ record { edge = false; terminator = false; line_feed = false; carriage_return = false; word = true }
+words_asked : told (asking WordAscii nothing) 10 (Some 97) ≡ record { edge = false; terminator = false; line_feed = false; carriage_return = false; word = true; letter = false; broken = false }
 words_asked = refl
 
-lines_asked : told (asking EndLF nothing) 10 (Some 10) ≡ record { edge = false; terminator = true; line_feed = false; carriage_return = false; word = false }
+lines_asked : told (asking EndLF nothing) 10 (Some 10) ≡ record { edge = false; terminator = true; line_feed = false; carriage_return = false; word = false; letter = false; broken = false }
 lines_asked = refl
 
 -- no line begins between a CR and an LF
@@ -77,7 +82,19 @@ after_z = refl
 
 -- where Unicode's words are asked for, bytes up to 127 are read and the others aren't
 after_ascii : is_border word_a (asking WordUnicode nothing) 10 127 ≡ true
+unfolding ucd_category ucd_derived
 after_ascii = refl
+
+-- and `é` is told apart from the sign of multiplication, and from a byte that is no scalar
+word_sides : map (λ side. told_side (asking WordUnicode nothing) 10 side) (stands 0xC3 (Some 0xE9) ∷ stands 0xC3 (Some 0xD7) ∷ stands 0xC3 None ∷ [])
+    ≡ record none { letter = true } ∷ none ∷ record none { broken = true } ∷ []
+unfolding ucd_category ucd_derived
+word_sides = refl
+
+-- at a byte that is no scalar neither the assertion nor its negation holds
+broken_sides : map (holds_by (record none { broken = true }) none) (WordUnicode ∷ WordUnicodeNegate ∷ WordStartHalfUnicode ∷ WordEndHalfUnicode ∷ [])
+    ≡ false ∷ false ∷ false ∷ true ∷ []
+broken_sides = refl
 
 -- A step: `a` stands ahead and an edge behind, so the assertion holds, and the byte leads to the match place.
 enters_word : Steps (out_seen word_a (asking WordAscii nothing) 10 none (Some 97)) (is_match word_a) [] (stays 0 ∷ []) (2 ∷ []) None (1 ∷ 0 ∷ [])

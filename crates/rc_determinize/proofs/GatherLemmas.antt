@@ -4,15 +4,16 @@ use Rattle.std.specs.List.{list_any}
 use Rattle.std.proofs.lemmas.Bool.{cases_lt, cases_Bool}
 use Rattle.std.proofs.lemmas.List.{reverse-append, reverse-reverse, length-append, length-reverse, length-map}
 use Rattle.rc_pattern.specs.declared.hir.Look.{Look}
-use Rattle.rc_program.specs.Program.{place_at, Way, stays, reads}
+use Rattle.rc_program.specs.Program.{Place, place_at, Way, stays, reads}
 use Rattle.rc_program.specs.Laws.{IsClosed}
 use Rattle.rc_utf8.specs.declared.place.BytePlace as code
 use Rattle.rc_utf8.specs.Places.{place_of, places_of}
 use Rattle.rc_determinize.specs.Sparse.{Members}
 use Rattle.rc_determinize.specs.Steps.{HasPlace, AreBelow, IsRising, HasWay, out_by}
-use Rattle.rc_determinize.specs.Sets.{ComesBy, listed, follows, IsLeastMatch, IsNextOfAll}
-use Rattle.rc_determinize.specs.Sides.{told, out_seen}
-use Rattle.rc_determinize.specs.States.{Setting, State, is_match, root_if}
+use Rattle.rc_determinize.specs.Sets.{ComesBy, listed, follows, IsLeastMatch, IsNextOfAllOver}
+use Rattle.rc_determinize.specs.declared.sides.Sides.{Sides}
+use Rattle.rc_determinize.specs.Sides.{out_over}
+use Rattle.rc_determinize.specs.States.{State, is_match, root_if}
 use Rattle.rc_determinize.specs.Machine.{stay_places, read_places, add_one, add_all, least_with, IsGathered}
 use Rattle.rc_determinize.proofs.MachineLemmas.{has_parts, has_left, has_right}
 use Rattle.rc_determinize.proofs.BackwardLemmas.{IsStay, each_way}
@@ -297,11 +298,11 @@ module _ (ps : List code.BytePlace) (test : Look → Bool) (after : Option ℕ) 
       by_least (Some q) m = (m.0, (entered_here q).0 m.1, λ p h t. m.2 p ((entered_here p).1 h) t)
 
 -- what was gathered is the step
-pub collected : (g : Setting) (root : ℕ) (s : State) (after : Option ℕ) (t : State) (got : List ℕ) →
-    IsGathered (out_seen g.places g.needs g.terminator s.beside after) g.places s.list got t.matched → IsRising t.list →
-    ((q : ℕ) → HasPlace q t.list ↔ HasPlace q (add_all got (root_if s.goes_on root))) → t.goes_on ≡ s.goes_on → t.beside ≡ told g.needs g.terminator after →
-    IsNextOfAll g root s after t
-collected g root s after t got r rising same goes_on beside = record {
+pub collected : (places : List Place) (root : ℕ) (s : State) (sides : Sides) (t : State) (got : List ℕ) →
+    IsGathered (out_over places s.beside sides) places s.list got t.matched → IsRising t.list →
+    ((q : ℕ) → HasPlace q t.list ↔ HasPlace q (add_all got (root_if s.goes_on root))) → t.goes_on ≡ s.goes_on → t.beside ≡ sides.far →
+    IsNextOfAllOver places root s sides t
+collected places root s sides t got r rising same goes_on beside = record {
   list = λ q. let a = all_added_are got (root_if s.goes_on root) q in (
     (λ h. ⊎_elim (λ x. inr ((r.listed q).0 x)) (λ y. let z = from_root s.goes_on q y in inl (goes_on ∙ z.0, z.1)) (a.0 ((same q).0 h))),
     (λ h. (same q).1 (a.1 (⊎_elim (λ x. inr (to_root s.goes_on q (sym goes_on ∙ x.0) x.1)) (λ y. inl ((r.listed q).1 y)) h))),

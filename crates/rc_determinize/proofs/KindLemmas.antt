@@ -1,9 +1,11 @@
 -- The laws of the steps of each kind.
-use Rattle.std.proofs.Common.{◌≡◌, ℕ, ◌<◌, ◌≤◌, ◌⊎◌, ◌↔◌, Bool, true, false, List, [], ◌∷◌, length, Option, Some, inl, inr, ⊎_elim, sym, subst, ap, ◌∙◌, arith}
-use Rattle.rc_program.specs.Program.{Way, stays, reads}
+use Rattle.std.proofs.Common.{◌≡◌, ℕ, ◌<◌, ◌≤◌, ◌⊎◌, ◌↔◌, Bool, true, false, List, [], ◌∷◌, length, Option, Some, inl, inr, ⊎_elim, refl, sym, subst, ap, ◌∙◌, arith}
+use Rattle.rc_program.specs.Program.{Place, Way, stays, reads}
 use Rattle.rc_program.specs.Laws.{IsClosed}
 use Rattle.rc_program.proofs.PlaceLemmas.{goal_of}
 use Rattle.rc_determinize.specs.Steps.{HasPlace, AreOnce, AreBelow, IsStep}
+use Rattle.rc_determinize.specs.declared.sides.Seen.{Seen}
+use Rattle.rc_determinize.specs.declared.sides.Sides.{Sides}
 use Rattle.rc_determinize.specs.Sides.{holds_by, told, AreAlike, out_seen}
 use Rattle.rc_determinize.specs.States.{Setting, State, IsNext, root_if, is_match}
 use Rattle.rc_determinize.specs.Steps.{HasWay}
@@ -12,7 +14,7 @@ use Rattle.rc_text.specs.declared.types.MatchKind.{MatchKind}
 use Rattle.rc_text.specs.declared.types.MatchKind.TheVariants.{All as all_matches, LeftmostFirst as leftmost_first, LeftmostLongest as leftmost_longest}
 use Rattle.rc_determinize.specs.Steps.{IsRising}
 use Rattle.rc_determinize.specs.Sets.{ComesBy, IsLeastMatch, IsNextOfAll}
-use Rattle.rc_determinize.specs.Kinds.{IsNextBy, longest, bound_of, IsListOf, KindLaw}
+use Rattle.rc_determinize.specs.Kinds.{IsNextByOver, IsNextBy, longest, bound_of, IsListOf, KindLaw, TurnLaw}
 use Rattle.rc_determinize.proofs.LimitLemmas as limit
 use Rattle.rc_determinize.proofs.UnderLemmas.{out_under}
 use Rattle.rc_determinize.proofs.LongestStepLemmas.{longest_step_law}
@@ -108,3 +110,19 @@ tells leftmost_longest g root s t after n = n.beside
 
 pub kind_law : KindLaw
 kind_law = record { alike = alike; inside = inside; below = below; short = short; forgets = forgets; tells = tells }
+
+turned_next : (kind : MatchKind) (places : List Place) (root : ℕ) (s t : State) (sides : Sides) (far : Seen) →
+    IsNextByOver kind places root s sides t → IsNextByOver kind places root s (record sides { far = far }) (record t { beside = far })
+turned_next leftmost_first places root s t sides far n =
+    record { next = n.next; is_step = n.is_step; goes_on = n.goes_on; joined = n.joined; beside = refl }
+turned_next all_matches places root s t sides far n =
+    record { list = n.list; rising = n.rising; matched = n.matched; goes_on = n.goes_on; beside = refl }
+turned_next leftmost_longest places root s t sides far n =
+    record { onward = n.onward; groups = n.groups; steps = n.steps; goes_on = n.goes_on; once = n.once; list = n.list; beside = refl }
+
+pub turn_law : TurnLaw
+turn_law = record {
+  next = turned_next;
+  prior = λ places roots s t sides far n.
+      record { list = n.list; rising = n.rising; matched = n.matched; goes_on = n.goes_on; beside = refl };
+}

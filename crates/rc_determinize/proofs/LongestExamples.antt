@@ -123,7 +123,7 @@ abbrev nothing : Asked
 nothing = record { facts = record { edge = false; terminator = false; line_feed = false; carriage_return = false; word = false }; unicode = false }
 
 abbrev unseen : Seen
-unseen = record { edge = false; terminator = false; line_feed = false; carriage_return = false; word = false }
+unseen = record { edge = false; terminator = false; line_feed = false; carriage_return = false; word = false; letter = false; broken = false }
 
 -- the lists of the states on the way, and what was met last, with the number of its pattern
 abbrev Ran : Type 0

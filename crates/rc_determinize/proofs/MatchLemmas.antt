@@ -1,5 +1,5 @@
 -- The match places among those that were entered.
-use Rattle.std.proofs.Common.{◌≡◌, ℕ, ◌+◌, ◌<◌, ◌≤◌, ◌⊎◌, ◌↔◌, List, [], ◌∷◌, ◌++◌, length, slice_index, true, false, true≢false, IsTrue, inl, inr, ⊎_elim, sym, subst, ap, ◌∙◌, refl, arith}
+use Rattle.std.proofs.Common.{◌≡◌, ℕ, ◌+◌, ◌<◌, ◌≤◌, ◌↔◌, List, [], ◌∷◌, ◌++◌, length, slice_index, true, false, true≢false, IsTrue, inl, ⊎_elim, sym, subst, ap, ◌∙◌, arith}
 use Rattle.std.proofs.lemmas.Bool.{cases_eq}
 use Rattle.rc_program.specs.Program.{Place}
 use Rattle.rc_determinize.specs.Steps.{HasPlace}

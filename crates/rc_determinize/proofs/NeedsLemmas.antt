@@ -1,6 +1,6 @@
 -- What the assertions of a program ask for.
-use Rattle.std.proofs.Common.{◌≡◌, ℕ, ◌+◌, ◌<◌, ◌≤◌, ◌⊎◌, List, length, Some, None, Bool, true, false, true≢false, IsTrue, ◌||◌, inl, inr, ⊎_elim, sym, subst, ap, ◌∙◌, refl, arith}
-use Rattle.std.proofs.lemmas.Bool.{cases_lt, cases_eq, or_left, or_right}
+use Rattle.std.proofs.Common.{◌≡◌, ℕ, ◌+◌, ◌<◌, ◌≤◌, List, length, Some, None, true, false, true≢false, IsTrue, ⊎_elim, sym, subst, ap, ◌∙◌, refl, arith}
+use Rattle.std.proofs.lemmas.Bool.{cases_lt, cases_eq}
 use Rattle.std.proofs.lemmas.Option.{none-some, same_Some}
 use Rattle.rc_pattern.specs.declared.hir.Look.{Look}
 use Rattle.rc_pattern.specs.declared.hir.Look.TheVariants.{Start, End, StartLF, EndLF, StartCRLF, EndCRLF, WordAscii, WordAsciiNegate, WordUnicode, WordUnicodeNegate, WordStartAscii, WordEndAscii, WordStartUnicode, WordEndUnicode, WordStartHalfAscii, WordEndHalfAscii, WordStartHalfUnicode, WordEndHalfUnicode}
@@ -20,7 +20,13 @@ asking_more StartLF n = record { edge = λ h. refl; terminator = λ h. refl; lin
 asking_more EndLF n = record { edge = λ h. refl; terminator = λ h. refl; line_feed = λ h. h; carriage_return = λ h. h; word = λ h. h; unicode = λ h. h }
 asking_more StartCRLF n = record { edge = λ h. refl; terminator = λ h. h; line_feed = λ h. refl; carriage_return = λ h. refl; word = λ h. h; unicode = λ h. h }
 asking_more EndCRLF n = record { edge = λ h. refl; terminator = λ h. h; line_feed = λ h. refl; carriage_return = λ h. refl; word = λ h. h; unicode = λ h. h }
-asking_more _ n = record { edge = λ h. h; terminator = λ h. h; line_feed = λ h. h; carriage_return = λ h. h; word = λ h. refl; unicode = λ h. or_left _ _ h }
+asking_more WordAscii n = record { edge = λ h. h; terminator = λ h. h; line_feed = λ h. h; carriage_return = λ h. h; word = λ h. refl; unicode = λ h. h }
+asking_more WordAsciiNegate n = record { edge = λ h. h; terminator = λ h. h; line_feed = λ h. h; carriage_return = λ h. h; word = λ h. refl; unicode = λ h. h }
+asking_more WordStartAscii n = record { edge = λ h. h; terminator = λ h. h; line_feed = λ h. h; carriage_return = λ h. h; word = λ h. refl; unicode = λ h. h }
+asking_more WordEndAscii n = record { edge = λ h. h; terminator = λ h. h; line_feed = λ h. h; carriage_return = λ h. h; word = λ h. refl; unicode = λ h. h }
+asking_more WordStartHalfAscii n = record { edge = λ h. h; terminator = λ h. h; line_feed = λ h. h; carriage_return = λ h. h; word = λ h. refl; unicode = λ h. h }
+asking_more WordEndHalfAscii n = record { edge = λ h. h; terminator = λ h. h; line_feed = λ h. h; carriage_return = λ h. h; word = λ h. refl; unicode = λ h. h }
+asking_more _ n = record { edge = λ h. h; terminator = λ h. h; line_feed = λ h. h; carriage_return = λ h. h; word = λ h. h; unicode = λ h. refl }
 
 pub asking_meets : (l : Look) (n : Asked) → Meets l (asking l n)
 asking_meets Start n = (refl, λ h. absurd (true≢false (sym h)))
@@ -29,18 +35,18 @@ asking_meets StartLF n = ((refl, refl), λ h. absurd (true≢false (sym h)))
 asking_meets EndLF n = ((refl, refl), λ h. absurd (true≢false (sym h)))
 asking_meets StartCRLF n = ((refl, refl, refl), λ h. absurd (true≢false (sym h)))
 asking_meets EndCRLF n = ((refl, refl, refl), λ h. absurd (true≢false (sym h)))
-asking_meets WordAscii n = (refl, λ h. or_right _ _ h)
-asking_meets WordAsciiNegate n = (refl, λ h. or_right _ _ h)
-asking_meets WordUnicode n = (refl, λ h. or_right _ _ h)
-asking_meets WordUnicodeNegate n = (refl, λ h. or_right _ _ h)
-asking_meets WordStartAscii n = (refl, λ h. or_right _ _ h)
-asking_meets WordEndAscii n = (refl, λ h. or_right _ _ h)
-asking_meets WordStartUnicode n = (refl, λ h. or_right _ _ h)
-asking_meets WordEndUnicode n = (refl, λ h. or_right _ _ h)
-asking_meets WordStartHalfAscii n = (refl, λ h. or_right _ _ h)
-asking_meets WordEndHalfAscii n = (refl, λ h. or_right _ _ h)
-asking_meets WordStartHalfUnicode n = (refl, λ h. or_right _ _ h)
-asking_meets WordEndHalfUnicode n = (refl, λ h. or_right _ _ h)
+asking_meets WordAscii n = (refl, λ h. absurd (true≢false (sym h)))
+asking_meets WordAsciiNegate n = (refl, λ h. absurd (true≢false (sym h)))
+asking_meets WordStartAscii n = (refl, λ h. absurd (true≢false (sym h)))
+asking_meets WordEndAscii n = (refl, λ h. absurd (true≢false (sym h)))
+asking_meets WordStartHalfAscii n = (refl, λ h. absurd (true≢false (sym h)))
+asking_meets WordEndHalfAscii n = (refl, λ h. absurd (true≢false (sym h)))
+asking_meets WordUnicode n = (tt, λ h. refl)
+asking_meets WordUnicodeNegate n = (tt, λ h. refl)
+asking_meets WordStartUnicode n = (tt, λ h. refl)
+asking_meets WordEndUnicode n = (tt, λ h. refl)
+asking_meets WordStartHalfUnicode n = (tt, λ h. refl)
+asking_meets WordEndHalfUnicode n = (tt, λ h. refl)
 
 pub meets_more : (l : Look) (n m : Asked) → AsksNoMore n m → Meets l n → Meets l m
 meets_more Start n m a h = (a.edge h.0, λ u. a.unicode (h.1 u))
@@ -51,30 +57,35 @@ meets_more StartCRLF n m a h = ((a.edge h.0.0, a.line_feed h.0.1, a.carriage_ret
 meets_more EndCRLF n m a h = ((a.edge h.0.0, a.line_feed h.0.1, a.carriage_return h.0.2), λ u. a.unicode (h.1 u))
 meets_more WordAscii n m a h = (a.word h.0, λ u. a.unicode (h.1 u))
 meets_more WordAsciiNegate n m a h = (a.word h.0, λ u. a.unicode (h.1 u))
-meets_more WordUnicode n m a h = (a.word h.0, λ u. a.unicode (h.1 u))
-meets_more WordUnicodeNegate n m a h = (a.word h.0, λ u. a.unicode (h.1 u))
 meets_more WordStartAscii n m a h = (a.word h.0, λ u. a.unicode (h.1 u))
 meets_more WordEndAscii n m a h = (a.word h.0, λ u. a.unicode (h.1 u))
-meets_more WordStartUnicode n m a h = (a.word h.0, λ u. a.unicode (h.1 u))
-meets_more WordEndUnicode n m a h = (a.word h.0, λ u. a.unicode (h.1 u))
 meets_more WordStartHalfAscii n m a h = (a.word h.0, λ u. a.unicode (h.1 u))
 meets_more WordEndHalfAscii n m a h = (a.word h.0, λ u. a.unicode (h.1 u))
-meets_more WordStartHalfUnicode n m a h = (a.word h.0, λ u. a.unicode (h.1 u))
-meets_more WordEndHalfUnicode n m a h = (a.word h.0, λ u. a.unicode (h.1 u))
+meets_more WordUnicode n m a h = (tt, λ u. a.unicode (h.1 u))
+meets_more WordUnicodeNegate n m a h = (tt, λ u. a.unicode (h.1 u))
+meets_more WordStartUnicode n m a h = (tt, λ u. a.unicode (h.1 u))
+meets_more WordEndUnicode n m a h = (tt, λ u. a.unicode (h.1 u))
+meets_more WordStartHalfUnicode n m a h = (tt, λ u. a.unicode (h.1 u))
+meets_more WordEndHalfUnicode n m a h = (tt, λ u. a.unicode (h.1 u))
 
-either_true : (a b : Bool) → IsTrue (a || b) → IsTrue a ⊎ IsTrue b
-either_true true b h = inl refl
-either_true false b h = inr h
-
-word_least : (u : Bool) (n other : Asked) → AsksNoMore n other → IsTrue other.facts.word → (IsTrue u → IsTrue other.unicode) →
-    AsksNoMore (record { facts = record n.facts { word = true }; unicode = n.unicode || u }) other
-word_least u n other a h v = record {
+word_least : (n other : Asked) → AsksNoMore n other → IsTrue other.facts.word → AsksNoMore (record n { facts = record n.facts { word = true } }) other
+word_least n other a h = record {
   edge = a.edge;
   terminator = a.terminator;
   line_feed = a.line_feed;
   carriage_return = a.carriage_return;
   word = λ t. h;
-  unicode = λ t. ⊎_elim a.unicode v (either_true n.unicode u t);
+  unicode = a.unicode;
+}
+
+unicode_least : (n other : Asked) → AsksNoMore n other → IsTrue other.unicode → AsksNoMore (record n { unicode = true }) other
+unicode_least n other a h = record {
+  edge = a.edge;
+  terminator = a.terminator;
+  line_feed = a.line_feed;
+  carriage_return = a.carriage_return;
+  word = a.word;
+  unicode = λ t. h;
 }
 
 pub asking_least : (k : Look) (n other : Asked) → AsksNoMore n other → Meets k other → AsksNoMore (asking k n) other
@@ -84,18 +95,18 @@ asking_least StartLF n other a h = record { edge = λ t. h.0.0; terminator = λ 
 asking_least EndLF n other a h = record { edge = λ t. h.0.0; terminator = λ t. h.0.1; line_feed = a.line_feed; carriage_return = a.carriage_return; word = a.word; unicode = a.unicode }
 asking_least StartCRLF n other a h = record { edge = λ t. h.0.0; terminator = a.terminator; line_feed = λ t. h.0.1; carriage_return = λ t. h.0.2; word = a.word; unicode = a.unicode }
 asking_least EndCRLF n other a h = record { edge = λ t. h.0.0; terminator = a.terminator; line_feed = λ t. h.0.1; carriage_return = λ t. h.0.2; word = a.word; unicode = a.unicode }
-asking_least WordAscii n other a h = word_least false n other a h.0 h.1
-asking_least WordAsciiNegate n other a h = word_least false n other a h.0 h.1
-asking_least WordUnicode n other a h = word_least true n other a h.0 h.1
-asking_least WordUnicodeNegate n other a h = word_least true n other a h.0 h.1
-asking_least WordStartAscii n other a h = word_least false n other a h.0 h.1
-asking_least WordEndAscii n other a h = word_least false n other a h.0 h.1
-asking_least WordStartUnicode n other a h = word_least true n other a h.0 h.1
-asking_least WordEndUnicode n other a h = word_least true n other a h.0 h.1
-asking_least WordStartHalfAscii n other a h = word_least false n other a h.0 h.1
-asking_least WordEndHalfAscii n other a h = word_least false n other a h.0 h.1
-asking_least WordStartHalfUnicode n other a h = word_least true n other a h.0 h.1
-asking_least WordEndHalfUnicode n other a h = word_least true n other a h.0 h.1
+asking_least WordAscii n other a h = word_least n other a h.0
+asking_least WordAsciiNegate n other a h = word_least n other a h.0
+asking_least WordStartAscii n other a h = word_least n other a h.0
+asking_least WordEndAscii n other a h = word_least n other a h.0
+asking_least WordStartHalfAscii n other a h = word_least n other a h.0
+asking_least WordEndHalfAscii n other a h = word_least n other a h.0
+asking_least WordUnicode n other a h = unicode_least n other a (h.1 refl)
+asking_least WordUnicodeNegate n other a h = unicode_least n other a (h.1 refl)
+asking_least WordStartUnicode n other a h = unicode_least n other a (h.1 refl)
+asking_least WordEndUnicode n other a h = unicode_least n other a (h.1 refl)
+asking_least WordStartHalfUnicode n other a h = unicode_least n other a (h.1 refl)
+asking_least WordEndHalfUnicode n other a h = unicode_least n other a (h.1 refl)
 
 -- of the places before number i
 pub record AreNeedsSoFar (needs : Asked) (places : List Place) (i : ℕ) : Type 0 where

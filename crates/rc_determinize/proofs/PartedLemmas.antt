@@ -1,12 +1,13 @@
 -- The loop that closes over the groups of a list in turn.
 use Rattle.std.proofs.Common.{◌≡◌, ℕ, zero, suc, ◌+◌, ◌≤◌, List, [], ◌∷◌, ◌++◌, map, length, drop, Option, Some, None, is_some, is_none, ◌&&◌, Bool, true, false, true≢false, ⊎_elim, inl, inr, take, slice_range, ◌≢◌, ◌-◌, sym, subst, ap, ap₂, ◌∙◌, refl, arith, append_assoc}
 use Rattle.std.proofs.lemmas.List.{append-nil, length-append, drop_at, drop_all}
-use Rattle.rc_program.specs.Program.{Way, stays}
+use Rattle.rc_program.specs.Program.{Place, Way, stays}
 use Rattle.rc_determinize.specs.Sparse.{Members}
 use Rattle.rc_determinize.specs.Steps.{HasPlace, AreBelow, Adds, all_added, adds_one, leaves_out}
-use Rattle.rc_determinize.specs.Sides.{told, out_seen}
-use Rattle.rc_determinize.specs.States.{Setting, State, is_match, root_if}
-use Rattle.rc_determinize.specs.Longest.{groups_of, parted, flat, Closes, GroupSteps, over, goes, stops, AddsGroups, all_added as none_added, adds, root_group, IsNextOfLongest}
+use Rattle.rc_determinize.specs.declared.sides.Sides.{Sides}
+use Rattle.rc_determinize.specs.Sides.{out_over}
+use Rattle.rc_determinize.specs.States.{State, is_match, root_if}
+use Rattle.rc_determinize.specs.Longest.{groups_of, parted, flat, Closes, GroupSteps, over, goes, stops, AddsGroups, all_added as none_added, adds, root_group, IsNextOfLongestOver}
 use Rattle.rc_determinize.specs.Machine.{add_all, HaveSame, IsShut, with_group, IsParted}
 use Rattle.rc_determinize.proofs.OpenLemmas.{add_adds}
 use Rattle.rc_determinize.proofs.GroupLemmas.{parted_more}
@@ -187,17 +188,17 @@ not_some None e = refl
 not_some (Some k) e = absurd (true≢false e)
 
 -- what was closed over, with the start that may join, is the step
-pub made : (g : Setting) (root : ℕ) (s : State) (after : Option ℕ) (t : State) (mark : ℕ) (listed listed2 list : List ℕ) (before : ℕ) → length g.places ≡ mark →
-    IsParted (out_seen g.places g.needs g.terminator s.beside after) (is_match g.places) mark (groups_of mark s.list) listed list t.matched →
+pub made : (places : List Place) (root : ℕ) (s : State) (sides : Sides) (t : State) (mark : ℕ) (listed listed2 list : List ℕ) (before : ℕ) → length places ≡ mark →
+    IsParted (out_over places s.beside sides) (is_match places) mark (groups_of mark s.list) listed list t.matched →
     t.goes_on ≡ (s.goes_on && is_none t.matched) → listed2 ≡ add_all listed (root_if t.goes_on root) → before ≡ length listed →
-    t.list ≡ with_group mark list (drop before listed2) → t.beside ≡ told g.needs g.terminator after → IsNextOfLongest g root s after t
-made g root s after t mark listed listed2 list before size p goes_on more count grown beside =
-    let back : mark ≡ length g.places = sym size in
+    t.list ≡ with_group mark list (drop before listed2) → t.beside ≡ sides.far → IsNextOfLongestOver places root s sides t
+made places root s sides t mark listed listed2 list before size p goes_on more count grown beside =
+    let back : mark ≡ length places = sym size in
     let joined = root_joins mark root t.goes_on p.onward p.new listed listed2 list t.list before p.once p.all p.is_list more count grown in
     record {
       onward = p.onward;
       groups = joined.0;
-      steps = subst (λ m. GroupSteps (out_seen g.places g.needs g.terminator s.beside after) (is_match g.places) [] (groups_of m s.list) p.onward t.matched) back p.steps;
+      steps = subst (λ m. GroupSteps (out_over places s.beside sides) (is_match places) [] (groups_of m s.list) p.onward t.matched) back p.steps;
       goes_on = goes_on;
       once = joined.1;
       list = joined.2 ∙ ap (λ m. parted m joined.0) back;

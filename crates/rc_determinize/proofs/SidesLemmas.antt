@@ -1,80 +1,101 @@
 -- What is told of the two sides decides each assertion, and the byte ahead each way that reads.
-use Rattle.std.proofs.Common.{◌≡◌, ℕ, ◌<◌, List, [], ◌∷◌, map, length, drop, Option, Some, None, Bool, true, false, IsTrue, nat_le, ◌&&◌, ◌||◌, if◌then◌else◌, slice_index, sym, subst, ap, ap₂, ◌∙◌, refl, arith}
+use Rattle.std.proofs.Common.{◌≡◌, ℕ, ◌<◌, ◌≤◌, List, [], ◌∷◌, map, length, drop, Option, Some, None, Bool, true, false, IsTrue, nat_le, ◌&&◌, ◌||◌, if◌then◌else◌, slice_index, ⊎_elim, sym, subst, ap, ap₂, ◌∙◌, refl, arith}
 use Rattle.std.specs.List.{AllByRecursion}
-use Rattle.std.proofs.lemmas.Bool.{lt-ltb}
-use Rattle.std.proofs.lemmas.Option.{none-some, same_Some}
+use Rattle.std.proofs.lemmas.Bool.{cases_lt, cases_Bool, lt-ltb, le-ltb, le-leb, lt-leb, ne_eqb}
 use Rattle.rc_pattern.specs.declared.hir.Look.{Look}
 use Rattle.rc_pattern.specs.declared.hir.Look.TheVariants.{Start, End, StartLF, EndLF, StartCRLF, EndCRLF, WordAscii, WordAsciiNegate, WordUnicode, WordUnicodeNegate, WordStartAscii, WordEndAscii, WordStartUnicode, WordEndUnicode, WordStartHalfAscii, WordEndHalfAscii, WordStartHalfUnicode, WordEndHalfUnicode}
 use Rattle.rc_program.specs.Scalars.{scalar_at, whole_scalar, scalar_of_last}
-use Rattle.rc_program.specs.Looks.{Side, nothing, stands, side_before, side_after, is_word_byte, is_word_scalar, is_ascii_word, is_unicode_word, is_broken, holds_between}
+use Rattle.rc_program.specs.Looks.{Side, nothing, stands, side_before, side_after, is_word_byte, is_unicode_word, is_broken}
 use Rattle.rc_program.specs.Program.{Place, choice, byte, branch, scalar, guard, slot, accept, Way, stays, reads, in_ranges, branch_ways, ways_out, place_at}
 use Rattle.rc_program.proofs.WordLemmas.{is_word_scalar-ascii}
 use Rattle.rc_utf8.specs.Laws.{IsBytePlace}
 use Rattle.rc_determinize.specs.Steps.{still, ahead_of}
 use Rattle.rc_determinize.specs.declared.sides.Seen.{Seen}
 use Rattle.rc_determinize.specs.declared.sides.Asked.{Asked}
-use Rattle.rc_determinize.specs.Sides.{seen_by, seen_of, holds_by, is_unicode, IsPlain, asked, asks, byte_of, HasLook, told, out_seen, AreAlike, ranges_of, holds_both}
+use Rattle.rc_determinize.specs.Sides.{seen_by, side_of, seen_of, holds_by, HoldsLaw, is_unicode, IsPlain, asked, asks, byte_of, HasLook, told, out_seen, AreAlike, ranges_of, holds_both}
 
-plain_word : (side : Side) → IsPlain side → is_unicode_word side ≡ is_ascii_word side
-plain_word nothing p = refl
-plain_word (stands b None) p = absurd (none-some b p.1)
-plain_word (stands b (Some c)) p =
-    subst (λ x. is_word_scalar x ≡ is_word_byte b) (sym (same_Some c b p.1)) (is_word_scalar-ascii b p.0)
-
-plain_whole : (side : Side) → IsPlain side → is_broken side ≡ false
-plain_whole nothing p = refl
-plain_whole (stands b None) p = absurd (none-some b p.1)
-plain_whole (stands b (Some c)) p = refl
-
--- what is told of both sides decides the assertion
-pub decided : (terminator : ℕ) (before after : Side) (l : Look) → (IsTrue (is_unicode l) → IsPlain before × IsPlain after) →
-    holds_between terminator before after l ≡ holds_by (seen_by terminator before) (seen_by terminator after) l
-decided t b a Start p = refl
-decided t b a End p = refl
-decided t b a StartLF p = refl
-decided t b a EndLF p = refl
-decided t b a StartCRLF p = refl
-decided t b a EndCRLF p = refl
-decided t b a WordAscii p = refl
-decided t b a WordAsciiNegate p = refl
-decided t b a WordUnicode p = let q = p refl in rw (plain_word b q.0, plain_word a q.1) refl
-decided t b a WordUnicodeNegate p =
-    let q = p refl in rw (plain_word b q.0, plain_word a q.1, plain_whole b q.0, plain_whole a q.1) refl
-decided t b a WordStartAscii p = refl
-decided t b a WordEndAscii p = refl
-decided t b a WordStartUnicode p = let q = p refl in rw (plain_word b q.0, plain_word a q.1) refl
-decided t b a WordEndUnicode p = let q = p refl in rw (plain_word b q.0, plain_word a q.1) refl
-decided t b a WordStartHalfAscii p = refl
-decided t b a WordEndHalfAscii p = refl
-decided t b a WordStartHalfUnicode p = let q = p refl in rw (plain_word b q.0, plain_whole b q.0) refl
-decided t b a WordEndHalfUnicode p = let q = p refl in rw (plain_word a q.1, plain_whole a q.1) refl
+-- the facts about both sides decide the assertion
+pub holds_law : HoldsLaw
+holds_law terminator before after Start = refl
+holds_law terminator before after End = refl
+holds_law terminator before after StartLF = refl
+holds_law terminator before after EndLF = refl
+holds_law terminator before after StartCRLF = refl
+holds_law terminator before after EndCRLF = refl
+holds_law terminator before after WordAscii = refl
+holds_law terminator before after WordAsciiNegate = refl
+holds_law terminator before after WordUnicode = refl
+holds_law terminator before after WordUnicodeNegate = refl
+holds_law terminator before after WordStartAscii = refl
+holds_law terminator before after WordEndAscii = refl
+holds_law terminator before after WordStartUnicode = refl
+holds_law terminator before after WordEndUnicode = refl
+holds_law terminator before after WordStartHalfAscii = refl
+holds_law terminator before after WordEndHalfAscii = refl
+holds_law terminator before after WordStartHalfUnicode = refl
+holds_law terminator before after WordEndHalfUnicode = refl
 
 -- what is asked for is enough
-pub asked_enough : (needs before after : Seen) (l : Look) → asks l needs →
+pub asked_enough : (needs : Asked) (before after : Seen) (l : Look) → asks l needs.facts → (IsTrue (is_unicode l) → IsTrue needs.unicode) →
     holds_by (asked needs before) (asked needs after) l ≡ holds_by before after l
-asked_enough n b a Start h = rw h refl
-asked_enough n b a End h = rw h refl
-asked_enough n b a StartLF h = rw (h.0, h.1) refl
-asked_enough n b a EndLF h = rw (h.0, h.1) refl
-asked_enough n b a StartCRLF h = rw (h.0, h.1, h.2) refl
-asked_enough n b a EndCRLF h = rw (h.0, h.1, h.2) refl
-asked_enough n b a WordAscii h = rw h refl
-asked_enough n b a WordAsciiNegate h = rw h refl
-asked_enough n b a WordUnicode h = rw h refl
-asked_enough n b a WordUnicodeNegate h = rw h refl
-asked_enough n b a WordStartAscii h = rw h refl
-asked_enough n b a WordEndAscii h = rw h refl
-asked_enough n b a WordStartUnicode h = rw h refl
-asked_enough n b a WordEndUnicode h = rw h refl
-asked_enough n b a WordStartHalfAscii h = rw h refl
-asked_enough n b a WordEndHalfAscii h = rw h refl
-asked_enough n b a WordStartHalfUnicode h = rw h refl
-asked_enough n b a WordEndHalfUnicode h = rw h refl
+asked_enough n b a Start h u = rw h refl
+asked_enough n b a End h u = rw h refl
+asked_enough n b a StartLF h u = rw (h.0, h.1) refl
+asked_enough n b a EndLF h u = rw (h.0, h.1) refl
+asked_enough n b a StartCRLF h u = rw (h.0, h.1, h.2) refl
+asked_enough n b a EndCRLF h u = rw (h.0, h.1, h.2) refl
+asked_enough n b a WordAscii h u = rw h refl
+asked_enough n b a WordAsciiNegate h u = rw h refl
+asked_enough n b a WordUnicode h u = rw (u refl) refl
+asked_enough n b a WordUnicodeNegate h u = rw (u refl) refl
+asked_enough n b a WordStartAscii h u = rw h refl
+asked_enough n b a WordEndAscii h u = rw h refl
+asked_enough n b a WordStartUnicode h u = rw (u refl) refl
+asked_enough n b a WordEndUnicode h u = rw (u refl) refl
+asked_enough n b a WordStartHalfAscii h u = rw h refl
+asked_enough n b a WordEndHalfAscii h u = rw h refl
+asked_enough n b a WordStartHalfUnicode h u = rw (u refl) refl
+asked_enough n b a WordEndHalfUnicode h u = rw (u refl) refl
 
--- it is told of the byte alone
-pub seen_byte : (terminator : ℕ) (side : Side) → seen_by terminator side ≡ seen_of terminator (byte_of side)
-seen_byte t nothing = refl
-seen_byte t (stands b c) = refl
+-- a byte of ASCII, or nothing, is all that stands there
+plain_side : (side : Side) → IsPlain side → side ≡ side_of (byte_of side)
+plain_side nothing p = refl
+plain_side (stands b c) p = ap (stands b) (p.1 ∙ (rw (lt-ltb b 128 p.0) refl))
+
+-- where Unicode isn't asked for, the byte tells all
+unasked : (needs : Asked) (terminator : ℕ) (side : Side) → needs.unicode ≡ false →
+    asked needs (seen_by terminator side) ≡ asked needs (seen_of terminator (byte_of side))
+unasked needs terminator nothing h = refl
+unasked needs terminator (stands b c) h = rw h refl
+
+-- what is told of a side is told of its byte, if that may be read
+pub told_byte : (needs : Asked) (terminator : ℕ) (side : Side) → (IsTrue needs.unicode → IsPlain side) →
+    asked needs (seen_by terminator side) ≡ told needs terminator (byte_of side)
+told_byte needs terminator side plain =
+    ⊎_elim (λ u. ap (λ x. asked needs (seen_by terminator x)) (plain_side side (plain u)))
+    (λ u. unasked needs terminator side u) (cases_Bool needs.unicode)
+
+-- of a byte of 128 or more, no word byte
+large_word : (b : ℕ) → 128 ≤ b → is_word_byte b ≡ false
+large_word b h =
+    rw (
+      le-leb 48 b (omega (arith, h)),
+      lt-leb b 57 (omega (arith, h)),
+      le-leb 65 b (omega (arith, h)),
+      lt-leb b 90 (omega (arith, h)),
+      ne_eqb b 95 (λ e. omega (arith, h, e)),
+      le-leb 97 b (omega (arith, h)),
+      lt-leb b 122 (omega (arith, h)),
+    ) refl
+
+-- the facts of a byte about Unicode's words
+pub byte_letter : (b : ℕ) → is_word_byte b ≡ is_unicode_word (side_of (Some b))
+byte_letter b =
+    ⊎_elim (λ l. rw (lt-ltb b 128 l) (sym (is_word_scalar-ascii b l))) (λ g. rw (le-ltb b 128 g) (large_word b g)) (cases_lt b 128)
+
+pub byte_broken : (b : ℕ) → nat_le 128 b ≡ is_broken (side_of (Some b))
+byte_broken b =
+    ⊎_elim (λ l. rw (lt-ltb b 128 l, lt-leb 128 b l) refl) (λ g. rw (le-ltb b 128 g, le-leb 128 b g) refl) (cases_lt b 128)
 
 -- a byte of ASCII ahead is a scalar
 pub plain_after : (bs : List ℕ) → ((b : ℕ) → byte_of (side_after bs) ≡ Some b → b < 128) → IsPlain (side_after bs)

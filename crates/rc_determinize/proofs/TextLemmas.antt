@@ -12,8 +12,8 @@ use Rattle.rc_program.proofs.WayLemmas.{in_map, no_way_from}
 use Rattle.rc_utf8.specs.Laws.{IsBytePlace}
 use Rattle.rc_determinize.specs.Steps.{still, IsByBytes, ahead_of}
 use Rattle.rc_determinize.specs.declared.sides.Asked.{Asked}
-use Rattle.rc_determinize.specs.Sides.{seen_of, holds_by, byte_of, HasLook, told, Covers, out_seen, IsReadable}
-use Rattle.rc_determinize.proofs.SidesLemmas.{decided, asked_enough, seen_byte, plain_after, plain_before, same_ways_out, one_byte, still_are}
+use Rattle.rc_determinize.specs.Sides.{seen_by, holds_by, byte_of, HasLook, told, Covers, out_seen, IsReadable}
+use Rattle.rc_determinize.proofs.SidesLemmas.{holds_law, asked_enough, told_byte, plain_after, plain_before, same_ways_out, one_byte, still_are}
 
 pub get_some : (xs : List ℕ) (k : ℕ) → k < length xs → (x : ℕ) × (slice_get xs k ≡ Some x)
 get_some [] k h = absurd (omega (arith, h))
@@ -70,11 +70,11 @@ module _ (places : List Place) (needs : Asked) (by_bytes : IsByBytes places) (co
   pub held : (q : ℕ) (l : Look) → HasLook l (place_at places q) →
       holds t l i ≡ holds_by (told needs t.terminator (byte_of (before_at t i))) (told needs t.terminator (byte_of (after_at t i))) l
   held q l h =
-      decided t.terminator (before_at t i) (after_at t i) l
-      (λ u. let v = covers.unicode q l h u in
-      (plain_before (behind t i) (below needs _ readable_before v), plain_after (beyond t i) (below needs _ readable_after v)))
-      ∙ ap₂ (λ x y. holds_by x y l) (seen_byte t.terminator (before_at t i)) (seen_byte t.terminator (after_at t i))
-      ∙ sym (asked_enough needs.facts (seen_of t.terminator (byte_of (before_at t i))) (seen_of t.terminator (byte_of (after_at t i))) l (covers.facts q l h))
+      sym (holds_law t.terminator (before_at t i) (after_at t i) l)
+      ∙ sym (asked_enough needs (seen_by t.terminator (before_at t i)) (seen_by t.terminator (after_at t i)) l (covers.facts q l h) (covers.unicode q l h))
+      ∙ ap₂ (λ x y. holds_by x y l)
+      (told_byte needs t.terminator (before_at t i) (λ u. plain_before (behind t i) (below needs _ readable_before u)))
+      (told_byte needs t.terminator (after_at t i) (λ u. plain_after (beyond t i) (below needs _ readable_after u)))
 
   same_test : (q : ℕ) (bytes : List ℕ) →
       ways_out (λ l. holds t l i) bytes (place_at places q)

@@ -6,7 +6,8 @@ use Rattle.rc_program.specs.Text.{Text, after_at}
 use Rattle.rc_program.specs.Program.{Place, Way, stays, reads, ways_out, place_at, ways}
 use Rattle.rc_determinize.specs.Steps.{HasPlace, IsRising, HasWay, out_by}
 use Rattle.rc_determinize.specs.declared.sides.Seen.{Seen}
-use Rattle.rc_determinize.specs.Sides.{holds_by, told, byte_of, IsReadable}
+use Rattle.rc_determinize.specs.declared.sides.Sides.{Sides}
+use Rattle.rc_determinize.specs.Sides.{holds_by, told, sides_of, byte_of, IsReadable}
 use Rattle.rc_determinize.specs.Run.{IsBackState, IsGoal, Reaches}
 use Rattle.rc_determinize.specs.States.{Setting, State, Stops, is_match}
 
@@ -19,9 +20,13 @@ pub data LeadsBy (out : ℕ → List Way) (list : List ℕ) : ℕ → Type 0 whe
 abbrev pub still_out : List Place → Seen → Seen → ℕ → List Way
 still_out places behind ahead q = ways_out (holds_by behind ahead) [] (place_at places q)
 
--- Ways that read nothing lead to the state, if this byte comes before, or none.
+-- Ways that read nothing lead to the state, by these facts about the side before.
+abbrev pub LeadsOver : List Place → State → Seen → ℕ → Type 0
+LeadsOver places s behind = LeadsBy (still_out places behind s.beside) s.list
+
+-- The same, if this byte comes before, or none.
 abbrev pub LeadsHere : Setting → State → Option ℕ → ℕ → Type 0
-LeadsHere g s before = LeadsBy (still_out g.places (told g.needs g.terminator before) s.beside) s.list
+LeadsHere g s before = LeadsOver g.places s (told g.needs g.terminator before)
 
 -- A way over the byte leads from the first place to the second.
 abbrev pub ReadsTo : List Place → ℕ → ℕ → ℕ → Type 0
@@ -35,23 +40,31 @@ IsFirstRoot Holds (root ∷ roots) None = (¬ Holds root) × IsFirstRoot Holds r
 IsFirstRoot Holds (root ∷ roots) (Some zero) = Holds root
 IsFirstRoot Holds (root ∷ roots) (Some (suc k)) = (¬ Holds root) × IsFirstRoot Holds roots (Some k)
 
--- The state to which the byte before leads, or the beginning. It lists the places that reach the
--- state over that byte. Its `matched` is the first of the roots that reached the state before that
--- byte, if one did.
-pub record IsPrior (g : Setting) (roots : List ℕ) (s : State) (before : Option ℕ) (t : State) : Type 0 where
-  pub list : (q : ℕ) → HasPlace q t.list ↔ ((b : ℕ) × (before ≡ Some b) × (p : ℕ) × ReadsTo g.places b q p × LeadsHere g s before p)
+-- The state to which the byte before leads, or the beginning, by what is told of its sides. It lists
+-- the places that reach the state over that byte. Its `matched` is the first of the roots that
+-- reached the state before that byte, if one did.
+pub record IsPriorOver (places : List Place) (roots : List ℕ) (s : State) (sides : Sides) (t : State) : Type 0 where
+  pub list : (q : ℕ) → HasPlace q t.list ↔ ((b : ℕ) × (sides.byte ≡ Some b) × (p : ℕ) × ReadsTo places b q p × LeadsOver places s sides.near p)
   pub rising : IsRising t.list
-  pub matched : IsFirstRoot (LeadsHere g s before) roots t.matched
+  pub matched : IsFirstRoot (LeadsOver places s sides.near) roots t.matched
   pub goes_on : t.goes_on ≡ false
-  pub beside : t.beside ≡ told g.needs g.terminator before
+  pub beside : t.beside ≡ sides.far
 
--- The state at the end: the match places.
-pub record IsLast (g : Setting) (after : Option ℕ) (s : State) : Type 0 where
-  pub list : (q : ℕ) → HasPlace q s.list ↔ IsTrue (is_match g.places q)
+-- The same, if the byte is known alone.
+abbrev pub IsPrior : Setting → List ℕ → State → Option ℕ → State → Type 0
+IsPrior g roots s before = IsPriorOver g.places roots s (sides_of g.needs g.terminator before)
+
+-- The state at the end, with these facts about the side after: the match places.
+pub record IsLastBeside (places : List Place) (facts : Seen) (s : State) : Type 0 where
+  pub list : (q : ℕ) → HasPlace q s.list ↔ IsTrue (is_match places q)
   pub rising : IsRising s.list
   pub matched : s.matched ≡ None
   pub goes_on : s.goes_on ≡ false
-  pub beside : s.beside ≡ told g.needs g.terminator after
+  pub beside : s.beside ≡ facts
+
+-- The same, if the byte after is known alone, or none is there.
+abbrev pub IsLast : Setting → Option ℕ → State → Type 0
+IsLast g after = IsLastBeside g.places (told g.needs g.terminator after)
 
 -- At the position i, on the way down from `end`.
 pub record IsComing (g : Setting) (t : Text) (hi end i : ℕ) (s : State) : Type 0 where

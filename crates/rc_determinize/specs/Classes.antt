@@ -21,11 +21,16 @@ abbrev pub are_parted : List Place → ℕ → Bool
 are_parted [] b = false
 are_parted (q ∷ qs) b = list_any (parts b) (ranges_of q) || are_parted qs b
 
--- The facts about the two are different.
+-- The facts about the two are different: those about lines, or those about words.
+abbrev pub is_other_line : Seen → Seen → Bool
+is_other_line x y =
+    differ x.edge y.edge || (differ x.terminator y.terminator || (differ x.line_feed y.line_feed || differ x.carriage_return y.carriage_return))
+
+abbrev pub is_other_word : Seen → Seen → Bool
+is_other_word x y = differ x.word y.word || (differ x.letter y.letter || differ x.broken y.broken)
+
 abbrev pub is_other : Seen → Seen → Bool
-is_other x y =
-    differ x.edge y.edge || (differ x.terminator y.terminator || (differ x.line_feed y.line_feed
-    || (differ x.carriage_return y.carriage_return || differ x.word y.word)))
+is_other x y = is_other_line x y || is_other_word x y
 
 -- Some place or some assertion of the program may tell the byte and the next apart, or only one of
 -- the two may be read.

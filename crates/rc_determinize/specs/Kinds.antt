@@ -3,18 +3,27 @@ use Rattle.std.specs.Prelude.{◌≡◌, ℕ, ◌+◌, ◌*◌, ◌<◌, ◌≤�
 use Rattle.rc_text.specs.declared.types.MatchKind.{MatchKind}
 use Rattle.rc_text.specs.declared.types.MatchKind.TheVariants.{All as all_matches, LeftmostFirst as leftmost_first, LeftmostLongest as leftmost_longest}
 use Rattle.rc_program.specs.Laws.{IsClosed}
+use Rattle.rc_program.specs.Program.{Place}
 use Rattle.rc_determinize.specs.Steps.{AreOnce, AreBelow}
-use Rattle.rc_determinize.specs.Sides.{AreAlike, told}
-use Rattle.rc_determinize.specs.States.{Setting, State, IsNext}
-use Rattle.rc_determinize.specs.Sets.{IsNextOfAll}
-use Rattle.rc_determinize.specs.Longest.{IsNextOfLongest}
+use Rattle.rc_determinize.specs.declared.sides.Seen.{Seen}
+use Rattle.rc_determinize.specs.declared.sides.Sides.{Sides}
+use Rattle.rc_determinize.specs.Sides.{AreAlike, told, sides_of}
+use Rattle.rc_determinize.specs.States.{Setting, State, IsNextOver}
+use Rattle.rc_determinize.specs.Sets.{IsNextOfAllOver}
+use Rattle.rc_determinize.specs.Longest.{IsNextOfLongestOver}
+use Rattle.rc_determinize.specs.Backward.{IsPriorOver}
 use Rattle.rc_determinize.specs.LongestLaws.{IsMarkedList}
 
--- The state to which this byte leads, or the end, for matches of this kind.
+-- The state to which a byte leads, or the end, for matches of this kind, by what is told of its
+-- sides.
+abbrev pub IsNextByOver : MatchKind → List Place → ℕ → State → Sides → State → Type 0
+IsNextByOver leftmost_first = IsNextOver
+IsNextByOver all_matches = IsNextOfAllOver
+IsNextByOver leftmost_longest = IsNextOfLongestOver
+
+-- The same, if the byte is known alone.
 abbrev pub IsNextBy : MatchKind → Setting → ℕ → State → Option ℕ → State → Type 0
-IsNextBy leftmost_first = IsNext
-IsNextBy all_matches = IsNextOfAll
-IsNextBy leftmost_longest = IsNextOfLongest
+IsNextBy kind g root s after = IsNextByOver kind g.places root s (sides_of g.needs g.terminator after)
 
 -- How long a list of this kind is at most, for a program of so many places.
 abbrev pub longest : MatchKind → ℕ → ℕ
@@ -52,3 +61,11 @@ pub record KindLaw : Type 0 where
       IsNextBy kind g root s after t → IsNextBy kind g root (record s { matched = matched }) after t
   pub tells : (kind : MatchKind) (g : Setting) (root : ℕ) (s t : State) (after : Option ℕ) →
       IsNextBy kind g root s after t → t.beside ≡ told g.needs g.terminator after
+
+-- The law of turns: what is told of the far side plays no part but in what the new state keeps of it.
+-- So a state turns into the one for another scalar that ends there.
+pub record TurnLaw : Type 0 where
+  pub next : (kind : MatchKind) (places : List Place) (root : ℕ) (s t : State) (sides : Sides) (far : Seen) →
+      IsNextByOver kind places root s sides t → IsNextByOver kind places root s (record sides { far = far }) (record t { beside = far })
+  pub prior : (places : List Place) (roots : List ℕ) (s t : State) (sides : Sides) (far : Seen) →
+      IsPriorOver places roots s sides t → IsPriorOver places roots s (record sides { far = far }) (record t { beside = far })

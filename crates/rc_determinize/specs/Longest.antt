@@ -1,9 +1,10 @@
 -- Determinization for leftmost-longest: the places under way, in groups by where their walks began.
 use Rattle.std.specs.Prelude.{◌≡◌, ℕ, ◌&&◌, Bool, true, false, List, [], ◌∷◌, ◌++◌, length, map, Option, Some, None, is_none, IsTrue, nat_eq, if◌then◌else◌}
 use Rattle.std.specs.Option.{option_or}
-use Rattle.rc_program.specs.Program.{Way, stays, reads}
+use Rattle.rc_program.specs.Program.{Place, Way, stays, reads}
 use Rattle.rc_determinize.specs.Steps.{HasPlace, Adds}
-use Rattle.rc_determinize.specs.Sides.{told, out_seen}
+use Rattle.rc_determinize.specs.declared.sides.Sides.{Sides}
+use Rattle.rc_determinize.specs.Sides.{sides_of, out_over}
 use Rattle.rc_determinize.specs.States.{Setting, State, is_match}
 
 -- A state's list has the places of the walks under way, those of lesser starts first, and a mark
@@ -74,13 +75,18 @@ abbrev pub root_group : Bool → ℕ → List (List ℕ)
 root_group true root = (root ∷ []) ∷ []
 root_group false root = []
 
--- The state to which this byte leads, or the end. A match ends the walks of later starts, and none
--- may begin any more. Those of its own start go on, since a longer match may follow.
-pub record IsNextOfLongest (g : Setting) (root : ℕ) (s : State) (after : Option ℕ) (t : State) : Type 0 where
+-- The state to which a byte leads, or the end, by what is told of its sides. A match ends the walks
+-- of later starts, and none may begin any more. Those of its own start go on, since a longer match
+-- may follow.
+pub record IsNextOfLongestOver (places : List Place) (root : ℕ) (s : State) (sides : Sides) (t : State) : Type 0 where
   pub onward : List (List ℕ)
   pub groups : List (List ℕ)
-  pub steps : GroupSteps (out_seen g.places g.needs g.terminator s.beside after) (is_match g.places) [] (groups_of (length g.places) s.list) onward t.matched
+  pub steps : GroupSteps (out_over places s.beside sides) (is_match places) [] (groups_of (length places) s.list) onward t.matched
   pub goes_on : t.goes_on ≡ (s.goes_on && is_none t.matched)
   pub once : AddsGroups [] (onward ++ root_group t.goes_on root) groups
-  pub list : t.list ≡ parted (length g.places) groups
-  pub beside : t.beside ≡ told g.needs g.terminator after
+  pub list : t.list ≡ parted (length places) groups
+  pub beside : t.beside ≡ sides.far
+
+-- The same, if the byte is known alone.
+abbrev pub IsNextOfLongest : Setting → ℕ → State → Option ℕ → State → Type 0
+IsNextOfLongest g root s after = IsNextOfLongestOver g.places root s (sides_of g.needs g.terminator after)

@@ -4,7 +4,8 @@ use Rattle.rc_walks.specs.Walks.{Pair, IsIn}
 use Rattle.rc_program.specs.Text.{Text, before_at}
 use Rattle.rc_program.specs.Program.{Place, Way, stays, reads, ways}
 use Rattle.rc_determinize.specs.Steps.{HasPlace, IsRising, HasWay}
-use Rattle.rc_determinize.specs.Sides.{told, out_seen, byte_of, IsReadable}
+use Rattle.rc_determinize.specs.declared.sides.Sides.{Sides}
+use Rattle.rc_determinize.specs.Sides.{told, sides_of, out_over, byte_of, IsReadable}
 use Rattle.rc_determinize.specs.States.{Setting, State, is_match}
 
 -- Edges lead from one of the pairs to this one.
@@ -17,12 +18,19 @@ pub data ComesBy (out : ℕ → List Way) (list : List ℕ) : ℕ → Type 0 whe
   listed : (q : ℕ) → HasPlace q list → ComesBy out list q
   follows : (q p : ℕ) → ComesBy out list p → HasWay (stays q) (out p) → ComesBy out list q
 
+-- Some walk comes to the place at the state's position, by what is told of the byte ahead.
+abbrev pub ComesOver : List Place → State → Sides → ℕ → Type 0
+ComesOver places s sides = ComesBy (out_over places s.beside sides) s.list
+
 abbrev pub ComesHere : Setting → State → Option ℕ → ℕ → Type 0
-ComesHere g s after = ComesBy (out_seen g.places g.needs g.terminator s.beside after) s.list
+ComesHere g s after = ComesOver g.places s (sides_of g.needs g.terminator after)
 
 -- It is a match place to which some walk comes at the state's position.
+abbrev pub EndsOver : List Place → State → Sides → ℕ → Type 0
+EndsOver places s sides q = ComesOver places s sides q × IsTrue (is_match places q)
+
 abbrev pub EndsHere : Setting → State → Option ℕ → ℕ → Type 0
-EndsHere g s after q = ComesHere g s after q × IsTrue (is_match g.places q)
+EndsHere g s after = EndsOver g.places s (sides_of g.needs g.terminator after)
 
 -- The least match place of which it holds, if there is one.
 abbrev pub IsLeastMatch : List Place → (ℕ → Type 0) → Option ℕ → Type 0
@@ -30,16 +38,20 @@ IsLeastMatch places Holds (Some q) = IsTrue (is_match places q) × Holds q × ((
 IsLeastMatch places Holds None = (q : ℕ) → Holds q → ¬ IsTrue (is_match places q)
 
 -- An edge over the byte leads to the place from one to which ways lead that read nothing.
-abbrev pub IsReadHere : Setting → State → Option ℕ → ℕ → Type 0
-IsReadHere g s after q = (p : ℕ) × ComesHere g s after p × HasWay (reads 1 q) (out_seen g.places g.needs g.terminator s.beside after p)
+abbrev pub IsReadOver : List Place → State → Sides → ℕ → Type 0
+IsReadOver places s sides q = (p : ℕ) × ComesOver places s sides p × HasWay (reads 1 q) (out_over places s.beside sides p)
 
--- The state to which this byte leads, or the end. A match ends nothing.
-pub record IsNextOfAll (g : Setting) (root : ℕ) (s : State) (after : Option ℕ) (t : State) : Type 0 where
-  pub list : (q : ℕ) → HasPlace q t.list ↔ (((t.goes_on ≡ true) × (q ≡ root)) ⊎ IsReadHere g s after q)
+-- The state to which a byte leads, or the end, by what is told of its sides. A match ends nothing.
+pub record IsNextOfAllOver (places : List Place) (root : ℕ) (s : State) (sides : Sides) (t : State) : Type 0 where
+  pub list : (q : ℕ) → HasPlace q t.list ↔ (((t.goes_on ≡ true) × (q ≡ root)) ⊎ IsReadOver places s sides q)
   pub rising : IsRising t.list
-  pub matched : IsLeastMatch g.places (ComesHere g s after) t.matched
+  pub matched : IsLeastMatch places (ComesOver places s sides) t.matched
   pub goes_on : t.goes_on ≡ s.goes_on
-  pub beside : t.beside ≡ told g.needs g.terminator after
+  pub beside : t.beside ≡ sides.far
+
+-- The same, if the byte is known alone.
+abbrev pub IsNextOfAll : Setting → ℕ → State → Option ℕ → State → Type 0
+IsNextOfAll g root s after = IsNextOfAllOver g.places root s (sides_of g.needs g.terminator after)
 
 -- A pair of the position i is one of the first, or an edge over the byte before leads to it.
 abbrev pub ArrivesAt : (Pair → List Pair) → List Pair → ℕ → ℕ → Type 0

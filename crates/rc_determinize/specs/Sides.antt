@@ -1,17 +1,18 @@
--- Look-around: what a step needs to know of the two sides of a position, as facts about one byte
--- each.
-use Rattle.std.specs.Prelude.{◌≡◌, ◌↔◌, ℕ, Bool, true, false, not, ◌&&◌, ◌||◌, ◌<◌, List, [], ◌∷◌, map, Option, Some, None, nat_le, IsTrue}
+-- Look-around: what a step needs to know of the two sides of a position, as facts about each.
+use Rattle.std.specs.Prelude.{◌≡◌, ◌↔◌, ℕ, Bool, true, false, not, ◌&&◌, ◌||◌, ◌<◌, List, [], ◌∷◌, map, Option, Some, None, nat_le, nat_lt, if◌then◌else◌, IsTrue}
 use Rattle.rc_pattern.specs.Re.{Range}
 use Rattle.rc_program.specs.Program.{Place, byte, branch, guard, Way, ways_out, place_at}
 use Rattle.rc_determinize.specs.declared.sides.Seen.{Seen}
+use Rattle.rc_determinize.specs.declared.sides.Facts.{Facts}
 use Rattle.rc_determinize.specs.declared.sides.Asked.{Asked}
+use Rattle.rc_determinize.specs.declared.sides.Sides.{Sides}
 use Rattle.rc_determinize.specs.Steps.{out_by}
 use Rattle.rc_pattern.specs.declared.hir.Look.{Look}
 use Rattle.rc_pattern.specs.declared.hir.Look.TheVariants.{Start, End, StartLF, EndLF, StartCRLF, EndCRLF, WordAscii, WordAsciiNegate, WordUnicode, WordUnicodeNegate, WordStartAscii, WordEndAscii, WordStartUnicode, WordEndUnicode, WordStartHalfAscii, WordEndHalfAscii, WordStartHalfUnicode, WordEndHalfUnicode}
-use Rattle.rc_program.specs.Looks.{Side, nothing, stands, differ, is_edge, has_byte, is_ascii_word}
+use Rattle.rc_program.specs.Looks.{Side, nothing, stands, differ, is_edge, has_byte, is_ascii_word, is_unicode_word, is_broken, holds_between}
 
 -- The facts about a side: that there is no byte, or that it is a line terminator, an LF, a CR, or a
--- word byte of ASCII.
+-- word byte of ASCII; that a word character of Unicode stands there, or bytes that are no scalar.
 abbrev pub seen_by : ℕ → Side → Seen
 seen_by terminator side = record {
   edge = is_edge side;
@@ -19,15 +20,20 @@ seen_by terminator side = record {
   line_feed = has_byte 10 side;
   carriage_return = has_byte 13 side;
   word = is_ascii_word side;
+  letter = is_unicode_word side;
+  broken = is_broken side;
 }
+
+-- A byte as a side, or the end. A byte of ASCII is a scalar of its own.
+abbrev pub side_of : Option ℕ → Side
+side_of None = nothing
+side_of (Some b) = stands b (if nat_lt b 128 then Some b else None)
 
 -- The facts about a byte, or about the end.
 abbrev pub seen_of : ℕ → Option ℕ → Seen
-seen_of terminator None = seen_by terminator nothing
-seen_of terminator (Some b) = seen_by terminator (stands b None)
+seen_of terminator b = seen_by terminator (side_of b)
 
--- The assertion holds, by the facts about the two sides. For assertions on Unicode's words, both
--- sides must be ASCII.
+-- The assertion holds, by the facts about the two sides.
 abbrev pub holds_by : Seen → Seen → Look → Bool
 holds_by before after Start = before.edge
 holds_by before after End = after.edge
@@ -37,16 +43,21 @@ holds_by before after StartCRLF = before.edge || before.line_feed || (before.car
 holds_by before after EndCRLF = after.edge || after.carriage_return || (after.line_feed && not before.carriage_return)
 holds_by before after WordAscii = differ before.word after.word
 holds_by before after WordAsciiNegate = not (differ before.word after.word)
-holds_by before after WordUnicode = differ before.word after.word
-holds_by before after WordUnicodeNegate = not (differ before.word after.word)
+holds_by before after WordUnicode = differ before.letter after.letter
+holds_by before after WordUnicodeNegate = not before.broken && not after.broken && not (differ before.letter after.letter)
 holds_by before after WordStartAscii = not before.word && after.word
 holds_by before after WordEndAscii = before.word && not after.word
-holds_by before after WordStartUnicode = not before.word && after.word
-holds_by before after WordEndUnicode = before.word && not after.word
+holds_by before after WordStartUnicode = not before.letter && after.letter
+holds_by before after WordEndUnicode = before.letter && not after.letter
 holds_by before after WordStartHalfAscii = not before.word
 holds_by before after WordEndHalfAscii = not after.word
-holds_by before after WordStartHalfUnicode = not before.word
-holds_by before after WordEndHalfUnicode = not after.word
+holds_by before after WordStartHalfUnicode = not before.broken && not before.letter
+holds_by before after WordEndHalfUnicode = not after.broken && not after.letter
+
+-- The facts about the two sides decide each assertion, whatever bytes stand there.
+abbrev pub HoldsLaw : Type 0
+HoldsLaw = (terminator : ℕ) (before after : Side) (look : Look) →
+    holds_by (seen_by terminator before) (seen_by terminator after) look ≡ holds_between terminator before after look
 
 -- The assertion depends on Unicode's words.
 abbrev pub is_unicode : Look → Bool
@@ -64,24 +75,32 @@ IsPlain nothing = Unit {0}
 IsPlain (stands b c) = (b < 128) × (c ≡ Some b)
 
 -- The facts that some assertions ask for; all others are false.
-abbrev pub asked : Seen → Seen → Seen
+abbrev pub asked : Asked → Seen → Seen
 asked needs seen = record {
-  edge = needs.edge && seen.edge;
-  terminator = needs.terminator && seen.terminator;
-  line_feed = needs.line_feed && seen.line_feed;
-  carriage_return = needs.carriage_return && seen.carriage_return;
-  word = needs.word && seen.word;
+  edge = needs.facts.edge && seen.edge;
+  terminator = needs.facts.terminator && seen.terminator;
+  line_feed = needs.facts.line_feed && seen.line_feed;
+  carriage_return = needs.facts.carriage_return && seen.carriage_return;
+  word = needs.facts.word && seen.word;
+  letter = needs.unicode && seen.letter;
+  broken = needs.unicode && seen.broken;
 }
 
--- The facts that the assertion asks for are needed.
-abbrev pub asks : Look → Seen → Type 0
+-- The facts about a byte that the assertion asks for are needed.
+abbrev pub asks : Look → Facts → Type 0
 asks Start needs = IsTrue needs.edge
 asks End needs = IsTrue needs.edge
 asks StartLF needs = IsTrue needs.edge × IsTrue needs.terminator
 asks EndLF needs = IsTrue needs.edge × IsTrue needs.terminator
 asks StartCRLF needs = IsTrue needs.edge × IsTrue needs.line_feed × IsTrue needs.carriage_return
 asks EndCRLF needs = IsTrue needs.edge × IsTrue needs.line_feed × IsTrue needs.carriage_return
-asks _ needs = IsTrue needs.word
+asks WordAscii needs = IsTrue needs.word
+asks WordAsciiNegate needs = IsTrue needs.word
+asks WordStartAscii needs = IsTrue needs.word
+asks WordEndAscii needs = IsTrue needs.word
+asks WordStartHalfAscii needs = IsTrue needs.word
+asks WordEndHalfAscii needs = IsTrue needs.word
+asks _ needs = Unit {0}
 
 -- The byte of the side, if there is one.
 abbrev pub byte_of : Side → Option ℕ
@@ -125,16 +144,33 @@ asking StartLF needs = record needs { facts = record needs.facts { edge = true; 
 asking EndLF needs = record needs { facts = record needs.facts { edge = true; terminator = true } }
 asking StartCRLF needs = record needs { facts = record needs.facts { edge = true; line_feed = true; carriage_return = true } }
 asking EndCRLF needs = record needs { facts = record needs.facts { edge = true; line_feed = true; carriage_return = true } }
-asking look needs = record { facts = record needs.facts { word = true }; unicode = needs.unicode || is_unicode look }
+asking WordAscii needs = record needs { facts = record needs.facts { word = true } }
+asking WordAsciiNegate needs = record needs { facts = record needs.facts { word = true } }
+asking WordStartAscii needs = record needs { facts = record needs.facts { word = true } }
+asking WordEndAscii needs = record needs { facts = record needs.facts { word = true } }
+asking WordStartHalfAscii needs = record needs { facts = record needs.facts { word = true } }
+asking WordEndHalfAscii needs = record needs { facts = record needs.facts { word = true } }
+asking _ needs = record needs { unicode = true }
+
+-- The facts about a side, as far as the program asks.
+abbrev pub told_side : Asked → ℕ → Side → Seen
+told_side needs terminator side = asked needs (seen_by terminator side)
 
 -- The facts about a byte, or about the end, as far as the program asks.
 abbrev pub told : Asked → ℕ → Option ℕ → Seen
-told needs terminator b = asked needs.facts (seen_of terminator b)
+told needs terminator b = told_side needs terminator (side_of b)
 
--- The ways out of a place, by these facts about the side before, and this byte ahead, or none.
+-- What a step is told that knows this byte alone, or the end: the same of both its sides.
+abbrev pub sides_of : Asked → ℕ → Option ℕ → Sides
+sides_of needs terminator b = record { byte = b; near = told needs terminator b; far = told needs terminator b }
+
+-- The ways out of a place, by these facts about the side before, and what is told ahead.
+abbrev pub out_over : List Place → Seen → Sides → ℕ → List Way
+out_over places behind sides = out_by places (holds_by behind sides.near) sides.byte
+
+-- The same, if the byte ahead is known alone, or none is there.
 abbrev pub out_seen : List Place → Asked → ℕ → Seen → Option ℕ → ℕ → List Way
-out_seen places needs terminator behind after =
-    out_by places (holds_by behind (told needs terminator after)) after
+out_seen places needs terminator behind after = out_over places behind (sides_of needs terminator after)
 
 -- The byte is ASCII; or no assertion depends on Unicode's words.
 abbrev pub IsReadable : Asked → Option ℕ → Type 0

@@ -8,7 +8,8 @@ use Rattle.rc_determinize.specs.Gives.{Carries, starts}
 use Rattle.rc_determinize.specs.Steps.{IsByBytes, Adds, IsStep, at}
 use Rattle.rc_determinize.specs.declared.sides.Seen.{Seen}
 use Rattle.rc_determinize.specs.declared.sides.Asked.{Asked}
-use Rattle.rc_determinize.specs.Sides.{Covers, told, out_seen, byte_of, IsReadable}
+use Rattle.rc_determinize.specs.declared.sides.Sides.{Sides}
+use Rattle.rc_determinize.specs.Sides.{Covers, told, sides_of, out_over, byte_of, IsReadable}
 
 -- The setting of a DFA: the places of its program, the facts for which its assertions ask, and the
 -- line terminator.
@@ -24,7 +25,7 @@ pub record IsSetting (g : Setting) : Type 0 where
 
 -- A state. `list` has the places to which the byte before led, in order, each once. The search
 -- hasn't gone on from any of them yet, since the byte ahead isn't known. `beside` has the facts
--- about the byte before, and `goes_on` says whether a walk may begin at each position to come.
+-- about the side before, and `goes_on` says whether a walk may begin at each position to come.
 -- `matched` is the match place that was found at the position before.
 pub record State : Type 0 where
   pub list : List ℕ
@@ -40,21 +41,29 @@ abbrev pub root_if : Bool → ℕ → List ℕ
 root_if true root = root ∷ []
 root_if false root = []
 
--- The state to which this byte leads, or the end. A match ends all that comes after it in order,
--- later starts too.
-pub record IsNext (g : Setting) (root : ℕ) (s : State) (after : Option ℕ) (t : State) : Type 0 where
+-- The state to which a byte leads, or the end, by what is told of its sides. A match ends all that
+-- comes after it in order, later starts too.
+pub record IsNextOver (places : List Place) (root : ℕ) (s : State) (sides : Sides) (t : State) : Type 0 where
   pub next : List ℕ
-  pub is_step : IsStep (out_seen g.places g.needs g.terminator s.beside after) (is_match g.places) s.list next t.matched
+  pub is_step : IsStep (out_over places s.beside sides) (is_match places) s.list next t.matched
   pub goes_on : t.goes_on ≡ (s.goes_on && is_none t.matched)
   pub joined : Adds next (root_if t.goes_on root) t.list
-  pub beside : t.beside ≡ told g.needs g.terminator after
+  pub beside : t.beside ≡ sides.far
 
--- The state before the first byte.
-pub record IsFirst (g : Setting) (root : ℕ) (before : Option ℕ) (anchored : Bool) (s : State) : Type 0 where
+-- The same, if the byte is known alone.
+abbrev pub IsNext : Setting → ℕ → State → Option ℕ → State → Type 0
+IsNext g root s after = IsNextOver g.places root s (sides_of g.needs g.terminator after)
+
+-- The state before the first byte, with these facts about the side before.
+pub record IsFirstBeside (root : ℕ) (facts : Seen) (anchored : Bool) (s : State) : Type 0 where
   pub list : s.list ≡ root ∷ []
-  pub beside : s.beside ≡ told g.needs g.terminator before
+  pub beside : s.beside ≡ facts
   pub goes_on : s.goes_on ≡ not anchored
   pub matched : s.matched ≡ None
+
+-- The same, if the byte before is known alone, or none is there.
+abbrev pub IsFirst : Setting → ℕ → Option ℕ → Bool → State → Type 0
+IsFirst g root before = IsFirstBeside root (told g.needs g.terminator before)
 
 -- THE SEARCH UNDER WAY
 

@@ -4,18 +4,17 @@ ghost use Rattle.std.specs.Prelude.{ℕ, ◌≡◌, ◌↔◌, ◌<◌, ◌≤�
 ghost use Rattle.rc_program.specs.Laws.{IsClosed, targets};
 ghost use Rattle.rc_program.specs.Program.{Place};
 ghost use Rattle.rc_utf8.specs.Places.{way_of, place_of, places_of};
-ghost use Rattle.rc_determinize.specs.Places.{setting_of, state_of};
+ghost use Rattle.rc_determinize.specs.Places.{state_of};
 ghost use Rattle.rc_determinize.specs.Steps.{HasPlace, AreBelow};
-ghost use Rattle.rc_determinize.specs.States.{Setting};
 ghost use Rattle.rc_determinize.specs.Machine.{add_all};
-ghost use Rattle.rc_determinize.specs.Backward.{IsPrior, IsLast, LeadsBy, still_out, ReadsTo, IsFirstRoot};
+ghost use Rattle.rc_determinize.specs.Backward.{IsPriorOver, IsLastBeside, LeadsBy, still_out, ReadsTo, IsFirstRoot};
 ghost use Rattle.rc_determinize.specs.Reversed.{passes, reads_over, sources, into_at, range_edges, branch_edges, edges_from, IsReversed, AreEdges, AreInside};
 ghost use Rattle.rc_utf8.specs.declared.place.ByteWay.{ByteWay};
 ghost use Rattle.rc_pattern.specs.Meaning.{byte_range};
 
 use crate::open::{add, is_match};
 use crate::scratch::Scratch;
-use crate::sides::{Asked, Seen, holds_by, told};
+use crate::sides::{Seen, Sides, holds_by};
 use crate::sparse_set::SparseSet;
 use crate::state::State;
 use rc_pattern::hir::{ClassBytesRange, Look};
@@ -260,22 +259,19 @@ fn go_back(
     }
 }
 
-/// Makes `to` the state to which the byte `before` leads back from a state. If `before` is None, it
-/// is the state at the beginning of what the search sees. The `matched` of `to` is the index of the
-/// first root from which a walk leads to the end, from the position after that byte. Lines end at
-/// the byte `terminator`, `needs` is what the program's assertions ask for, and `reversed` has its
-/// edges.
+/// Makes `to` the state to which a byte leads back from a state, by what is told of its sides. If
+/// there is none, it is the state at the beginning of what the search sees. The `matched` of `to` is
+/// the index of the first root from which a walk leads to the end, from the position after that
+/// byte. `reversed` has the program's edges.
 ///
 /// Nothing is allocated but what the list of `to` grows by. `Err` means out of memory; then `to` is
 /// some state.
 pub fn prior(
     reversed: &Reversed,
-    needs: Asked,
-    terminator: u8,
     roots: &[usize],
     scratch: &mut Scratch,
     from: &State,
-    before: Option<u8>,
+    sides: Sides,
     to: &mut State,
 ) -> Result<(), AllocError>
     requires edges { AreInside reversed.now }
@@ -284,40 +280,30 @@ pub fn prior(
     requires scratch { scratch.old ≡ length reversed.now.into.items }
     ensures scratch { scratch.new ≡ scratch.old }
     ensures prior { IfOk result (λ _. (places : List Place) → IsReversed places reversed.now
-        → IsPrior (record { places = places; needs = needs; terminator = terminator }) roots.now
-        (state_of from.now) before (state_of to.new)) }
+        → IsPriorOver places roots.now (state_of from.now) sides (state_of to.new)) }
 {
-    let behind = told(needs, terminator, before);
     scratch.entered.clear();
     scratch.listed.clear();
     add_list(&mut scratch.entered, &from.list);
     go_back(
         reversed,
-        behind,
+        sides.near,
         from.beside,
-        before,
+        sides.byte,
         &mut scratch.entered,
         &mut scratch.listed,
     );
     scratch.listed.rise_to(&mut to.list)?;
-    to.beside = behind;
+    to.beside = sides.far;
     to.goes_on = false;
     to.matched = first_root(&scratch.entered, roots);
     Ok(())
 }
 
-/// Makes `to` the state at the end of a match: all match places. `after` is the byte at that
-/// position, or None at the end of what the search sees. `Err` means out of memory; then `to` is
-/// some state.
-pub fn last(
-    places: &[BytePlace],
-    needs: Asked,
-    terminator: u8,
-    after: Option<u8>,
-    to: &mut State,
-) -> Result<(), AllocError>
-    ensures { IfOk result (λ _. IsLast (setting_of places.now needs terminator) after
-        (state_of to.new)) }
+/// Makes `to` the state at the end of a match: all match places. `beside` has the facts about the
+/// side after that position. `Err` means out of memory; then `to` is some state.
+pub fn last(places: &[BytePlace], beside: Seen, to: &mut State) -> Result<(), AllocError>
+    ensures { IfOk result (λ _. IsLastBeside (places_of places.now) beside (state_of to.new)) }
 {
     to.list.clear();
     for i in 0..places.len() {
@@ -325,7 +311,7 @@ pub fn last(
             to.list.push(i)?;
         }
     }
-    to.beside = told(needs, terminator, after);
+    to.beside = beside;
     to.goes_on = false;
     to.matched = None;
     Ok(())

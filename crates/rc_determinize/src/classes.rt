@@ -5,22 +5,35 @@ ghost use Rattle.rc_pattern.specs.Meaning.{byte_range};
 ghost use Rattle.rc_utf8.specs.Places.{place_of, places_of};
 ghost use Rattle.rc_utf8.specs.declared.place.ByteWay.{ByteWay};
 ghost use Rattle.rc_determinize.specs.Sides.{told, ranges_of};
-ghost use Rattle.rc_determinize.specs.Classes.{parts, are_parted, is_other, is_border, AreClasses, AreSingle};
+ghost use Rattle.rc_determinize.specs.Classes.{parts, are_parted, is_other_line, is_other_word, is_other, is_border, AreClasses, AreSingle};
 
 use crate::sides::{Asked, Seen, told};
 use rc_pattern::hir::ClassBytesRange;
 use rc_utf8::place::{BytePlace, ByteWay};
 use std::alloc::{AllocError, Global};
 
-/// Whether a step knows different facts of the two bytes.
-fn is_other(one: Seen, other: Seen) -> bool
-    ensures { result ≡ is_other one other }
+/// Whether a step knows different facts about lines of the two bytes.
+fn is_other_line(one: Seen, other: Seen) -> bool
+    ensures { result ≡ is_other_line one other }
 {
     one.edge != other.edge
         || one.terminator != other.terminator
         || one.line_feed != other.line_feed
         || one.carriage_return != other.carriage_return
-        || one.word != other.word
+}
+
+/// Whether a step knows different facts about words of the two bytes.
+fn is_other_word(one: Seen, other: Seen) -> bool
+    ensures { result ≡ is_other_word one other }
+{
+    one.word != other.word || one.letter != other.letter || one.broken != other.broken
+}
+
+/// Whether a step knows different facts of the two bytes.
+fn is_other(one: Seen, other: Seen) -> bool
+    ensures { result ≡ is_other one other }
+{
+    is_other_line(one, other) || is_other_word(one, other)
 }
 
 /// Whether the range from `first` to `last` contains the byte but not the next one, or the other

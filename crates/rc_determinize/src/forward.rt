@@ -11,20 +11,20 @@
 //!     [4, 0]  .     4, 5: a match, one byte late   [], with `matched` 5
 ghost use Rattle.std.specs.Prelude.{ℕ, List, ◌≡◌, ◌<◌, ◌≤◌, ◌++◌, [], ◌∷◌, IfOk, length, reverse, Some, None, ◌&&◌, is_none, ◌↔◌, IsTrue};
 ghost use Rattle.rc_program.specs.Laws.{IsClosed};
-ghost use Rattle.rc_program.specs.Program.{Place, place_at};
+ghost use Rattle.rc_program.specs.Program.{place_at};
 ghost use Rattle.rc_utf8.specs.Places.{places_of};
-ghost use Rattle.rc_determinize.specs.Places.{state_of, setting_of};
+ghost use Rattle.rc_determinize.specs.Places.{state_of};
 ghost use Rattle.rc_determinize.specs.Steps.{HasPlace, AreBelow, IsStep, IsRising, HasWay, out_by};
 ghost use Rattle.rc_determinize.specs.Sides.{holds_by};
-ghost use Rattle.rc_determinize.specs.States.{IsNext, IsFirst, is_match};
-ghost use Rattle.rc_determinize.specs.Sets.{ComesBy, EndsHere, IsNextOfAll};
-ghost use Rattle.rc_determinize.specs.Kinds.{IsNextBy, bound_of};
+ghost use Rattle.rc_determinize.specs.States.{IsNextOver, IsFirstBeside, is_match};
+ghost use Rattle.rc_determinize.specs.Sets.{ComesBy, EndsOver, IsNextOfAllOver};
+ghost use Rattle.rc_determinize.specs.Kinds.{IsNextByOver, bound_of};
 ghost use Rattle.rc_determinize.specs.Machine.{IsGathered};
 
 use crate::longest::next_longest;
 use crate::open::{add_root, is_match, least_with, open, place_at};
 use crate::scratch::Scratch;
-use crate::sides::{Asked, Seen, told};
+use crate::sides::{Seen, Sides};
 use crate::sparse_set::SparseSet;
 use crate::state::State;
 use rc_text::types::MatchKind;
@@ -118,16 +118,14 @@ pub fn goes_on(from: &State, matched: Option<usize>) -> bool
     from.goes_on && matched.is_none()
 }
 
-/// Makes `to` the state to which the byte `after` leads, for leftmost-first. `Err` means out of
-/// memory; then `to` is some state.
+/// Makes `to` the state to which a byte leads, for leftmost-first, by what is told of its sides.
+/// `Err` means out of memory; then `to` is some state.
 fn next_preferred(
     places: &[BytePlace],
-    needs: Asked,
-    terminator: u8,
     root: usize,
     scratch: &mut Scratch,
     from: &State,
-    after: Option<u8>,
+    sides: Sides,
     to: &mut State,
 ) -> Result<(), AllocError>
     requires closed { IsClosed (places_of places.now) }
@@ -135,18 +133,17 @@ fn next_preferred(
     requires below { AreBelow (length places.now) from.now.list.items }
     requires scratch { scratch.old ≡ length places.now }
     ensures scratch { scratch.new ≡ scratch.old }
-    ensures next { IfOk result (λ _. IsNext (setting_of places.now needs terminator) root
-        (state_of from.now) after (state_of to.new)) }
+    ensures next { IfOk result (λ _. IsNextOver (places_of places.now) root
+        (state_of from.now) sides (state_of to.new)) }
 {
-    let ahead = told(needs, terminator, after);
     scratch.entered.clear();
     scratch.listed.clear();
     stack_up(&from.list, &mut scratch.stack)?;
     let matched = follow(
         places,
         from.beside,
-        ahead,
-        after,
+        sides.near,
+        sides.byte,
         &mut scratch.stack,
         &mut scratch.entered,
         &mut scratch.listed,
@@ -154,22 +151,20 @@ fn next_preferred(
     let goes_on = goes_on(from, matched);
     add_root(&mut scratch.listed, root, goes_on);
     scratch.listed.copy_to(&mut to.list)?;
-    to.beside = ahead;
+    to.beside = sides.far;
     to.goes_on = goes_on;
     to.matched = matched;
     Ok(())
 }
 
-/// Makes `to` the state to which the byte `after` leads, for `MatchKind::All`. `Err` means out of
-/// memory; then `to` is some state.
+/// Makes `to` the state to which a byte leads, for `MatchKind::All`, by what is told of its sides.
+/// `Err` means out of memory; then `to` is some state.
 fn next_of_all(
     places: &[BytePlace],
-    needs: Asked,
-    terminator: u8,
     root: usize,
     scratch: &mut Scratch,
     from: &State,
-    after: Option<u8>,
+    sides: Sides,
     to: &mut State,
 ) -> Result<(), AllocError>
     requires closed { IsClosed (places_of places.now) }
@@ -177,25 +172,24 @@ fn next_of_all(
     requires below { AreBelow (length places.now) from.now.list.items }
     requires scratch { scratch.old ≡ length places.now }
     ensures scratch { scratch.new ≡ scratch.old }
-    ensures next { IfOk result (λ _. IsNextOfAll (setting_of places.now needs terminator) root
-        (state_of from.now) after (state_of to.new)) }
+    ensures next { IfOk result (λ _. IsNextOfAllOver (places_of places.now) root
+        (state_of from.now) sides (state_of to.new)) }
 {
-    let ahead = told(needs, terminator, after);
     scratch.entered.clear();
     scratch.listed.clear();
     stack_up(&from.list, &mut scratch.stack)?;
     let matched = gather(
         places,
         from.beside,
-        ahead,
-        after,
+        sides.near,
+        sides.byte,
         &mut scratch.stack,
         &mut scratch.entered,
         &mut scratch.listed,
     )?;
     add_root(&mut scratch.listed, root, from.goes_on);
     scratch.listed.rise_to(&mut to.list)?;
-    to.beside = ahead;
+    to.beside = sides.far;
     to.goes_on = from.goes_on;
     to.matched = matched;
     Ok(())
@@ -222,15 +216,13 @@ fn matches_of(
 }
 
 /// Replaces `ends` by the match places at which walks end at a state's position, for
-/// `MatchKind::All`: those to which ways that read nothing lead if the byte `after` is ahead. The
-/// other arguments are those of `next_by`. `Err` means out of memory; then `ends` is some list.
+/// `MatchKind::All`: those to which ways that read nothing lead, by what is told of the byte ahead.
+/// The other arguments are those of `next_by`. `Err` means out of memory; then `ends` is some list.
 pub fn ends_here(
     places: &[BytePlace],
-    needs: Asked,
-    terminator: u8,
     scratch: &mut Scratch,
     from: &State,
-    after: Option<u8>,
+    sides: Sides,
     ends: &mut Vec<usize>,
 ) -> Result<(), AllocError>
     requires closed { IsClosed (places_of places.now) }
@@ -238,17 +230,16 @@ pub fn ends_here(
     requires scratch { scratch.old ≡ length places.now }
     ensures scratch { scratch.new ≡ scratch.old }
     ensures ends { IfOk result (λ _. (q : ℕ) → HasPlace q ends.new.items
-        ↔ EndsHere (setting_of places.now needs terminator) (state_of from.now) after q) }
+        ↔ EndsOver (places_of places.now) (state_of from.now) sides q) }
 {
-    let ahead = told(needs, terminator, after);
     scratch.entered.clear();
     scratch.listed.clear();
     stack_up(&from.list, &mut scratch.stack)?;
     gather(
         places,
         from.beside,
-        ahead,
-        after,
+        sides.near,
+        sides.byte,
         &mut scratch.stack,
         &mut scratch.entered,
         &mut scratch.listed,
@@ -256,22 +247,19 @@ pub fn ends_here(
     matches_of(places, &scratch.entered, ends)
 }
 
-/// Makes `to` the state to which the byte `after` leads from a state. If `after` is None, it is the
-/// state after the end of what the search sees. States are those for matches of this kind, walks
-/// begin at the place `root`, and lines end at the byte `terminator`. `needs` is what the program's
-/// assertions ask for.
+/// Makes `to` the state to which a byte leads from a state, by what is told of its sides. If there is
+/// none, it is the state after the end of what the search sees. States are those for matches of this
+/// kind, and walks begin at the place `root`.
 ///
 /// Nothing is allocated but what the lists of `scratch` and `to` grow by. `Err` means out of
 /// memory; then `to` is some state.
 pub fn next_by(
     kind: MatchKind,
     places: &[BytePlace],
-    needs: Asked,
-    terminator: u8,
     root: usize,
     scratch: &mut Scratch,
     from: &State,
-    after: Option<u8>,
+    sides: Sides,
     to: &mut State,
 ) -> Result<(), AllocError>
     requires closed { IsClosed (places_of places.now) }
@@ -279,38 +267,25 @@ pub fn next_by(
     requires below { AreBelow (bound_of kind (length places.now)) from.now.list.items }
     requires scratch { scratch.old ≡ length places.now }
     ensures scratch { scratch.new ≡ scratch.old }
-    ensures next { IfOk result (λ _. IsNextBy kind (setting_of places.now needs terminator) root
-        (state_of from.now) after (state_of to.new)) }
+    ensures next { IfOk result (λ _. IsNextByOver kind (places_of places.now) root
+        (state_of from.now) sides (state_of to.new)) }
 {
     match kind {
-        MatchKind::LeftmostFirst => {
-            next_preferred(places, needs, terminator, root, scratch, from, after, to)
-        }
-        MatchKind::LeftmostLongest => {
-            next_longest(places, needs, terminator, root, scratch, from, after, to)
-        }
-        MatchKind::All => next_of_all(places, needs, terminator, root, scratch, from, after, to),
+        MatchKind::LeftmostFirst => next_preferred(places, root, scratch, from, sides, to),
+        MatchKind::LeftmostLongest => next_longest(places, root, scratch, from, sides, to),
+        MatchKind::All => next_of_all(places, root, scratch, from, sides, to),
     }
 }
 
 /// Makes `to` the start state: walks begin at the place `root`, and at later positions too unless
-/// the search is anchored. `before` is the byte before the start, or None at the beginning of what
-/// the search sees. `Err` means out of memory; then `to` is some state.
-pub fn first(
-    needs: Asked,
-    terminator: u8,
-    root: usize,
-    before: Option<u8>,
-    anchored: bool,
-    to: &mut State,
-) -> Result<(), AllocError>
-    ensures { IfOk result (λ _. (places : List Place)
-        → IsFirst (record { places = places; needs = needs; terminator = terminator }) root before
-        anchored (state_of to.new)) }
+/// the search is anchored. `beside` has the facts about the side before the start. `Err` means out
+/// of memory; then `to` is some state.
+pub fn first(root: usize, beside: Seen, anchored: bool, to: &mut State) -> Result<(), AllocError>
+    ensures { IfOk result (λ _. IsFirstBeside root beside anchored (state_of to.new)) }
 {
     to.list.clear();
     to.list.push(root)?;
-    to.beside = told(needs, terminator, before);
+    to.beside = beside;
     to.goes_on = !anchored;
     to.matched = None;
     Ok(())

@@ -1,9 +1,16 @@
 //! Laws of determinization. The functions do nothing: their contracts are the laws.
 ghost use Rattle.rc_determinize.specs.Laws.{ForwardLaw, BackwardLaw, SpanLaw, GatherLaw};
+ghost use Rattle.rc_determinize.specs.Sides.{HoldsLaw};
 ghost use Rattle.rc_determinize.specs.Classes.{ClassLaw};
 ghost use Rattle.rc_determinize.specs.Spans.{GreatestSpanLaw};
-ghost use Rattle.rc_determinize.specs.Kinds.{KindLaw};
+ghost use Rattle.rc_determinize.specs.Kinds.{KindLaw, TurnLaw};
 ghost use Rattle.rc_determinize.specs.LongestLaws.{LongestForwardLaw, LongestSpanLaw, LongestStepLaw};
+
+/// What a step knows of the two sides of a position decides each assertion there, in broken UTF-8
+/// too.
+pub fn facts_decide_assertions()
+    ensures { HoldsLaw }
+{}
 
 /// A search from state to state, a byte at a time, gives where the first walk of the least start
 /// ends.
@@ -33,6 +40,11 @@ pub fn states_gather_walks()
 /// program, each once.
 pub fn steps_are_of_a_kind()
     ensures { KindLaw }
+{}
+
+/// What a step is told of the side that it leaves changes only what the new state keeps of it.
+pub fn steps_turn()
+    ensures { TurnLaw }
 {}
 
 /// No step distinguishes bytes of one class.

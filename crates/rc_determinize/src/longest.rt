@@ -3,17 +3,17 @@
 ghost use Rattle.std.specs.Prelude.{ℕ, List, ◌≡◌, ◌≢◌, ◌<◌, ◌≤◌, ◌+◌, ◌∷◌, [], IfOk, length, reverse, drop, Some, None, slice_range};
 ghost use Rattle.rc_program.specs.Laws.{IsClosed};
 ghost use Rattle.rc_utf8.specs.Places.{places_of};
-ghost use Rattle.rc_determinize.specs.Places.{state_of, setting_of};
+ghost use Rattle.rc_determinize.specs.Places.{state_of};
 ghost use Rattle.rc_determinize.specs.Steps.{HasPlace, AreBelow, out_by};
 ghost use Rattle.rc_determinize.specs.Sides.{holds_by};
 ghost use Rattle.rc_determinize.specs.States.{is_match};
-ghost use Rattle.rc_determinize.specs.Longest.{groups_of, IsNextOfLongest};
+ghost use Rattle.rc_determinize.specs.Longest.{groups_of, IsNextOfLongestOver};
 ghost use Rattle.rc_determinize.specs.Machine.{IsShut, IsParted};
 
 use crate::forward::{goes_on, stack_up};
 use crate::open::{add_root, first_with, open, place_at};
 use crate::scratch::Scratch;
-use crate::sides::{Asked, Seen, told};
+use crate::sides::{Seen, Sides};
 use crate::sparse_set::SparseSet;
 use crate::state::State;
 use rc_utf8::place::BytePlace;
@@ -114,17 +114,15 @@ fn close_groups(
     Ok(None)
 }
 
-/// Makes `to` the state to which the byte `after` leads from a state, for leftmost-longest. A match
-/// drops the groups after its own, and nothing of its own. `Err` means out of memory; then `to` is
-/// some state.
+/// Makes `to` the state to which a byte leads from a state, for leftmost-longest, by what is told of
+/// its sides. A match drops the groups after its own, and nothing of its own. `Err` means out of
+/// memory; then `to` is some state.
 pub fn next_longest(
     places: &[BytePlace],
-    needs: Asked,
-    terminator: u8,
     root: usize,
     scratch: &mut Scratch,
     from: &State,
-    after: Option<u8>,
+    sides: Sides,
     to: &mut State,
 ) -> Result<(), AllocError>
     requires closed { IsClosed (places_of places.now) }
@@ -132,17 +130,16 @@ pub fn next_longest(
     requires below { AreBelow (length places.now + 1) from.now.list.items }
     requires scratch { scratch.old ≡ length places.now }
     ensures scratch { scratch.new ≡ scratch.old }
-    ensures next { IfOk result (λ _. IsNextOfLongest (setting_of places.now needs terminator) root
-        (state_of from.now) after (state_of to.new)) }
+    ensures next { IfOk result (λ _. IsNextOfLongestOver (places_of places.now) root
+        (state_of from.now) sides (state_of to.new)) }
 {
-    let ahead = told(needs, terminator, after);
     scratch.entered.clear();
     scratch.listed.clear();
     let matched = close_groups(
         places,
         from.beside,
-        ahead,
-        after,
+        sides.near,
+        sides.byte,
         &from.list,
         &mut scratch.stack,
         &mut scratch.entered,
@@ -153,7 +150,7 @@ pub fn next_longest(
     let before = scratch.listed.len();
     add_root(&mut scratch.listed, root, goes_on);
     scratch.listed.part_to(before, places.len(), &mut to.list)?;
-    to.beside = ahead;
+    to.beside = sides.far;
     to.goes_on = goes_on;
     to.matched = matched;
     Ok(())

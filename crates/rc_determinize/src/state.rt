@@ -10,8 +10,8 @@ pub struct State {
     /// in rising order. For leftmost-longest, a mark separates places of walks from different
     /// starts: it is the program's number of places.
     pub list: Vec<usize>,
-    /// The facts about the byte that was read last: forwards the one before, backwards the one
-    /// ahead.
+    /// The facts about the side on which the byte is that was read last: forwards the one before,
+    /// backwards the one ahead.
     pub beside: Seen,
     /// Whether a walk may begin at each position to come. Backwards it is false.
     pub goes_on: bool,

@@ -23,6 +23,8 @@ record AreAlikeIn (s t : State) : Type 0 where
   word : s.beside.word ≡ t.beside.word
   line_feed : s.beside.line_feed ≡ t.beside.line_feed
   carriage_return : s.beside.carriage_return ≡ t.beside.carriage_return
+  letter : s.beside.letter ≡ t.beside.letter
+  broken : s.beside.broken ≡ t.beside.broken
   goes_on : s.goes_on ≡ t.goes_on
   matched : is_some s.matched ≡ is_some t.matched
 
@@ -34,7 +36,9 @@ same_facts s t e =
     let word = bits_apart s.beside.word t.beside.word _ _ terminator.1 in
     let line_feed = bits_apart s.beside.line_feed t.beside.line_feed _ _ word.1 in
     let carriage_return = bits_apart s.beside.carriage_return t.beside.carriage_return _ _ line_feed.1 in
-    let goes_on = bits_apart s.goes_on t.goes_on _ _ carriage_return.1 in
+    let letter = bits_apart s.beside.letter t.beside.letter _ _ carriage_return.1 in
+    let broken = bits_apart s.beside.broken t.beside.broken _ _ letter.1 in
+    let goes_on = bits_apart s.goes_on t.goes_on _ _ broken.1 in
     let matched = bits_apart (is_some s.matched) (is_some t.matched) 0 0 goes_on.1 in
     record {
       edge = edge.0;
@@ -42,6 +46,8 @@ same_facts s t e =
       word = word.0;
       line_feed = line_feed.0;
       carriage_return = carriage_return.0;
+      letter = letter.0;
+      broken = broken.0;
       goes_on = goes_on.0;
       matched = matched.0;
     }
@@ -49,11 +55,13 @@ same_facts s t e =
 make : List ℕ → Seen → Bool → Option ℕ → State
 make list beside goes_on matched = record { list = list; beside = beside; goes_on = goes_on; matched = matched }
 
-look : Bool → Bool → Bool → Bool → Bool → Seen
-look edge terminator line_feed carriage_return word =
-    record { edge = edge; terminator = terminator; line_feed = line_feed; carriage_return = carriage_return; word = word }
+look : Bool → Bool → Bool → Bool → Bool → Bool → Bool → Seen
+look edge terminator line_feed carriage_return word letter broken =
+    record { edge = edge; terminator = terminator; line_feed = line_feed; carriage_return = carriage_return; word = word; letter = letter; broken = broken }
 
-made : (s : State) → s ≡ make s.list (look s.beside.edge s.beside.terminator s.beside.line_feed s.beside.carriage_return s.beside.word) s.goes_on s.matched
+made : (s : State) → s
+    ≡ make s.list
+    (look s.beside.edge s.beside.terminator s.beside.line_feed s.beside.carriage_return s.beside.word s.beside.letter s.beside.broken) s.goes_on s.matched
 unfolding make look
 made s = refl
 
@@ -64,4 +72,4 @@ keys_apart s t e =
     let number : unwrap_or s.matched 0 ≡ unwrap_or t.matched 0 = cc in
     let a = same_facts s t facts in
     let matched = same_option s.matched t.matched a.matched number in
-    cc (made s, made t, a.edge, a.terminator, a.line_feed, a.carriage_return, a.word, a.goes_on)
+    cc (made s, made t, a.edge, a.terminator, a.line_feed, a.carriage_return, a.word, a.letter, a.broken, a.goes_on)

@@ -16,7 +16,8 @@ with_bit bit rest = if bit then 2 * rest + 1 else 2 * rest
 unfoldable pub facts_of : State → ℕ
 facts_of s =
     with_bit s.beside.edge (with_bit s.beside.terminator (with_bit s.beside.word
-    (with_bit s.beside.line_feed (with_bit s.beside.carriage_return (with_bit s.goes_on (with_bit (is_some s.matched) 0))))))
+    (with_bit s.beside.line_feed (with_bit s.beside.carriage_return (with_bit s.beside.letter (with_bit s.beside.broken
+    (with_bit s.goes_on (with_bit (is_some s.matched) 0))))))))
 
 -- A list of numbers that no other state has.
 abbrev pub key_of : State → List ℕ

@@ -5,8 +5,9 @@ use Rattle.rc_text.specs.declared.types.MatchKind.{MatchKind}
 use Rattle.rc_text.specs.declared.types.Anchored.{Anchored}
 use Rattle.rc_text.specs.declared.types.Anchored.TheVariants.{No, Yes, Pattern}
 use Rattle.rc_program.specs.Laws.{IsClosed}
-use Rattle.rc_program.specs.Program.{accept, place_at}
+use Rattle.rc_program.specs.Program.{Place, accept, place_at}
 use Rattle.rc_determinize.specs.Steps.{HasPlace, AreOnce, AreBelow, IsRising}
+use Rattle.rc_determinize.specs.declared.sides.Seen.{Seen}
 use Rattle.rc_determinize.specs.Sides.{told, IsReadable}
 use Rattle.rc_determinize.specs.States.{Setting, IsSetting, State, IsFirst}
 use Rattle.rc_determinize.specs.Kinds.{IsNextBy, bound_of, longest, IsListOf}
@@ -49,13 +50,18 @@ abbrev pub IsListIn : Direction → ℕ → List ℕ → Type 0
 IsListIn (forwards kind) places list = IsListOf kind places list
 IsListIn backwards places list = AreOnce list × AreBelow places list
 
--- The state at the end of a match of this pattern: it lists the pattern's match places.
-pub record IsLastOf (p : ℕ) (g : Setting) (after : Option ℕ) (s : State) : Type 0 where
-  pub list : (q : ℕ) → HasPlace q s.list ↔ (place_at g.places q ≡ accept p)
+-- The state at the end of a match of this pattern, with these facts about the side after: it lists
+-- the pattern's match places.
+pub record IsLastOfBeside (p : ℕ) (places : List Place) (facts : Seen) (s : State) : Type 0 where
+  pub list : (q : ℕ) → HasPlace q s.list ↔ (place_at places q ≡ accept p)
   pub rising : IsRising s.list
   pub matched : s.matched ≡ None
   pub goes_on : s.goes_on ≡ false
-  pub beside : s.beside ≡ told g.needs g.terminator after
+  pub beside : s.beside ≡ facts
+
+-- The same, if the byte after is known alone, or none is there.
+abbrev pub IsLastOf : ℕ → Setting → Option ℕ → State → Type 0
+IsLastOf p g after = IsLastOfBeside p g.places (told g.needs g.terminator after)
 
 -- The state in which a search begins, with this byte beside it, or none. Forwards it enters the
 -- program: only at the first position if it is anchored, and at the entry of the one pattern that

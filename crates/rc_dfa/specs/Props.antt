@@ -5,12 +5,12 @@ use Rattle.std.proofs.Props.{props}
 use Rattle.rc_pattern.specs.declared.hir.Look.{Look}
 use Rattle.rc_pattern.specs.declared.hir.Look.TheVariants.{Start, End, StartLF, EndLF, StartCRLF, EndCRLF, WordAscii, WordAsciiNegate, WordUnicode, WordUnicodeNegate, WordStartAscii, WordEndAscii, WordStartUnicode, WordEndUnicode, WordStartHalfAscii, WordEndHalfAscii, WordStartHalfUnicode, WordEndHalfUnicode}
 use Rattle.rc_program.specs.Program.{Place}
-use Rattle.rc_determinize.specs.declared.sides.Seen.{Seen}
+use Rattle.rc_determinize.specs.declared.sides.Facts.{Facts}
 use Rattle.rc_determinize.specs.declared.sides.Asked.{Asked}
 use Rattle.rc_determinize.specs.Sides.{asks, Covers}
 use Rattle.rc_determinize.specs.Classes.{TellsAlike}
 
-asks-prop : (l : Look) (s : Seen) → IsProp (asks l s)
+asks-prop : (l : Look) (s : Facts) → IsProp (asks l s)
 asks-prop Start s = hlevel props
 asks-prop End s = hlevel props
 asks-prop StartLF s = hlevel props

@@ -15,7 +15,7 @@ use rc_determinize::backward::{Reversed, last, prior};
 use rc_determinize::classes::{classes, single_classes};
 use rc_determinize::forward::{ends_here, first, next_by};
 use rc_determinize::scratch::Scratch;
-use rc_determinize::sides::{Asked, needs_of};
+use rc_determinize::sides::{Asked, needs_of, sides_of, told};
 use rc_determinize::state::State;
 use rc_text::types::{Anchored, MatchKind};
 use rc_utf8::place::BytePlace;
@@ -229,12 +229,13 @@ impl Automaton {
         ensures { IfOk result (λ _. Begins (machine_of self.now Forwards) anchored beside
             (state_of to.new)) }
     {
+        let seen = told(self.needs, self.terminator, beside);
         match anchored {
-            Anchored::No => first(self.needs, self.terminator, 0, beside, false, to),
-            Anchored::Yes => first(self.needs, self.terminator, 0, beside, true, to),
+            Anchored::No => first(0, seen, false, to),
+            Anchored::Yes => first(0, seen, true, to),
             Anchored::Pattern(pattern) => {
                 let entry = self.entries[pattern.as_usize()];
-                first(self.needs, self.terminator, entry, beside, true, to)
+                first(entry, seen, true, to)
             }
         }
     }
@@ -249,17 +250,11 @@ impl Automaton {
         ensures { IfOk result (λ _. Begins (machine_of self.now Backwards) anchored beside
             (state_of to.new)) }
     {
+        let seen = told(self.needs, self.terminator, beside);
         match anchored {
-            Anchored::No => last(&self.places, self.needs, self.terminator, beside, to),
-            Anchored::Yes => last(&self.places, self.needs, self.terminator, beside, to),
-            Anchored::Pattern(pattern) => last_of(
-                &self.places,
-                self.needs,
-                self.terminator,
-                pattern.as_usize(),
-                beside,
-                to,
-            ),
+            Anchored::No => last(&self.places, seen, to),
+            Anchored::Yes => last(&self.places, seen, to),
+            Anchored::Pattern(pattern) => last_of(&self.places, pattern.as_usize(), seen, to),
         }
     }
 
@@ -282,41 +277,18 @@ impl Automaton {
         ensures leads { IfOk result (λ _. Leads (machine_of self.now direction)
             (state_of from.now) beside (state_of to.new)) }
     {
+        let sides = sides_of(self.needs, self.terminator, beside);
         match direction {
-            Direction::Forwards => next_by(
-                self.kind,
-                &self.places,
-                self.needs,
-                self.terminator,
-                0,
-                scratch,
-                from,
-                beside,
-                to,
-            ),
-            Direction::Overlapping => next_by(
-                MatchKind::All,
-                &self.places,
-                self.needs,
-                self.terminator,
-                0,
-                scratch,
-                from,
-                beside,
-                to,
-            ),
-            Direction::Backwards => prior(
-                &self.reversed,
-                self.needs,
-                self.terminator,
-                &self.entries,
-                scratch,
-                from,
-                beside,
-                to,
-            ),
+            Direction::Forwards => next_by(self.kind, &self.places, 0, scratch, from, sides, to),
+            Direction::Overlapping => {
+                next_by(MatchKind::All, &self.places, 0, scratch, from, sides, to)
+            }
+            Direction::Backwards => {
+                prior(&self.reversed, &self.entries, scratch, from, sides, to)
+            }
         }
     }
+
     /// Replaces `ends` by the match places of the walks that end at a state's position, if this
     /// byte is ahead, or none. `Err` means out of memory; then `ends` is some list.
     pub fn ends_here(
@@ -333,14 +305,7 @@ impl Automaton {
         ensures ends { IfOk result (λ _. (q : ℕ) → HasPlace q ends.new.items
             ↔ EndsHere (machine_of self.now Overlapping).setting (state_of from.now) beside q) }
     {
-        ends_here(
-            &self.places,
-            self.needs,
-            self.terminator,
-            scratch,
-            from,
-            beside,
-            ends,
-        )
+        let sides = sides_of(self.needs, self.terminator, beside);
+        ends_here(&self.places, scratch, from, sides, ends)
     }
 }

@@ -3,10 +3,10 @@ ghost use Rattle.std.specs.Prelude.{◌≡◌, IfOk, Some};
 ghost use Rattle.rc_program.specs.Program.{is_match_place};
 ghost use Rattle.rc_program.specs.Answer.{pattern_at};
 ghost use Rattle.rc_utf8.specs.Places.{place_of, places_of};
-ghost use Rattle.rc_determinize.specs.Places.{setting_of, state_of};
-ghost use Rattle.rc_dfa.specs.Machine.{IsLastOf};
+ghost use Rattle.rc_determinize.specs.Places.{state_of};
+ghost use Rattle.rc_dfa.specs.Machine.{IsLastOfBeside};
 
-use rc_determinize::sides::{Asked, told};
+use rc_determinize::sides::Seen;
 use rc_determinize::state::State;
 use rc_utf8::place::BytePlace;
 use std::alloc::AllocError;
@@ -45,18 +45,16 @@ pub fn pattern_of(place: &BytePlace) -> usize
     }
 }
 
-/// Makes `to` the state at the end of a match of the pattern: the pattern's match places. `after`
-/// is the byte at that position, or None at the end of what the search sees. `Err` means out of
-/// memory; then `to` is some state.
+/// Makes `to` the state at the end of a match of the pattern: the pattern's match places. `beside`
+/// has the facts about the side after that position. `Err` means out of memory; then `to` is some
+/// state.
 pub fn last_of(
     places: &[BytePlace],
-    needs: Asked,
-    terminator: u8,
     pattern: usize,
-    after: Option<u8>,
+    beside: Seen,
     to: &mut State,
 ) -> Result<(), AllocError>
-    ensures { IfOk result (λ _. IsLastOf pattern (setting_of places.now needs terminator) after
+    ensures { IfOk result (λ _. IsLastOfBeside pattern (places_of places.now) beside
         (state_of to.new)) }
 {
     to.list.clear();
@@ -65,7 +63,7 @@ pub fn last_of(
             to.list.push(i)?;
         }
     }
-    to.beside = told(needs, terminator, after);
+    to.beside = beside;
     to.goes_on = false;
     to.matched = None;
     Ok(())

@@ -23,7 +23,8 @@ fn facts_of(state: &State) -> usize
 {
     let beside = state.beside;
     let ends = with_bit(state.goes_on, with_bit(state.matched.is_some(), 0));
-    let lines = with_bit(beside.line_feed, with_bit(beside.carriage_return, ends));
+    let scalars = with_bit(beside.letter, with_bit(beside.broken, ends));
+    let lines = with_bit(beside.line_feed, with_bit(beside.carriage_return, scalars));
     with_bit(
         beside.edge,
         with_bit(beside.terminator, with_bit(beside.word, lines)),

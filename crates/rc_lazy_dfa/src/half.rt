@@ -41,6 +41,8 @@ fn no_places(alloc: Global) -> State {
             line_feed: false,
             carriage_return: false,
             word: false,
+            letter: false,
+            broken: false,
         },
         goes_on: false,
         matched: None,

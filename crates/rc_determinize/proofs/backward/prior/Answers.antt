@@ -28,9 +28,9 @@ first_root-to-requires c q h = subst (λ n. q < n) (sym c.go_back.ensures.sizes.
 
 pub returns-clause-prior : goal.returns-clause-prior
 returns-clause-prior c places rev =
-    is_prior (record { places = places; needs = c.args.needs; terminator = c.args.terminator }) c.args.roots.now (state_of c.args.from.now) c.args.before
-    (state_of (record { list = c.rise_to.new.list; beside = c.told-behind.result; goes_on = false; matched = c.first_root-to.result }))
-    c.told-behind.result c.add_list.new.set.items c.go_back.new.entered.items c.go_back.new.listed.items c.told-behind.ensures
+    is_prior places c.args.roots.now (state_of c.args.from.now) c.args.sides
+    (state_of (record { list = c.rise_to.new.list; beside = c.args.sides.far; goes_on = false; matched = c.first_root-to.result }))
+    c.add_list.new.set.items c.go_back.new.entered.items c.go_back.new.listed.items
     (λ q. subst (λ l. HasPlace q c.add_list.new.set.items ↔ HasPlace q l) c.deref.ensures.value
     (begun_are c.clear.new.self c.add_list.new.set c.deref.result.now (ap (λ (m : Members). m.items) c.clear.ensures) c.add_list.ensures q))
     (c.go_back.ensures.entered places rev) (c.go_back.ensures.listed places rev) c.in_ok-rise_to.ensures.members c.in_ok-rise_to.ensures.rising

@@ -2,9 +2,9 @@ use Rattle.std.proofs.Common.{◌≡◌, ◌∙◌, ◌↔◌, ℕ, sym, ap, sub
 use Rattle.std.proofs.lemmas.List.{reverse-reverse}
 use Rattle.std.proofs.lemmas.Result.{IfOk-weaker}
 use Rattle.rc_utf8.specs.Places.{places_of}
-use Rattle.rc_determinize.specs.Sides.{holds_by, told}
+use Rattle.rc_determinize.specs.Sides.{out_over}
 use Rattle.rc_determinize.specs.Sets.{ComesBy}
-use Rattle.rc_determinize.specs.Steps.{HasPlace, AreBelow, out_by}
+use Rattle.rc_determinize.specs.Steps.{HasPlace, AreBelow}
 use Rattle.rc_determinize.proofs.forward.ends_here.Goals as goal
 use Rattle.rc_determinize.proofs.forward.ends_here.Goals.{In_ok-stack_up}
 
@@ -21,10 +21,8 @@ returns-clause-ends c =
     let beside = c.args.from.now.beside in
     let entered = c.gather.new.entered.items in
     let list = c.args.from.now.list.items in
-    let here = λ (q : ℕ). subst (λ l. HasPlace q entered ↔ ComesBy (out_by places (holds_by beside (told c.args.needs c.args.terminator c.args.after)) c.args.after) l q)
-    (turned (goal.at.returns-clause-ends c).In_ok-stack_up)
-    (subst (λ a. HasPlace q entered ↔ ComesBy (out_by places (holds_by beside a) c.args.after) (reverse c.stack_up.new.stack.items) q) c.told-ahead.ensures
-    (c.in_ok-gather.ensures.entered q)) in
+    let here = λ (q : ℕ). subst (λ l. HasPlace q entered ↔ ComesBy (out_over places beside c.args.sides) l q)
+    (turned (goal.at.returns-clause-ends c).In_ok-stack_up) (c.in_ok-gather.ensures.entered q) in
     IfOk-weaker c.matches_of.result _ _
     (λ x h q. (λ i. let k = (h q).0 i in ((here q).0 k.0, k.1), λ i. (h q).1 ((here q).1 i.0, i.1)))
     c.matches_of.ensures

@@ -1,4 +1,4 @@
-use Rattle.std.proofs.Common.{◌≡◌, ◌<◌, ◌+◌, ◌∙◌, length, true, false, sym, subst, ap, arith}
+use Rattle.std.proofs.Common.{◌<◌, ◌+◌, ◌∙◌, length, sym, subst, ap, arith}
 use Rattle.rc_program.specs.Program.{is_match_place}
 use Rattle.std.specs.Prelude.{None}
 use Rattle.rc_utf8.specs.Places.{places_of}

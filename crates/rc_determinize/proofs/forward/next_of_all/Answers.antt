@@ -1,11 +1,11 @@
 use Rattle.std.proofs.Common.{◌≡◌, ◌∙◌, sym, ap, subst, length, reverse, refl, ◌↔◌}
 use Rattle.std.proofs.lemmas.List.{reverse-reverse}
 use Rattle.rc_utf8.specs.Places.{places_of}
-use Rattle.rc_determinize.specs.Places.{setting_of, state_of}
-use Rattle.rc_determinize.specs.Sides.{holds_by, told}
+use Rattle.rc_determinize.specs.Places.{state_of}
+use Rattle.rc_determinize.specs.Sides.{out_over}
 use Rattle.rc_determinize.specs.Machine.{IsGathered}
 use Rattle.rc_determinize.specs.Sparse.{Members}
-use Rattle.rc_determinize.specs.Steps.{HasPlace, AreBelow, out_by}
+use Rattle.rc_determinize.specs.Steps.{HasPlace, AreBelow}
 use Rattle.rc_determinize.proofs.GatherLemmas.{collected}
 use Rattle.rc_determinize.proofs.forward.next_of_all.Goals as goal
 use Rattle.rc_determinize.proofs.forward.next_of_all.Goals.{In_ok-stack_up}
@@ -20,12 +20,11 @@ gather-requires-clause-below c =
 pub returns-clause-next : goal.returns-clause-next
 returns-clause-next c =
     let e = ap (λ (m : Members). m.items) c.add_root.ensures in
-    collected (setting_of c.args.places.now c.args.needs c.args.terminator) c.args.root (state_of c.args.from.now) c.args.after
-    (state_of (record { list = c.rise_to.new.list; beside = c.told-ahead.result; goes_on = c.args.from.now.goes_on; matched = c.in_ok-matched.matched }))
+    collected (places_of c.args.places.now) c.args.root (state_of c.args.from.now) c.args.sides
+    (state_of (record { list = c.rise_to.new.list; beside = c.args.sides.far; goes_on = c.args.from.now.goes_on; matched = c.in_ok-matched.matched }))
     c.gather.new.listed.items
-    (subst (λ l. IsGathered (out_by (places_of c.args.places.now) (holds_by c.args.from.now.beside (told c.args.needs c.args.terminator c.args.after)) c.args.after) (places_of c.args.places.now) l c.gather.new.listed.items c.in_ok-matched.matched) (turned (goal.at.returns-clause-next c).In_ok-stack_up)
-    (subst (λ a. IsGathered (out_by (places_of c.args.places.now) (holds_by c.args.from.now.beside a) c.args.after) (places_of c.args.places.now)
-    (reverse c.stack_up.new.stack.items) c.gather.new.listed.items c.in_ok-matched.matched) c.told-ahead.ensures c.in_ok-matched.ensures.step))
+    (subst (λ l. IsGathered (out_over (places_of c.args.places.now) c.args.from.now.beside c.args.sides) (places_of c.args.places.now) l c.gather.new.listed.items c.in_ok-matched.matched)
+    (turned (goal.at.returns-clause-next c).In_ok-stack_up) c.in_ok-matched.ensures.step)
     c.in_ok-rise_to.ensures.rising
     (λ q. subst (λ l. HasPlace q c.rise_to.new.list.items ↔ HasPlace q l) e (c.in_ok-rise_to.ensures.members q))
-    refl c.told-ahead.ensures
+    refl refl

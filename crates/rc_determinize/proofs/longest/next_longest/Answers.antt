@@ -1,11 +1,11 @@
-use Rattle.std.proofs.Common.{◌+◌, length, sym, subst, ap}
+use Rattle.std.proofs.Common.{◌+◌, length, refl, sym, subst, ap}
 use Rattle.std.proofs.lemmas.List.{length-map}
 use Rattle.rc_utf8.specs.Places.{place_of, places_of}
-use Rattle.rc_determinize.specs.Places.{setting_of, state_of}
-use Rattle.rc_determinize.specs.Sides.{holds_by, told}
+use Rattle.rc_determinize.specs.Places.{state_of}
+use Rattle.rc_determinize.specs.Sides.{out_over}
 use Rattle.rc_determinize.specs.Sparse.{Members}
 use Rattle.rc_determinize.specs.States.{is_match}
-use Rattle.rc_determinize.specs.Steps.{AreBelow, out_by}
+use Rattle.rc_determinize.specs.Steps.{AreBelow}
 use Rattle.rc_determinize.specs.Longest.{groups_of}
 use Rattle.rc_determinize.specs.Machine.{IsParted}
 use Rattle.rc_determinize.proofs.PartedLemmas.{made}
@@ -16,18 +16,15 @@ close_groups-requires-clause-below c = subst (λ l. AreBelow (length c.args.plac
 
 pub returns-clause-next : goal.returns-clause-next
 returns-clause-next c =
-    made (setting_of c.args.places.now c.args.needs c.args.terminator) c.args.root (state_of c.args.from.now) c.args.after
-    (state_of (record { list = c.part_to.new.list; beside = c.told-ahead.result; goes_on = c.goes_on-goes_on.result; matched = c.in_ok-matched.matched }))
+    made (places_of c.args.places.now) c.args.root (state_of c.args.from.now) c.args.sides
+    (state_of (record { list = c.part_to.new.list; beside = c.args.sides.far; goes_on = c.goes_on-goes_on.result; matched = c.in_ok-matched.matched }))
     (length c.args.places.now) c.close_groups.new.listed.items c.add_root.new.listed.items c.close_groups.new.to.items c.len-before.result
     (length-map c.args.places.now place_of)
-    (subst (λ l. IsParted (out_by (places_of c.args.places.now) (holds_by c.args.from.now.beside (told c.args.needs c.args.terminator c.args.after)) c.args.after)
+    (subst (λ l. IsParted (out_over (places_of c.args.places.now) c.args.from.now.beside c.args.sides)
     (is_match (places_of c.args.places.now)) (length c.args.places.now) (groups_of (length c.args.places.now) l) c.close_groups.new.listed.items c.close_groups.new.to.items c.in_ok-matched.matched)
-    c.deref.ensures.value
-    (subst (λ a. IsParted (out_by (places_of c.args.places.now) (holds_by c.args.from.now.beside a) c.args.after)
-    (is_match (places_of c.args.places.now)) (length c.args.places.now) (groups_of (length c.args.places.now) c.deref.result.now) c.close_groups.new.listed.items c.close_groups.new.to.items c.in_ok-matched.matched)
-    c.told-ahead.ensures c.in_ok-matched.ensures.parted))
+    c.deref.ensures.value c.in_ok-matched.ensures.parted)
     c.goes_on-goes_on.ensures
     (ap (λ (m : Members). m.items) c.add_root.ensures)
     c.len-before.ensures.value
     c.in_ok-part_to.ensures
-    c.told-ahead.ensures
+    refl

@@ -26,5 +26,5 @@ returns c = record {
   rising = c.loop-i.invariant.rising;
   matched = refl;
   goes_on = refl;
-  beside = c.told-to.ensures;
+  beside = refl;
 }

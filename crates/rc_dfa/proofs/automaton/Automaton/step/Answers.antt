@@ -2,12 +2,11 @@ use Rattle.std.proofs.Common.{length, ap, subst, sym, ◌∙◌}
 use Rattle.std.proofs.lemmas.List.{length-map}
 use Rattle.std.proofs.lemmas.Result.{IfOk-weaker}
 use Rattle.rc_utf8.specs.Places.{place_of, places_of}
-use Rattle.rc_determinize.specs.Kinds.{bound_of}
-use Rattle.rc_determinize.specs.Places.{setting_of, state_of}
-use Rattle.rc_determinize.specs.Sets.{IsNextOfAll}
+use Rattle.rc_determinize.specs.Kinds.{IsNextByOver, bound_of}
+use Rattle.rc_determinize.specs.Places.{state_of}
+use Rattle.rc_determinize.specs.Sets.{IsNextOfAllOver}
 use Rattle.rc_determinize.specs.Steps.{AreBelow}
-use Rattle.rc_determinize.specs.Backward.{IsPrior}
-use Rattle.rc_determinize.specs.States.{Setting}
+use Rattle.rc_determinize.specs.Backward.{IsPriorOver}
 use Rattle.rc_dfa.specs.Machine.{Leads, entry_bound}
 use Rattle.rc_dfa.specs.Automata.{machine_of, direction_of}
 use Rattle.rc_dfa.proofs.AutomatonLemmas.{is_reversed, as_many, is_inside}
@@ -34,13 +33,23 @@ prior-requires-clause-below c =
     (subst (λ d. AreBelow (entry_bound (direction_of c.args.self.now.kind d) (length (places_of c.args.self.now.places.items))) c.args.from.now.list.items)
     c.in-Backwards.is c.requires.below)
 
+pub returns-in-Forwards-clause-leads : goal.returns-in-Forwards-clause-leads
+returns-in-Forwards-clause-leads c =
+    let a = c.args.self.now in
+    IfOk-weaker c.next_by.result _ _
+    (λ x h. subst (λ d. Leads (machine_of a d) (state_of c.args.from.now) c.args.beside (state_of c.next_by.new.to)) (sym c.in-Forwards.is)
+    (subst (λ y. IsNextByOver a.kind (places_of a.places.items) 0 (state_of c.args.from.now) y (state_of c.next_by.new.to)) c.sides_of-sides.ensures
+    (subst (λ ps. IsNextByOver a.kind (places_of ps) 0 (state_of c.args.from.now) c.sides_of-sides.result (state_of c.next_by.new.to)) c.deref.ensures.value h)))
+    c.next_by.ensures.next
+
 pub returns-in-Backwards-clause-leads : goal.returns-in-Backwards-clause-leads
 returns-in-Backwards-clause-leads c =
+    let a = c.args.self.now in
     IfOk-weaker c.prior.result _ _
-    (λ x h. subst (λ d. Leads (machine_of c.args.self.now d) (state_of c.args.from.now) c.args.beside (state_of c.prior.new.to)) (sym c.in-Backwards.is)
-    (let g : Setting = record { places = places_of c.args.self.now.places.items; needs = c.args.self.now.needs; terminator = c.args.self.now.terminator } in
-    subst (λ es. IsPrior g es (state_of c.args.from.now) c.args.beside (state_of c.prior.new.to)) c.deref-in-Backwards.ensures.value
-    (h (places_of c.args.self.now.places.items) (is_reversed c.args.self.now))))
+    (λ x h. subst (λ d. Leads (machine_of a d) (state_of c.args.from.now) c.args.beside (state_of c.prior.new.to)) (sym c.in-Backwards.is)
+    (subst (λ y. IsPriorOver (places_of a.places.items) a.entries.items (state_of c.args.from.now) y (state_of c.prior.new.to)) c.sides_of-sides.ensures
+    (subst (λ es. IsPriorOver (places_of a.places.items) es (state_of c.args.from.now) c.sides_of-sides.result (state_of c.prior.new.to)) c.deref-in-Backwards.ensures.value
+    (h (places_of a.places.items) (is_reversed a)))))
     c.prior.ensures.prior
 
 pub next_by-requires-in-Overlapping-clause-below : goal.next_by-requires-in-Overlapping-clause-below
@@ -55,6 +64,7 @@ returns-in-Overlapping-clause-leads c =
     let a = c.args.self.now in
     IfOk-weaker c.next_by-in-Overlapping.result _ _
     (λ x h. subst (λ d. Leads (machine_of a d) (state_of c.args.from.now) c.args.beside (state_of c.next_by-in-Overlapping.new.to)) (sym c.in-Overlapping.is)
-    (subst (λ ps. IsNextOfAll (setting_of ps a.needs a.terminator) 0 (state_of c.args.from.now) c.args.beside (state_of c.next_by-in-Overlapping.new.to))
-    c.deref-in-Overlapping.ensures.value h))
+    (subst (λ y. IsNextOfAllOver (places_of a.places.items) 0 (state_of c.args.from.now) y (state_of c.next_by-in-Overlapping.new.to)) c.sides_of-sides.ensures
+    (subst (λ ps. IsNextOfAllOver (places_of ps) 0 (state_of c.args.from.now) c.sides_of-sides.result (state_of c.next_by-in-Overlapping.new.to))
+    c.deref-in-Overlapping.ensures.value h)))
     c.next_by-in-Overlapping.ensures.next
