@@ -10,7 +10,7 @@ use Rattle.rc_program.specs.Text.{Text, behind, beyond}
 use Rattle.rc_program.proofs.SideLemmas.{scalar_law}
 use Rattle.rc_symbols.specs.Symbols.{Tag, Symbol, IsSymbolAt, IsScalarAt, IsAround}
 use Rattle.rc_symbols.specs.Readers.{Left, count_down, read, IsCut, IsLeftAhead, IsLeftBehind, ReaderLaw}
-use Rattle.rc_symbols.proofs.SymbolLemmas.{some, fits, read_back, found_back, apart, nothing_opens, opened, shut, stray, head_of}
+use Rattle.rc_symbols.proofs.SymbolLemmas.{some, few, fits, read_back, found_back, apart, nothing_opens, opened, shut, stray, head_of}
 
 -- where it is not cut in front, nor begins there
 around_cut : (t : Text) (i j c n : ℕ) → IsCut t i j c n → IsAround t i j c n
@@ -114,6 +114,7 @@ reader_law = record {
   starts = λ t j c n cut. let low = cut.is.inside in omega (arith, low, cut.begins);
   reads = λ t i left y h s. forwards t i y s left (scalar_at (beyond t i)) refl h;
   decodes = λ t i b low e h. nothing_opens t i low (λ c n is. h (head_of t i c n b is e).0);
+  near = λ t i j c n cut. let most = few t j c n cut.is in (omega (arith, most, cut.ends), omega (arith, most, cut.begins));
   starts_back = λ t j c n cut. let f = fits t j c n cut.is in omega (arith, f, cut.ends);
   reads_back = λ t i left y bounded h s. backwards t i y s left (scalar_before (behind t (i + 1))) bounded refl h;
 }

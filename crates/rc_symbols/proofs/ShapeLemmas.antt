@@ -97,6 +97,12 @@ one_head a n h one =
     (λ h. ⊎_elim (λ o. absurd (omega (arith, o.2, one)))
     (λ h. ⊎_elim (λ o. absurd (omega (arith, o.2, one))) (λ o. absurd (omega (arith, o.2, one))) h) h) h
 
+pub head_few : (a n : ℕ) → Heads a n → n ≤ 4
+head_few a n h =
+    ⊎_elim (λ o. omega (arith, o.1))
+    (λ h. ⊎_elim (λ o. omega (arith, o.2))
+    (λ h. ⊎_elim (λ o. omega (arith, o.2)) (λ o. omega (arith, o.2)) h) h) h
+
 pub head_some : (a n : ℕ) → Heads a n → 0 < n
 head_some a n h =
     ⊎_elim (λ o. omega (arith, o.1))

@@ -11,7 +11,7 @@ use Rattle.rc_program.specs.Scalars.{scalar_at, scalar_before}
 use Rattle.rc_program.specs.Text.{Text, behind, beyond}
 use Rattle.rc_program.proofs.SideLemmas.{scalar_law, scalar_at-encode, scalar_before-encode}
 use Rattle.rc_symbols.specs.Symbols.{tag_of, Symbol, IsSymbolAt, IsScalarAt, IsAround, BeginsScalar, SymbolLaw}
-use Rattle.rc_symbols.proofs.ShapeLemmas.{IsShape, shape_of, head_begins, head_apart, head_one, one_head, head_some}
+use Rattle.rc_symbols.proofs.ShapeLemmas.{IsShape, shape_of, head_begins, head_apart, head_one, one_head, head_few, head_some}
 
 -- an element of a list that was cut
 got : (xs : List ℕ) (i p k b : ℕ) → slice_get (slice_range xs i p) k ≡ Some b → slice_get xs (i + k) ≡ Some b
@@ -31,6 +31,9 @@ module _ (t : Text) (j c n : ℕ) (is : IsScalarAt t j c n) where
 
   pub some : 0 < n
   some = head_some shape.head n shape.heads
+
+  pub few : n ≤ 4
+  few = head_few shape.head n shape.heads
 
   pub next_at : (i : ℕ) → j < i → i < j + n → (b : ℕ) × (slice_get t.content i ≡ Some b) × (128 ≤ b) × (b < 192)
   next_at i low high =

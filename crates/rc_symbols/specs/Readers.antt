@@ -56,6 +56,8 @@ pub record ReaderLaw : Type 0 where
       × IsLeftAhead t (i + 1) (read left (scalar_at (beyond t i))).left
   -- Only ASCII bytes and those from C2 to F4 need decoding.
   pub decodes : (t : Text) (i b : ℕ) → t.slice_start ≤ i → slice_get t.content i ≡ Some b → ¬ BeginsScalar b → scalar_at (beyond t i) ≡ None
+  -- A scalar that is cut at a position begins at most three bytes before it, and ends as near.
+  pub near : (t : Text) (i j c n : ℕ) → IsCut t i j c n → (i ≤ j + 3) × (j + n ≤ i + 3)
   -- Backwards from the slice's end nothing is left.
   pub starts_back : (t : Text) → IsLeftBehind t t.slice_end None
   pub reads_back : (t : Text) (i : ℕ) (left : Left) (y : Symbol) → t.slice_end ≤ length t.content → IsLeftBehind t (i + 1) left → IsSymbolAt t i y →
