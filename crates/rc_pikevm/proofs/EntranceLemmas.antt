@@ -1,6 +1,6 @@
 -- A thread at a choice of two ways may enter at the one in its place, where the other one is shut.
-use Rattle.std.proofs.Common.{◌≡◌, ℕ, ◌<◌, List, [], ◌∷◌, length, map, ⊎_elim, sym, subst, ap, ◌∙◌, refl, arith, false, true≢false, IsTrue, Option, Some, None}
-use Rattle.rc_walks.specs.Walks.{Pair, IsWalk, HasNoWalk}
+use Rattle.std.proofs.Common.{◌≡◌, ℕ, ◌<◌, List, [], ◌∷◌, length, map, inl, inr, ⊎_elim, sym, subst, ap, ◌∙◌, refl, arith, false, true≢false, IsTrue, Option, Some, None}
+use Rattle.rc_walks.specs.Walks.{Pair, IsIn, IsWalk, HasNoWalk}
 use Rattle.rc_walks.proofs.StackLemmas.{no_ways, dead_if_tried}
 use Rattle.rc_program.specs.Columns.{column_at}
 use Rattle.rc_program.specs.Program.{Place, choice, place_at, ways_out, pair_at, is_match_place}
@@ -44,6 +44,12 @@ module _ (s : Sight) (at : ℕ) where
   -- it is a choice
   pub forks : (p a b : ℕ) → AreWays s p a b → (ns : List ℕ) × (place_at s.places p ≡ choice ns)
   forks p a b is = ⊎_elim (λ e. (a ∷ b ∷ [], e)) (λ e. (b ∷ a ∷ [], e)) is
+
+  -- the one way leads out of it
+  pub leads_out : (p a b : ℕ) → AreWays s p a b → IsIn (a, at) (next_of s (p, at))
+  leads_out p a b is =
+      ⊎_elim (λ e. subst (IsIn (a, at)) (sym (ways_by p (choice (a ∷ b ∷ [])) e)) (inl refl))
+      (λ e. subst (IsIn (a, at)) (sym (ways_by p (choice (b ∷ a ∷ [])) e)) (inr (inl refl))) is
 
   -- where no walk leads on from the other way, the one is the only one
   pub only_other : (limit : Option ℕ) → IsUpTo at limit → (Ends : Pair → Type 0) (p a b : ℕ) → AreWays s p a b →

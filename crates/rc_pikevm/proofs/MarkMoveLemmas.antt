@@ -24,7 +24,7 @@ use Rattle.rc_pikevm.specs.declared.growth.Growth.{Growth}
 use Rattle.rc_pikevm.specs.declared.moves.Move.{Move}
 use Rattle.rc_pikevm.specs.declared.moves.Move.TheVariants.{Fork, Save, Matches, Stays, Reads, DeadEnd}
 use Rattle.rc_pikevm.proofs.EnteredLemmas.{has_pairs, pairs_has, pairs_at, pairs_push}
-use Rattle.rc_pikevm.proofs.EntranceLemmas.{choice_on, forks, ways_by}
+use Rattle.rc_pikevm.proofs.EntranceLemmas.{choice_on, forks, ways_by, leads_out}
 use Rattle.rc_pikevm.proofs.MarkLemmas.{enters_same, forks_same, matches_same, skips_same, way_same, later_same, some_left, some_right, some_parts, AllLater}
 use Rattle.rc_pikevm.proofs.MoveLemmas.{slot_on}
 use Rattle.rc_pikevm.proofs.VisitLemmas.{no_slots, same_threads, quiet, entered_end, end_there}
@@ -159,18 +159,13 @@ module _ (s : Sight) (p at : ℕ) (marks : List Bool) (rest : List Thread) (item
   owed_on q a b fresh are shut =
       let c = forks s at q a b are in
       middle (way_same s p (q, at) (pairs at items) (a, at) ts (λ i. fresh (pairs_has at q items i))
-      (ap (is_match_place (only s.anchoring)) c.1 ∙ choice_on (only s.anchoring) c.0) one_way by_it)
+      (ap (is_match_place (only s.anchoring)) c.1 ∙ choice_on (only s.anchoring) c.0) (leads_out s at q a b are) by_it)
     where
       avoided : List Pair
       avoided = (q, at) ∷ pairs at items
 
       none : LeadsToPattern s avoided (b, at) p → ⊥
       none h = shut None tt avoided h.walk h.is_walk
-
-      one_way : IsIn (a, at) (next_of s (q, at))
-      one_way =
-          ⊎_elim (λ e. subst (IsIn (a, at)) (sym (ways_by s at q (choice (a ∷ b ∷ [])) e)) (inl refl))
-          (λ e. subst (IsIn (a, at)) (sym (ways_by s at q (choice (b ∷ a ∷ [])) e)) (inr (inl refl))) are
 
       by_it : SomeLeads s avoided (next_of s (q, at)) p → LeadsToPattern s avoided (a, at) p
       by_it h =

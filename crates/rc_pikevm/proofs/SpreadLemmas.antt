@@ -213,6 +213,41 @@ module _ (s : Sight) where
         on_by : (m : Found) → LeadsToMatch s v (c, n) m → SomeSpells s (n ∷ v) (by_ways c (next_of s n) ++ ts) m
         on_by m y = some_left (n ∷ v) (by_ways c (next_of s n)) ts m (spells_on m on y)
 
+    -- of the ways out of n, that to a alone leads to a match
+    pub way_narrow : (R E : Found → Type 0) (a : Pair) (ts : List Runner) → ¬ IsIn n v → ends s n ≡ false → IsIn a (next_of s n) →
+        ((m : Found) → SomeSpells s (n ∷ v) (by_ways c (next_of s n)) m → LeadsToMatch s (n ∷ v) (c, a) m) →
+        Narrows (λ m. R m ⊎ (SomeSpells s v ((c, n) ∷ ts) m ⊎ E m)) (λ m. R m ⊎ (SomeSpells s v ((c, a) ∷ ts) m ⊎ E m))
+    way_narrow R E a ts fresh on i only = record {
+      fewer = λ m h. ⊎_elim (λ x. inl x) (λ x. inr (⊎_elim (λ y. inl (⊎_elim (λ z. inl (back m z)) (λ z. inr z) y)) (λ y. inr y) x)) h;
+      enough = λ m h. (
+        m,
+        ⊎_elim (λ x. inl x) (λ x. inr (⊎_elim
+            (λ y. inl (⊎_elim (λ z. inl (respelled (n ∷ v) v (c, a) m (λ w b. fewer_passed (next_of s) Ends n b) (only m (spells_on m on z))))
+            (λ z. inr z) y)) (λ y. inr y) x)) h,
+        no_greater_self m,
+      );
+    }
+      where
+        back : (m : Found) → LeadsToMatch s v (c, a) m → LeadsToMatch s v (c, n) m
+        back m h =
+            ⊎_elim
+            (λ j. let u = from_last n h.is_walk j in record {
+              start = h.start;
+              walk = u.0;
+              is_walk = u.1;
+              pattern = ap (λ (q : Pair). place_at s.places q.0) u.2 ∙ h.pattern;
+              position = ap (λ (q : Pair). q.1) u.2 ∙ h.position;
+            })
+            (λ no. spells_back a m i fresh (record {
+              start = h.start;
+              walk = h.walk;
+              is_walk = loosen (next_of s) Ends h.is_walk (n ∷ v)
+                  (λ k i. λ z. ⊎_elim (λ e. no (subst (λ x. IsIn x h.walk) (sym e) i)) (λ q. avoids (next_of s) Ends h.is_walk k i q) z);
+              pattern = h.pattern;
+              position = h.position;
+            }))
+            (is_in_or_not (next_of s) Ends same_pair n h.walk)
+
     -- a walk ends
     pub matches_narrow : (R : Found → Type 0) (best : Option Ending) (new result : Ending) (ts : List Runner) → ¬ IsIn n v → Ends n →
         place_at s.places n.0 ≡ accept new.pattern → new.start ≡ c → new.end ≡ n.1 → IsGreater best new result → BeginFrom c ts →

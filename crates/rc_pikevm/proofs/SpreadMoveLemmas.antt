@@ -1,27 +1,29 @@
 -- What a thread's entering of a place does to the greatest match on offer.
-use Rattle.std.proofs.Common.{◌≡◌, ◌≢◌, ℕ, ◌+◌, ◌<◌, ◌≤◌, List, [], ◌∷◌, ◌++◌, map, sym, subst, ap, ◌∙◌, refl, arith, false, IsTrue, Option, Some, option_map, ◌⊎◌}
+use Rattle.std.proofs.Common.{◌≡◌, ◌≢◌, ℕ, ◌+◌, ◌<◌, ◌≤◌, List, [], ◌∷◌, ◌++◌, map, ⊎_elim, sym, subst, ap, ◌∙◌, refl, arith, false, IsTrue, Option, Some, None, option_map, ◌⊎◌}
 use Rattle.std.proofs.lemmas.Bool.{le-ltb}
 use Rattle.std.proofs.lemmas.List.{map-append, append-nil}
 use Rattle.rc_text.specs.Found.{Found}
 use Rattle.rc_walks.specs.Walks.{Pair}
-use Rattle.rc_program.specs.Program.{accept, place_at, ways_out, pair_at, is_match_place}
+use Rattle.rc_program.specs.Program.{accept, choice, place_at, ways_out, pair_at, is_match_place}
 use Rattle.rc_program.specs.Text.{holds, ahead}
 use Rattle.rc_program.specs.Answer.{only}
 use Rattle.rc_pikevm.specs.Sights.{Sight, ends, next_of}
+use Rattle.rc_pikevm.specs.Entrances.{AreWays, IsOnWay, IsShut, IsWayIn, stays_in, goes_in}
 use Rattle.rc_pikevm.specs.Sparse.{Has}
 use Rattle.rc_pikevm.specs.Threads.{Thread}
 use Rattle.rc_pikevm.specs.Moves.{IsMove}
 use Rattle.rc_pikevm.specs.Passing.{pairs, resting_of, frames_of}
-use Rattle.rc_pikevm.specs.Spread.{Runner, running, SomeSpells, span_of, Offers, IsTop, Seeks, BeginFrom, IsGreater, IsOrdered, AllBefore, IsRising, runners_of}
+use Rattle.rc_pikevm.specs.Spread.{Runner, running, LeadsToMatch, SomeSpells, span_of, Offers, IsTop, Seeks, BeginFrom, IsGreater, IsOrdered, AllBefore, IsRising, runners_of}
 use Rattle.rc_pikevm.specs.declared.moves.Move.{Move}
 use Rattle.rc_pikevm.specs.declared.moves.Move.TheVariants.{Fork, Save, Matches, Stays, Reads, DeadEnd}
 use Rattle.rc_pikevm.specs.declared.growth.Frame.{Frame}
 use Rattle.rc_pikevm.specs.declared.growth.Frame.TheVariants.{Explore, Restore}
 use Rattle.rc_pikevm.specs.declared.pass.Ending.{Ending}
+use Rattle.rc_pikevm.proofs.EntranceLemmas.{choice_on, forks, leads_out, ways_by}
 use Rattle.rc_pikevm.proofs.EnteredLemmas.{has_pairs, pairs_has, pairs_at, pairs_push}
 use Rattle.rc_pikevm.proofs.GrownLemmas.{from_push}
 use Rattle.rc_pikevm.proofs.MoveLemmas.{slot_on}
-use Rattle.rc_pikevm.proofs.SpreadLemmas.{Narrows, top_back, enters_narrow, matches_narrow, skips_narrow, waits_narrow, turns_narrow, by_ways, AllLater}
+use Rattle.rc_pikevm.proofs.SpreadLemmas.{Narrows, top_back, enters_narrow, matches_narrow, skips_narrow, waits_narrow, way_narrow, turns_narrow, by_ways, AllLater}
 
 pub begin_more : (start at : ℕ) (frames : List Frame) (below : List Runner) → BeginFrom start below → BeginFrom start (runners_of start at frames ++ below)
 begin_more start at [] below h = h
@@ -141,3 +143,40 @@ module _ (s : Sight) where
           (ap (is_match_place (only s.anchoring)) m.1 ∙ slot_on (only s.anchoring) m.0 n) (begin_more start at frames below low)
           (subst (λ fs. Seeks s at rest (items ++ p ∷ []) (runners_of start at (fs ++ frames) ++ below) best o) e
           (subst (λ r. Seeks s at r (items ++ p ∷ []) (runners_of start at (frames_of [] (Save k n) ++ frames) ++ below) best o) (append-nil rest) x))
+
+    module _ (start : ℕ) (ts : List Runner) where
+      -- the way on, of which the other way is shut
+      seeks_by : (p a b : ℕ) → ¬ Has items p → AreWays s p a b → IsShut s (b, at) → Seeks s at rest items ((start, (a, at)) ∷ ts) best o →
+          Seeks s at rest items ((start, (p, at)) ∷ ts) best o
+      seeks_by p a b fresh are shut x =
+          let c = forks s at p a b are in
+          top_back (Offers s at rest items ((start, (p, at)) ∷ ts) best) (Offers s at rest items ((start, (a, at)) ∷ ts) best) o
+          (way_narrow s start (p, at) (pairs at items) (SomeSpells s [] (map running rest)) (λ m. option_map span_of best ≡ Some m) (a, at) ts
+          (λ i. fresh (pairs_has at p items i)) (ap (is_match_place (only s.anchoring)) c.1 ∙ choice_on (only s.anchoring) c.0)
+          (leads_out s at p a b are) by_it) x
+        where
+          avoided : List Pair
+          avoided = (p, at) ∷ pairs at items
+
+          none : (m : Found) → LeadsToMatch s avoided (start, (b, at)) m → ⊥
+          none m h = shut None tt avoided h.walk h.is_walk
+
+          by_it : (m : Found) → SomeSpells s avoided (by_ways s start (next_of s (p, at))) m → LeadsToMatch s avoided (start, (a, at)) m
+          by_it m h =
+              ⊎_elim
+              (λ e. ⊎_elim (λ y. y) (λ y. ⊎_elim (λ z. absurd (none m z)) (λ z. absurd z) y)
+              (subst (λ ms. SomeSpells s avoided (by_ways s start ms) m) (ways_by s at p (choice (a ∷ b ∷ [])) e) h))
+              (λ e. ⊎_elim (λ z. absurd (none m z)) (λ y. ⊎_elim (λ z. z) (λ z. absurd z) y)
+              (subst (λ ms. SomeSpells s avoided (by_ways s start ms) m) (ways_by s at p (choice (b ∷ a ∷ [])) e) h))
+              are
+
+      seeks_step : (p a : ℕ) → ¬ Has items p → IsOnWay s at p a → Seeks s at rest items ((start, (a, at)) ∷ ts) best o →
+          Seeks s at rest items ((start, (p, at)) ∷ ts) best o
+      seeks_step p a fresh way x =
+          ⊎_elim (λ e. subst (λ m. Seeks s at rest items ((start, (m, at)) ∷ ts) best o) e x) (λ r. seeks_by p a r.0 fresh r.1 r.2 x) way
+
+      -- a thread enters in place of another
+      pub seeks_way_in : {p a : ℕ} → IsWayIn s at items p a → Seeks s at rest items ((start, (a, at)) ∷ ts) best o →
+          Seeks s at rest items ((start, (p, at)) ∷ ts) best o
+      seeks_way_in stays_in x = x
+      seeks_way_in {p} {a} (goes_in {q = q} way fresh step) x = seeks_way_in way (seeks_step q a fresh step x)

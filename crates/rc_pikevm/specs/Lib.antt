@@ -16,6 +16,7 @@ pub mod KindSlots
 pub mod Scratches
 pub mod Entered
 pub mod Entrances
+pub mod Explored
 pub mod PatternSpans
 pub mod Marking
 pub mod Fronts

@@ -64,17 +64,6 @@ entering at last = entries at (last + 1 - at)
 abbrev pub KeepsMarks : List Bool → List Bool → Type 0
 KeepsMarks set0 set = (p : ℕ) → Has set0 p → Has set p
 
--- The threads, places and marks that the closure of a thread adds.
-pub record IsMarked (s : Sight) (n hi start at root : ℕ) (threads0 : ThreadList) (entered0 : Members) (set0 : List Bool)
-    (threads : ThreadList) (entered : Members) (set : List Bool) (frames : List Frame) : Type 0 where
-  pub same : (below : List Pair) → AreSame (length set0) (Owed s at threads0.items entered0.items ((root, at) ∷ below) set0)
-      (Owed s at threads.items entered.items (explored at frames ++ below) set)
-  pub long : length set ≡ length set0
-  pub more : KeepsMarks set0 set
-  pub grown : IsGrown n hi start at threads0 entered0 threads entered
-  pub some : 0 < length entered.items
-  pub frames_in : AllInside n 0 frames
-
 -- Walks set out at a position: those through the patterns in front of the place `front` have.
 pub record IsSettingOut (s : Sight) (n hi at front : ℕ) (threads0 : ThreadList) (entered0 : Members) (set0 : List Bool)
     (threads : ThreadList) (entered : Members) (set : List Bool) : Type 0 where

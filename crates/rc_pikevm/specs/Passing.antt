@@ -103,16 +103,6 @@ pub record IsGrown (n hi start at : ℕ) (threads0 : ThreadList) (entered0 : Mem
   pub counts : (q : ℕ) → count_from q threads.items + length entered0.items ≤ count_from q threads0.items + length entered.items
   pub begun : (x : ℕ) → x ≤ start → AllFrom x threads0.items → AllFrom x threads.items
 
--- A closure under way: it gives what the threads give that waited when it began.
-pub record IsClosing (s : Sight) (n hi start at : ℕ) (waiting0 : List (Trace × Pair)) (threads0 : ThreadList) (entered0 : Members)
-    (threads : ThreadList) (entered : Members) (frames : List Frame) (slots : List (Option ℕ)) : Type 0 where
-  pub carries : (limit : Option ℕ) → IsUpTo at limit → (below : List (Trace × Pair)) (best o : Option Trace) →
-      CarriesTo limit s at threads.items entered.items (waits start at frames slots ++ below) best o →
-      CarriesTo limit s at threads0.items entered0.items (waiting0 ++ below) best o
-  pub grown : IsGrown n hi start at threads0 entered0 threads entered
-  pub some : 0 < length entered.items
-  pub frames_in : AllInside n threads.width frames
-
 -- The threads of a position have gone on so far: `left` are those still to go on.
 pub record IsStepping (s : Sight) (n hi at : ℕ) (all left : List Thread) (threads0 threads : ThreadList) (entered : Members) : Type 0 where
   pub carries : (limit : Option ℕ) → IsUpTo at limit → (below : List (Trace × Pair)) (best o : Option Trace) →

@@ -148,18 +148,6 @@ GivesLongest s width from last o =
     ⊎ ((x : ℕ) × (w : List Pair) × (from ≤ x) × (x ≤ last) × IsLongestWalk (next_of s) (λ n. IsTrue (ends s n)) [] ((0, x) ∷ []) w
     × ((y : ℕ) → from ≤ y → y < x → HasNoWalkFrom s y) × (o ≡ Some (noted (note s.places) (sets_out width x).0 w)))
 
--- The threads, places and matches that the closure of a thread adds.
-pub record IsRun (s : Sight) (n hi start at : ℕ) (waiting0 : List (Trace × Pair)) (threads0 : ThreadList) (entered0 : Members) (best0 : Option Ending)
-    (found0 : List (Option ℕ)) (threads : ThreadList) (entered : Members) (frames : List Frame) (slots : List (Option ℕ)) (best : Option Ending)
-    (found : List (Option ℕ)) : Type 0 where
-  pub races : (all below : List (Trace × Pair)) → Races s all at threads0.items entered0.items (waiting0 ++ below) best0 found0 →
-      Races s all at threads.items entered.items (waits start at frames slots ++ below) best found
-  pub sought : IsSought best start
-  pub grown : IsGrown n hi start at threads0 entered0 threads entered
-  pub counted : StaysCounted start at best0 best
-  pub some : 0 < length entered.items
-  pub frames_in : AllInside n threads.width frames
-
 -- The threads of a position have gone on so far: `left` are those still to go on.
 pub record IsRunOn (s : Sight) (n hi at : ℕ) (all left : List Thread) (threads0 : ThreadList) (best0 : Option Ending) (found0 : List (Option ℕ))
     (threads : ThreadList) (entered : Members) (best : Option Ending) (found : List (Option ℕ)) : Type 0 where

@@ -97,18 +97,6 @@ setting_out x (suc count) = (x, (0, x)) ∷ setting_out (x + 1) count
 abbrev pub starting : ℕ → ℕ → List Runner
 starting at last = setting_out at (last + 1 - at)
 
--- The threads, places and matches that the closure of a thread adds.
-pub record IsSpread (s : Sight) (n hi start at root : ℕ) (threads0 : ThreadList) (entered0 : Members) (best0 : Option Ending)
-    (threads : ThreadList) (entered : Members) (best : Option Ending) (frames : List Frame) : Type 0 where
-  pub seeks : (below : List Runner) (o : Option Found) → BeginFrom start below →
-      Seeks s at threads.items entered.items (runners_of start at frames ++ below) best o →
-      Seeks s at threads0.items entered0.items ((start, (root, at)) ∷ below) best0 o
-  pub grown : IsGrown n hi start at threads0 entered0 threads entered
-  pub ordered : IsOrdered start threads.items
-  pub counted : StaysCounted start at best0 best
-  pub some : 0 < length entered.items
-  pub frames_in : AllInside n 0 frames
-
 -- The threads of a position have gone on so far: `left` are those still to go on.
 pub record IsSpreading (s : Sight) (n hi at : ℕ) (all left : List Thread) (threads0 : ThreadList) (best0 : Option Ending)
     (threads : ThreadList) (entered : Members) (best : Option Ending) : Type 0 where

@@ -1,13 +1,11 @@
 //! Epsilon closure: all places that a thread reaches at one position without reading, in order of
-//! preference. It ends at the first match, since all that comes later is less preferred.
-ghost use Rattle.std.specs.Prelude.{◌≡◌, ◌≢◌, ℕ, ◌+◌, ◌*◌, ◌<◌, ◌≤◌, List, [], ◌∷◌, ◌++◌, length, reverse, vec_len, vec_capacity, Option, None, Some, MatchOption, slice_set, slice_index_or};
-ghost use Rattle.rc_walks.specs.Walks.{Pair};
+//! preference. It stops at each match: the caller drops the ways still to come, or goes on.
+ghost use Rattle.std.specs.Prelude.{◌≡◌, ◌≢◌, ℕ, ◌+◌, ◌*◌, ◌<◌, ◌≤◌, [], ◌∷◌, ◌++◌, length, reverse, vec_len, vec_capacity, None, Some, slice_set, slice_index_or};
 ghost use Rattle.rc_text.specs.Text.{Searched};
 ghost use Rattle.rc_pikevm.specs.Near.{IsHere, seen_from, size};
-ghost use Rattle.rc_pikevm.specs.Sights.{IsUpTo};
-ghost use Rattle.rc_pikevm.specs.Trace.{Trace, trace, done};
+ghost use Rattle.rc_pikevm.specs.Explored.{Closes, Grows, IsExploring, closure_at, closure_of, count_ended};
 ghost use Rattle.rc_pikevm.specs.Moves.{reading};
-ghost use Rattle.rc_pikevm.specs.Passing.{CarriesTo, waits, AllInside, HasRoom, IsGrown};
+ghost use Rattle.rc_pikevm.specs.Passing.{AllInside, HasRoom};
 ghost use Rattle.rc_pikevm.specs.Entered.{IsMade, IsActed, IsVisited};
 ghost use Rattle.rc_pikevm.specs.declared.moves.Move.TheVariants.{Fork, Save, Stays};
 
@@ -158,7 +156,7 @@ fn act(spot: &Spot, place: usize, start: usize, growth: &mut Growth) -> Option<u
 /// Enters a place, unless it was entered at this position before, and makes its transition. Returns
 /// the pattern if a walk ends there.
 #[inline(always)]
-pub fn enter(spot: &Spot, place: usize, start: usize, growth: &mut Growth) -> Option<usize>
+fn enter(spot: &Spot, place: usize, start: usize, growth: &mut Growth) -> Option<usize>
     ghost text: { Searched }
     requires here { IsHere spot.now text }
     requires place_in { place < size spot.now.course }
@@ -169,13 +167,8 @@ pub fn enter(spot: &Spot, place: usize, start: usize, growth: &mut Growth) -> Op
     requires deep { vec_len growth.old.stack ≤ length growth.old.entered.items }
     ensures visited { IsVisited (seen_from spot.now text) spot.now.at place start result growth.old
         growth.new }
-    ensures grown { IsGrown (size spot.now.course) spot.now.course.hi start spot.now.at
-        growth.old.threads growth.old.entered
-        growth.new.threads growth.new.entered }
-    ensures some { 0 < length growth.new.entered.items }
-    ensures frames { AllInside (size spot.now.course) growth.new.threads.width
-        (reverse growth.new.stack.items) }
-    ensures deep { vec_len growth.new.stack ≤ length growth.new.entered.items + 1 }
+    ensures grown { Grows spot.now start growth.old growth.new }
+    ensures exploring { IsExploring spot.now growth.new }
     ensures falls { vec_len growth.new.stack + 3 * length growth.old.entered.items
         ≤ vec_len growth.old.stack + 3 * length growth.new.entered.items }
 {
@@ -188,30 +181,17 @@ pub fn enter(spot: &Spot, place: usize, start: usize, growth: &mut Growth) -> Op
 /// Pops frames and goes on from them until none is left or a walk ends. Choices of which one branch
 /// is shut are skipped. Returns the pattern of that walk, whose slots are then in `slots`.
 #[inline(never)]
-fn drain(spot: &Spot, start: usize, growth: &mut Growth) -> Option<usize>
+pub fn drain(spot: &Spot, start: usize, growth: &mut Growth) -> Option<usize>
     ghost text: { Searched }
     requires here { IsHere spot.now text }
-    requires sound { HasRoom (size spot.now.course) spot.now.course.hi spot.now.at
-        growth.old.threads growth.old.entered }
-    requires frames { AllInside (size spot.now.course) growth.old.threads.width
-        (reverse growth.old.stack.items) }
-    requires deep { vec_len growth.old.stack ≤ length growth.old.entered.items + 1 }
-    requires some { 0 < length growth.old.entered.items }
-    ensures carries { (limit : Option ℕ) → IsUpTo spot.now.at limit
-        → (below : List (Trace × Pair)) (best o : Option Trace) → MatchOption result
-        (CarriesTo limit (seen_from spot.now text) spot.now.at growth.new.threads.items
-        growth.new.entered.items below best o)
-        (λ p. CarriesTo limit (seen_from spot.now text) spot.now.at growth.new.threads.items
-        growth.new.entered.items []
-        (Some (done p start spot.now.at growth.new.slots.items)) o)
-        → CarriesTo limit (seen_from spot.now text) spot.now.at growth.old.threads.items
-        growth.old.entered.items
-        (waits start spot.now.at (reverse growth.old.stack.items) growth.old.slots.items
-        ++ below) best o }
-    ensures grown { IsGrown (size spot.now.course) spot.now.course.hi start spot.now.at
-        growth.old.threads growth.old.entered
-        growth.new.threads growth.new.entered }
-    ensures some { 0 < length growth.new.entered.items }
+    requires exploring { IsExploring spot.now growth.old }
+    ensures closes { Closes (seen_from spot.now text) spot.now.at start (closure_of growth.old)
+        result (closure_of growth.new) }
+    ensures grown { Grows spot.now start growth.old growth.new }
+    ensures exploring { IsExploring spot.now growth.new }
+    ensures falls { count_ended result + vec_len growth.new.stack
+        + 3 * length growth.old.entered.items
+        ≤ vec_len growth.old.stack + 3 * length growth.new.entered.items }
 {
     'frames: while let Some(frame) = growth.stack.pop() {
         match frame {
@@ -230,8 +210,8 @@ fn drain(spot: &Spot, start: usize, growth: &mut Growth) -> Option<usize>
 /// Follows all ways from `root` that read nothing, in order of preference, and appends a thread for
 /// each place that reads.
 ///
-/// Returns the pattern if a walk ends on the way. Then `slots` are that walk's, and the ways still
-/// to come are dropped.
+/// Returns the pattern if a walk ends on the way. Then `slots` are that walk's, and `drain` follows
+/// the ways still to come.
 #[inline(always)]
 pub fn close(spot: &Spot, root: usize, start: usize, growth: &mut Growth) -> Option<usize>
     ghost text: { Searched }
@@ -239,20 +219,10 @@ pub fn close(spot: &Spot, root: usize, start: usize, growth: &mut Growth) -> Opt
     requires root_in { root < size spot.now.course }
     requires sound { HasRoom (size spot.now.course) spot.now.course.hi spot.now.at
         growth.old.threads growth.old.entered }
-    ensures carries { (limit : Option ℕ) → IsUpTo spot.now.at limit
-        → (below : List (Trace × Pair)) (best o : Option Trace) → MatchOption result
-        (CarriesTo limit (seen_from spot.now text) spot.now.at growth.new.threads.items
-        growth.new.entered.items below best o)
-        (λ p. CarriesTo limit (seen_from spot.now text) spot.now.at growth.new.threads.items
-        growth.new.entered.items []
-        (Some (done p start spot.now.at growth.new.slots.items)) o)
-        → CarriesTo limit (seen_from spot.now text) spot.now.at growth.old.threads.items
-        growth.old.entered.items
-        ((trace start growth.old.slots.items, (root, spot.now.at)) ∷ below) best o }
-    ensures grown { IsGrown (size spot.now.course) spot.now.course.hi start spot.now.at
-        growth.old.threads growth.old.entered
-        growth.new.threads growth.new.entered }
-    ensures some { 0 < length growth.new.entered.items }
+    ensures closes { Closes (seen_from spot.now text) spot.now.at start
+        (closure_at root growth.old) result (closure_of growth.new) }
+    ensures grown { Grows spot.now start growth.old growth.new }
+    ensures exploring { IsExploring spot.now growth.new }
 {
     growth.stack.clear();
     if let Some(number) = enter(spot, root, start, growth) {

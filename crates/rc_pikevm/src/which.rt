@@ -1,6 +1,6 @@
 //! Overlapping search: which patterns have a match, by one pass of the Pike VM. A match drops no
 //! thread, and marks its pattern in a set.
-ghost use Rattle.std.specs.Prelude.{◌≡◌, ◌↔◌, ℕ, ◌+◌, ◌-◌, ◌*◌, ◌<◌, ◌≤◌, ◌⊎◌, ◌^◌, ⊤, false, IfSome, IsTrue, List, MatchOption, [], ◌∷◌, ◌++◌, length, map, min, reverse, slice_set, true, vec_len};
+ghost use Rattle.std.specs.Prelude.{◌≡◌, ◌↔◌, ℕ, ◌+◌, ◌-◌, ◌*◌, ◌<◌, ◌≤◌, ◌⊎◌, ◌^◌, ⊤, false, IfSome, IsTrue, List, MatchOption, [], ◌∷◌, ◌++◌, length, map, min, slice_set, true};
 ghost use Rattle.rc_text.specs.Text.{Searched, Keeps, low, high};
 ghost use Rattle.rc_text.specs.Limits.{greatest_pattern};
 ghost use Rattle.rc_pattern_set.specs.Sets.{Has};
@@ -12,20 +12,21 @@ ghost use Rattle.rc_program.specs.Places.{places_of};
 ghost use Rattle.rc_program.specs.Programs.{search_of};
 ghost use Rattle.rc_pikevm.specs.Caches.{IsCacheFor};
 ghost use Rattle.rc_pikevm.specs.Entrances.{IsShut};
+ghost use Rattle.rc_pikevm.specs.Explored.{Grows};
 ghost use Rattle.rc_pikevm.specs.Fronts.{HasOwnWays};
-ghost use Rattle.rc_pikevm.specs.Marking.{AreSame, Owed, SomeLeads, HasAll, HasNoneBefore, IsSettingOut, KeepsMarks, MarksFrom, MayBegin, entering, explored, going};
+ghost use Rattle.rc_pikevm.specs.Marking.{AreSame, Owed, SomeLeads, HasAll, HasNoneBefore, IsSettingOut, KeepsMarks, MarksFrom, MayBegin, entering, going};
 ghost use Rattle.rc_pikevm.specs.Moves.{IsSetting, seen, seen_by};
 ghost use Rattle.rc_pikevm.specs.Near.{IsHere, seen_from, size};
-ghost use Rattle.rc_pikevm.specs.Passing.{AllFrom, AllIn, AllInside, HasRoom, IsGrown, count_from};
+ghost use Rattle.rc_pikevm.specs.Passing.{AllFrom, AllIn, HasRoom, count_from};
 ghost use Rattle.rc_pikevm.specs.PatternSpans.{AddsSpelled, AreOfFirst};
 ghost use Rattle.rc_pikevm.specs.Scratches.{IsSame};
 ghost use Rattle.rc_pikevm.specs.Sparse.{Has as IsEntered};
 ghost use Rattle.rc_pikevm.specs.Underway.{IsInLine};
 
 use crate::cache::Cache;
-use crate::closure::enter;
-use crate::entrance::{is_shut, way_in};
-use crate::growth::{Frame, Growth};
+use crate::closure::{close, drain};
+use crate::entrance::is_shut;
+use crate::growth::Growth;
 use crate::pass::{is_done, next_position};
 use crate::scratch::Scratch;
 use crate::search::{bounds, starts_of};
@@ -50,41 +51,6 @@ fn mark(set: &mut PatternSet, number: usize)
     }
 }
 
-/// Enters a place, unless it was entered at this position before, and makes its transition. If a
-/// walk ends there, its pattern is marked.
-fn visit(spot: &Spot, place: usize, start: usize, set: &mut PatternSet, growth: &mut Growth)
-    ghost text: { Searched }
-    requires here { IsHere spot.now text }
-    requires place_in { place < size spot.now.course }
-    requires sound { HasRoom (size spot.now.course) spot.now.course.hi spot.now.at
-        growth.old.threads growth.old.entered }
-    requires width { growth.old.threads.width ≡ 0 }
-    requires frames { AllInside (size spot.now.course) 0 (reverse growth.old.stack.items) }
-    requires deep { vec_len growth.old.stack ≤ length growth.old.entered.items }
-    ensures same { (below : List Pair) → AreSame (length set.old)
-        (Owed (seen_from spot.now text) spot.now.at growth.old.threads.items
-        growth.old.entered.items
-        ((place, spot.now.at) ∷ (explored spot.now.at (reverse growth.old.stack.items)
-        ++ below)) set.old)
-        (Owed (seen_from spot.now text) spot.now.at growth.new.threads.items
-        growth.new.entered.items
-        (explored spot.now.at (reverse growth.new.stack.items) ++ below) set.new) }
-    ensures long { length set.new ≡ length set.old }
-    ensures more { KeepsMarks set.old set.new }
-    ensures grown { IsGrown (size spot.now.course) spot.now.course.hi start spot.now.at
-        growth.old.threads growth.old.entered
-        growth.new.threads growth.new.entered }
-    ensures some { 0 < length growth.new.entered.items }
-    ensures frames { AllInside (size spot.now.course) 0 (reverse growth.new.stack.items) }
-    ensures deep { vec_len growth.new.stack ≤ length growth.new.entered.items + 1 }
-    ensures falls { vec_len growth.new.stack + 3 * length growth.old.entered.items
-        ≤ vec_len growth.old.stack + 3 * length growth.new.entered.items }
-{
-    if let Some(number) = enter(spot, place, start, growth) {
-        mark(set, number);
-    }
-}
-
 /// Follows all ways from `root` that read nothing, appends a thread for each place that reads, and
 /// marks the pattern of each walk that ends. Choices of which one branch is shut are skipped.
 fn spread(spot: &Spot, root: usize, start: usize, set: &mut PatternSet, growth: &mut Growth)
@@ -101,20 +67,12 @@ fn spread(spot: &Spot, root: usize, start: usize, set: &mut PatternSet, growth: 
         growth.new.entered.items below set.new) }
     ensures long { length set.new ≡ length set.old }
     ensures more { KeepsMarks set.old set.new }
-    ensures grown { IsGrown (size spot.now.course) spot.now.course.hi start spot.now.at
-        growth.old.threads growth.old.entered
-        growth.new.threads growth.new.entered }
+    ensures grown { Grows spot.now start growth.old growth.new }
 {
-    growth.stack.clear();
-    visit(spot, root, start, set, growth);
-    'frames: while let Some(frame) = growth.stack.pop() {
-        match frame {
-            Frame::Explore(place) => {
-                let place = way_in(spot, place, &growth.entered);
-                visit(spot, place, start, set, growth);
-            }
-            Frame::Restore(_, _) => {}
-        }
+    let mut ended = close(spot, root, start, growth);
+    'ends: while let Some(number) = ended {
+        mark(set, number);
+        ended = drain(spot, start, growth);
     }
 }
 
@@ -204,9 +162,7 @@ fn set_out(spot: &Spot, end: usize, set: &mut PatternSet, growth: &mut Growth)
         growth.new.entered.items below set.new) }
     ensures long { length set.new ≡ length set.old }
     ensures more { KeepsMarks set.old set.new }
-    ensures grown { IsGrown (size spot.now.course) spot.now.course.hi spot.now.at spot.now.at
-        growth.old.threads growth.old.entered
-        growth.new.threads growth.new.entered }
+    ensures grown { Grows spot.now spot.now.at growth.old growth.new }
 {
     let rest = enter_each(spot, end, set, growth);
     spread(spot, rest, spot.at, set, growth);

@@ -1,42 +1,47 @@
-use Rattle.std.proofs.Common.{◌≡◌, List, [], ◌∷◌, ◌++◌, length, reverse, refl, sym, subst, arith, rules, None, Some}
+use Rattle.std.proofs.Common.{◌≡◌, List, [], ◌∷◌, length, reverse, refl, sym, ap, subst, arith, rules, None}
+use Rattle.std.proofs.lemmas.Option.{none-some}
+use Rattle.rc_pikevm.specs.Entrances.{stays_in}
+use Rattle.rc_pikevm.specs.Explored.{Explores, begins, enters, closure_at, closure_of}
 use Rattle.rc_pikevm.specs.Near.{seen_from, size}
-use Rattle.rc_pikevm.specs.Trace.{trace}
-use Rattle.rc_pikevm.specs.Passing.{CarriesTo, waits}
-use Rattle.rc_pikevm.proofs.VisitLemmas.{visited_carries}
+use Rattle.rc_pikevm.specs.declared.growth.Frame.TheVariants.{Explore}
+use Rattle.rc_pikevm.proofs.ExploredLemmas.{explores_then}
 use Rattle.rc_pikevm.proofs.GrownLemmas.{grown_then}
+use Rattle.rc_pikevm.proofs.closure.close.Given.{Over}
 use Rattle.rc_pikevm.proofs.closure.close.Goals as goal
+use Rattle.rc_pikevm.proofs.closure.close.Goals.{After-clear}
 
 none_left : {X : Type 0} (xs : List X) → length xs ≡ 0 → xs ≡ []
 none_left [] e = refl
 none_left (x ∷ xs) e = absurd (omega arith)
 
-pub returns-in-Some-clause-carries : goal.returns-in-Some-clause-carries
-returns-in-Some-clause-carries g c limit le below best o x =
-    subst (λ frames. CarriesTo limit (seen_from c.args.spot.now g.text) c.args.spot.now.at c.args.growth.now.threads.items c.args.growth.now.entered.items
-    ((trace c.args.start c.args.growth.now.slots.items, (c.args.root, c.args.spot.now.at)) ∷ (waits c.args.start c.args.spot.now.at (reverse frames) c.args.growth.now.slots.items ++ below)) best o)
-    c.clear.ensures.items
-    (visited_carries (seen_from c.args.spot.now g.text) c.args.spot.now.at c.args.root c.args.start
-    _ c.enter.new.growth limit le best o below (Some c.in-Some.number) c.in-Some.ensures.visited x)
+-- the stack is cleared before the place is entered
+begun : (g : Over) (c : After-clear g) → Explores (seen_from c.args.spot.now g.text) c.args.spot.now.at c.args.start
+    (closure_at c.args.root c.args.growth.now) None
+    (record (closure_of c.args.growth.now) { frames = Explore c.args.root ∷ reverse c.clear.new.self.items })
+begun g c =
+    subst (λ fs. Explores (seen_from c.args.spot.now g.text) c.args.spot.now.at c.args.start (closure_at c.args.root c.args.growth.now) None
+    (record (closure_of c.args.growth.now) { frames = Explore c.args.root ∷ reverse fs })) (sym c.clear.ensures.items) begins
 
-pub returns-then-is_empty-clause-carries : goal.returns-then-is_empty-clause-carries
-returns-then-is_empty-clause-carries g c limit le below best o x =
+pub returns-in-Some-clause-closes : goal.returns-in-Some-clause-closes
+returns-in-Some-clause-closes g c = record {
+  explores = enters (begun g (goal.at.returns-in-Some-clause-closes g c).After-clear) stays_in c.in-Some.ensures.visited;
+  empty = λ e. absurd (none-some c.in-Some.number (sym e));
+}
+
+pub returns-then-is_empty-clause-closes : goal.returns-then-is_empty-clause-closes
+returns-then-is_empty-clause-closes g c =
     let few : length c.enter.new.growth.stack.items ≡ 0 = search rules in
-    let none = none_left c.enter.new.growth.stack.items few in
-    subst (λ frames. CarriesTo limit (seen_from c.args.spot.now g.text) c.args.spot.now.at c.args.growth.now.threads.items c.args.growth.now.entered.items
-    ((trace c.args.start c.args.growth.now.slots.items, (c.args.root, c.args.spot.now.at)) ∷ (waits c.args.start c.args.spot.now.at (reverse frames) c.args.growth.now.slots.items ++ below)) best o)
-    c.clear.ensures.items
-    (visited_carries (seen_from c.args.spot.now g.text) c.args.spot.now.at c.args.root c.args.start
-    _ c.enter.new.growth limit le best o below None c.in_default.ensures.visited
-    (subst (λ frames. CarriesTo limit (seen_from c.args.spot.now g.text) c.args.spot.now.at c.enter.new.growth.threads.items c.enter.new.growth.entered.items
-    (waits c.args.start c.args.spot.now.at (reverse frames) c.enter.new.growth.slots.items ++ below) best o) (sym none) x))
+    record {
+      explores = enters (begun g (goal.at.returns-then-is_empty-clause-closes g c).After-clear) stays_in c.in_default.ensures.visited;
+      empty = λ _. ap reverse (none_left c.enter.new.growth.stack.items few);
+    }
 
-pub returns-clause-carries : goal.returns-clause-carries
-returns-clause-carries g c limit le below best o x =
-    subst (λ frames. CarriesTo limit (seen_from c.args.spot.now g.text) c.args.spot.now.at c.args.growth.now.threads.items c.args.growth.now.entered.items
-    ((trace c.args.start c.args.growth.now.slots.items, (c.args.root, c.args.spot.now.at)) ∷ (waits c.args.start c.args.spot.now.at (reverse frames) c.args.growth.now.slots.items ++ below)) best o)
-    c.clear.ensures.items
-    (visited_carries (seen_from c.args.spot.now g.text) c.args.spot.now.at c.args.root c.args.start
-    _ c.enter.new.growth limit le best o below None c.in_default.ensures.visited (c.drain.ensures.carries limit le below best o x))
+pub returns-clause-closes : goal.returns-clause-closes
+returns-clause-closes g c = record {
+  explores = explores_then (seen_from c.args.spot.now g.text) c.args.spot.now.at c.args.start
+      (enters (begun g (goal.at.returns-clause-closes g c).After-clear) stays_in c.in_default.ensures.visited) c.drain.ensures.closes.explores;
+  empty = c.drain.ensures.closes.empty;
+}
 
 pub returns-clause-grown : goal.returns-clause-grown
 returns-clause-grown g c =

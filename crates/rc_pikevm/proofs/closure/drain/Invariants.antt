@@ -1,14 +1,14 @@
-use Rattle.std.proofs.Common.{◌+◌, ◌-◌, ◌*◌, ◌≤◌, length, reverse, vec_len}
+use Rattle.std.proofs.Common.{◌+◌, ◌-◌, ◌*◌, ◌≤◌, length, vec_len, None}
+use Rattle.rc_pikevm.specs.Explored.{Explores, Grows, IsExploring, closure_of}
 use Rattle.rc_pikevm.specs.Near.{seen_from, size}
-use Rattle.rc_pikevm.specs.Passing.{IsClosing, waits}
 use Rattle.rc_pikevm.proofs.closure.drain.Given as goal
 
 abbrev pub invariant-frames : goal.invariant-frames
 invariant-frames g l = record {
-  closing : IsClosing (seen_from l.spot g.text) (size l.spot.course) l.spot.course.hi l.start l.spot.at
-      (waits l.start l.spot.at (reverse l.fn.growth.stack.items) l.fn.growth.slots.items) l.fn.growth.threads l.fn.growth.entered
-      l.growth.threads l.growth.entered (reverse l.growth.stack.items) l.growth.slots.items;
-  deep : vec_len l.growth.stack ≤ length l.growth.entered.items + 1;
+  explored : Explores (seen_from l.spot g.text) l.spot.at l.start (closure_of l.fn.growth) None (closure_of l.growth);
+  grown : Grows l.spot l.start l.fn.growth l.growth;
+  exploring : IsExploring l.spot l.growth;
+  falls : vec_len l.growth.stack + 3 * length l.fn.growth.entered.items ≤ vec_len l.fn.growth.stack + 3 * length l.growth.entered.items;
 }
 
 abbrev pub decreases-frames : goal.decreases-frames

@@ -2,6 +2,7 @@ use Rattle.std.proofs.Common.{ℕ, ◌+◌, ◌≤◌, ◌++◌, length, reverse
 use Rattle.std.proofs.lemmas.List.{length_push, length-map}
 use Rattle.rc_program.specs.Places.{place_of}
 use Rattle.rc_pikevm.specs.Sparse.{Members}
+use Rattle.rc_pikevm.specs.Explored.{Grows}
 use Rattle.rc_pikevm.specs.Near.{seen_from, size}
 use Rattle.rc_pikevm.specs.Passing.{IsGrown, IsMoveInside, resting_of}
 use Rattle.rc_pikevm.proofs.GrownLemmas.{gone_inside, grown_by, frames_inside}
@@ -44,8 +45,8 @@ move_in g c =
     (gone_inside (seen_from c.args.spot.now g.text) c.args.place c.args.spot.now.at c.act.ensures.acted.move
     c.args.spot.now.course.program.now.runnable.closed c.act.ensures.acted.goes)
 
-pub returns-clause-grown : goal.returns-clause-grown
-returns-clause-grown g c =
+grown : (g : Over) (c : After-act g) → Grows c.args.spot.now c.args.start c.args.growth.now c.act.new.growth
+grown g c =
     let n : ℕ = size c.args.spot.now.course in
     let a = c.act.ensures.acted in
     let few : length c.args.growth.now.entered.items + 1 ≤ n =
@@ -60,11 +61,22 @@ returns-clause-grown g c =
     (grown_by n c.args.spot.now.course.hi c.args.start c.args.spot.now.at c.args.place c.args.growth.now.slots.items a.move
     c.args.growth.now.threads c.args.growth.now.entered (seen_from c.args.spot.now g.text)
     (sym c.requires.0.setting.bound) c.requires.1.1.0 few a.goes
-    (move_in g (goal.at.returns-clause-grown g c).After-act)))
+    (move_in g c)))
 
-pub returns-clause-frames : goal.returns-clause-frames
-returns-clause-frames g c =
-    rw (c.act.ensures.acted.made.threads, c.act.ensures.acted.made.frames)
-    (frames_inside (size c.args.spot.now.course) c.args.growth.now.threads.width c.args.growth.now.slots.items c.act.ensures.acted.move
-    (reverse c.args.growth.now.stack.items) c.args.growth.now.wide.0
-    (move_in g (goal.at.returns-clause-frames g c).After-act) c.requires.1.1.1.0)
+pub returns-clause-grown : goal.returns-clause-grown
+returns-clause-grown g c = grown g (goal.at.returns-clause-grown g c).After-act
+
+pub returns-clause-exploring : goal.returns-clause-exploring
+returns-clause-exploring g c =
+    let a = c.act.ensures.acted in
+    let after = (goal.at.returns-clause-exploring g c).After-act in
+    let more = ap (λ (m : Members). length m.items) (a.made.entered ∙ c.if-not-insert.ensures.after)
+    ∙ length_push c.args.growth.now.entered.items c.args.place in
+    record {
+      sound = (grown g after).sound;
+      some = omega (arith, more);
+      frames = rw (a.made.threads, a.made.frames)
+          (frames_inside (size c.args.spot.now.course) c.args.growth.now.threads.width c.args.growth.now.slots.items a.move
+          (reverse c.args.growth.now.stack.items) c.args.growth.now.wide.0 (move_in g after) c.requires.1.1.1.0);
+      deep = omega (arith, more, c.act.ensures.deep, c.requires.1.1.1.1);
+    }

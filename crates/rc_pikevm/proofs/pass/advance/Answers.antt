@@ -1,9 +1,10 @@
-use Rattle.std.proofs.Common.{◌≡◌, ℕ, ◌+◌, List, ◌∷◌, sym, ap, subst, ◌∙◌, arith, None, replicate}
+use Rattle.std.proofs.Common.{◌≡◌, ℕ, ◌+◌, List, ◌∷◌, sym, ap, subst, ◌∙◌, arith, Some, None, replicate}
 use Rattle.rc_walks.specs.Walks.{Pair}
 use Rattle.rc_pikevm.specs.Near.{seen_from}
 use Rattle.rc_pikevm.specs.Trace.{Trace, trace}
 use Rattle.rc_pikevm.specs.Passing.{CarriesTo, pairs, waiting_starts}
 use Rattle.rc_pikevm.proofs.EntranceLemmas.{carries_in}
+use Rattle.rc_pikevm.proofs.ExploredLemmas.{closed_carries}
 use Rattle.rc_pikevm.proofs.StartLemmas.{waiting_next}
 use Rattle.rc_pikevm.proofs.AloneLemmas.{quiet_start}
 use Rattle.rc_pikevm.proofs.pass.advance.Goals as goal
@@ -38,7 +39,7 @@ returns-in-Some-close-clause-carries g c limit le free best o x =
     ((trace at l, (0, at)) ∷ rest) best o) slots
     (carries_in (seen_from c.args.spot.now g.text) at limit le c.step.new.growth.threads.items c.step.new.growth.entered.items best o
     (trace at c.empty.new.slots.items) rest c.way_in-place.ensures.way
-    (c.in-Some-close.ensures.carries limit le rest best o x))))
+    (closed_carries (seen_from c.args.spot.now g.text) at at limit le best o rest (Some c.in-Some-close.number) c.in-Some-close.ensures.closes x))))
 
 pub returns-clause-carries : goal.returns-clause-carries
 returns-clause-carries g c limit le free best o x =
@@ -55,7 +56,7 @@ returns-clause-carries g c limit le free best o x =
     ((trace at l, (0, at)) ∷ rest) best o) slots
     (carries_in (seen_from c.args.spot.now g.text) at limit le c.step.new.growth.threads.items c.step.new.growth.entered.items best o
     (trace at c.empty.new.slots.items) rest c.way_in-place.ensures.way
-    (c.in_default-close.ensures.carries limit le rest best o x))))
+    (closed_carries (seen_from c.args.spot.now g.text) at at limit le best o rest None c.in_default-close.ensures.closes x))))
 
 pub returns-then-is_dead-clause-carries : goal.returns-then-is_dead-clause-carries
 returns-then-is_dead-clause-carries g c limit le free best o x =

@@ -1,10 +1,11 @@
-use Rattle.std.proofs.Common.{◌≡◌, ℕ, ◌+◌, List, [], ◌∷◌, sym, ap, subst, ◌∙◌, arith, None, replicate}
+use Rattle.std.proofs.Common.{◌≡◌, ℕ, ◌+◌, List, [], ◌∷◌, sym, ap, subst, ◌∙◌, arith, Some, None, replicate}
 use Rattle.rc_walks.specs.Walks.{Pair}
 use Rattle.rc_pikevm.specs.Near.{seen_from}
 use Rattle.rc_pikevm.specs.Sights.{Sight}
 use Rattle.rc_pikevm.specs.Trace.{Trace, trace}
 use Rattle.rc_pikevm.specs.Passing.{AllFrom, CarriesTo, waiting_starts}
 use Rattle.rc_pikevm.proofs.EntranceLemmas.{carries_in}
+use Rattle.rc_pikevm.proofs.ExploredLemmas.{closed_carries}
 use Rattle.rc_pikevm.proofs.RootLemmas.{carries_root_to}
 use Rattle.rc_pikevm.proofs.StartLemmas.{waiting_next}
 use Rattle.rc_pikevm.proofs.pass.set_out.Goals as goal
@@ -28,7 +29,7 @@ returns-in-Some-clause-carries g c limit le free best o x =
     (carries_root_to limit s c.args.root c.requires.1.1.1.1.1 free (trace at (replicate width None)) at rest best o c.requires.0.near.within
     (subst (λ l. CarriesTo limit s at [] [] ((trace at l, (c.args.root, at)) ∷ rest) best o) slots
     (rw (c.requires.1.0.0, c.requires.1.0.1) at (carries_in s at limit le c.args.growth.now.threads.items c.args.growth.now.entered.items best o (trace at c.empty.new.slots.items) rest c.way_in-place.ensures.way
-    (c.in-Some.ensures.carries limit le rest best o x)))))
+    (closed_carries s at at limit le best o rest (Some c.in-Some.number) c.in-Some.ensures.closes x)))))
 
 pub returns-clause-carries : goal.returns-clause-carries
 returns-clause-carries g c limit le free best o x =
@@ -43,4 +44,4 @@ returns-clause-carries g c limit le free best o x =
     (carries_root_to limit s c.args.root c.requires.1.1.1.1.1 free (trace at (replicate width None)) at rest best o c.requires.0.near.within
     (subst (λ l. CarriesTo limit s at [] [] ((trace at l, (c.args.root, at)) ∷ rest) best o) slots
     (rw (c.requires.1.0.0, c.requires.1.0.1) at (carries_in s at limit le c.args.growth.now.threads.items c.args.growth.now.entered.items best o (trace at c.empty.new.slots.items) rest c.way_in-place.ensures.way
-    (c.in_default.ensures.carries limit le rest best o x)))))
+    (closed_carries s at at limit le best o rest None c.in_default.ensures.closes x)))))

@@ -1,9 +1,10 @@
-use Rattle.std.proofs.Common.{◌+◌, ◌<◌, sym, arith, length-drop, inl, inr, ⊎_elim, min}
+use Rattle.std.proofs.Common.{◌+◌, ◌<◌, sym, arith, length-drop, inl, inr, ⊎_elim, min, Some, None}
 use Rattle.rc_pikevm.specs.Sights.{Sight}
 use Rattle.rc_pikevm.specs.Near.{seen_from, size}
 use Rattle.rc_pikevm.specs.Threads.{thread_of}
 use Rattle.rc_pikevm.specs.Trace.{trace}
 use Rattle.rc_pikevm.proofs.EntranceLemmas.{carries_in}
+use Rattle.rc_pikevm.proofs.ExploredLemmas.{closed_carries}
 use Rattle.rc_pikevm.proofs.StepLemmas.{in_at, from_at, has_room, stepping_waits, stepping_closes, stepping_ends}
 use Rattle.rc_pikevm.proofs.pass.step.Goals as goal
 
@@ -49,7 +50,7 @@ returns-in-Some-clause-carries g c limit le below best o x =
     (omega (arith, c.if-head-spot.false)) (sym c.copy_row.ensures.items)
     (λ limit le below best o x. carries_in s c.args.spot.now.at limit le c.threads.growth.threads.items c.threads.growth.entered.items best o
     (trace c.get.result.0.start c.copy_row.new.slots.items) below c.way_in-place.ensures.way
-    (c.in-Some.ensures.carries limit le below best o x))
+    (closed_carries s c.args.spot.now.at c.get.result.0.start limit le best o below (Some c.in-Some.number) c.in-Some.ensures.closes x))
     limit le below best o x
 
 pub returns-in-Some-clause-begun : goal.returns-in-Some-clause-begun
@@ -59,7 +60,7 @@ returns-in-Some-clause-begun g c x h =
 
 pub returns-in-Some-clause-ended : goal.returns-in-Some-clause-ended
 returns-in-Some-clause-ended g c = (
-  c.in-Some.ensures.some,
+  c.in-Some.ensures.exploring.some,
   λ x h. from_at x c.args.curr.now.items c.threads.index (thread_of c.get.result.0 c.get.result.1.now) h c.get.ensures.item,
 )
 
@@ -73,6 +74,6 @@ threads-preserved g c =
           (omega (arith, c.if-head-spot.false)) (sym c.copy_row.ensures.items)
           (λ limit le below best o x. carries_in s c.args.spot.now.at limit le c.threads.growth.threads.items c.threads.growth.entered.items best o
           (trace c.get.result.0.start c.copy_row.new.slots.items) below c.way_in-place.ensures.way
-          (c.in_default.ensures.carries limit le below best o x))
-          c.in_default.ensures.grown c.in_default.ensures.some;
+          (closed_carries s c.args.spot.now.at c.get.result.0.start limit le best o below None c.in_default.ensures.closes x))
+          c.in_default.ensures.grown c.in_default.ensures.exploring.some;
     }

@@ -1,38 +1,64 @@
-use Rattle.std.proofs.Common.{◌≡◌, List, [], ◌∷◌, ◌++◌, length, reverse, refl, sym, subst, arith, rules}
+use Rattle.std.proofs.Common.{◌≡◌, ◌++◌, sym, ap, subst, arith, rules, refl, None}
+use Rattle.rc_pikevm.specs.Explored.{count_ended}
 use Rattle.rc_pikevm.specs.Near.{seen_from, size}
-use Rattle.rc_pikevm.specs.Trace.{trace}
 use Rattle.rc_pikevm.specs.Passing.{waits}
-use Rattle.rc_pikevm.specs.Races.{Races}
+use Rattle.rc_pikevm.specs.Races.{Races, IsRecorded}
+use Rattle.rc_pikevm.specs.declared.pass.Ending.{Ending}
+use Rattle.rc_pikevm.proofs.ExploredLemmas.{Records, explored_races, recorded_sought, recorded_counted}
 use Rattle.rc_pikevm.proofs.GrownLemmas.{grown_then}
+use Rattle.rc_pikevm.proofs.race_closure.run.Given.{Over}
 use Rattle.rc_pikevm.proofs.race_closure.run.Goals as goal
+use Rattle.rc_pikevm.proofs.race_closure.run.Goals.{After-record}
 
-none_left : {X : Type 0} (xs : List X) → length xs ≡ 0 → xs ≡ []
-none_left [] e = refl
-none_left (x ∷ xs) e = absurd (omega arith)
+pub ends-init : goal.ends-init
+ends-init g c = record {
+  races = λ best found r all below x.
+      explored_races (seen_from c.args.spot.now g.text) c.args.spot.now.at c.args.start all below c.args.best.now c.args.found.now c.requires.1.1.1.0
+      c.close-ended.ensures.closes.explores best found r x;
+  empty = c.close-ended.ensures.closes.empty;
+  sought = c.requires.1.1.1.0;
+  counted = λ k h x. x;
+  grown = c.close-ended.ensures.grown;
+  exploring = c.close-ended.ensures.exploring;
+}
 
-pub returns-then-not-is_empty-clause-races : goal.returns-then-not-is_empty-clause-races
-returns-then-not-is_empty-clause-races g c all below x =
-    c.drain.ensures.races all below
-    (c.visit.ensures.races all below
-    (subst (λ frames. Races (seen_from c.args.spot.now g.text) all c.args.spot.now.at c.args.growth.now.threads.items c.args.growth.now.entered.items
-    ((trace c.args.start c.args.growth.now.slots.items, (c.args.root, c.args.spot.now.at))
-    ∷ (waits c.args.start c.args.spot.now.at (reverse frames) c.args.growth.now.slots.items ++ below)) c.args.best.now c.args.found.now)
-    (sym c.clear.ensures.items) x))
+recorded : (g : Over) (c : After-record g) → IsRecorded c.ends.best c.ends.found
+    (record { pattern = c.in-Some.pattern; start = c.args.start; end = c.args.spot.now.at }) c.ends.growth.slots.items c.record.new.best c.record.new.found
+recorded g c = rw c.deref.ensures.value at c.record.ensures
 
-pub returns-then-not-is_empty-clause-grown : goal.returns-then-not-is_empty-clause-grown
-returns-then-not-is_empty-clause-grown g c =
-    grown_then (size c.args.spot.now.course) c.args.spot.now.course.hi c.args.start c.args.spot.now.at c.args.growth.now.threads c.visit.new.growth.threads
-    c.drain.new.growth.threads c.args.growth.now.entered c.visit.new.growth.entered c.drain.new.growth.entered c.visit.ensures.grown
-    c.drain.ensures.grown
+pub ends-smaller : goal.ends-smaller
+ends-smaller g c =
+    let one = ap count_ended c.in-Some.is in
+    let grown = c.drain-ended.ensures.grown in
+    omega (arith, one, c.drain-ended.ensures.falls, grown.more, grown.sound.few)
 
-pub returns-else-not-is_empty-clause-races : goal.returns-else-not-is_empty-clause-races
-returns-else-not-is_empty-clause-races g c all below x =
-    let few : length c.visit.new.growth.stack.items ≡ 0 = search rules in
-    let none = none_left c.visit.new.growth.stack.items few in
-    subst (λ frames. Races (seen_from c.args.spot.now g.text) all c.args.spot.now.at c.visit.new.growth.threads.items c.visit.new.growth.entered.items
-    (waits c.args.start c.args.spot.now.at (reverse frames) c.visit.new.growth.slots.items ++ below) c.visit.new.best c.visit.new.found) none
-    (c.visit.ensures.races all below
-    (subst (λ frames. Races (seen_from c.args.spot.now g.text) all c.args.spot.now.at c.args.growth.now.threads.items c.args.growth.now.entered.items
-    ((trace c.args.start c.args.growth.now.slots.items, (c.args.root, c.args.spot.now.at))
-    ∷ (waits c.args.start c.args.spot.now.at (reverse frames) c.args.growth.now.slots.items ++ below)) c.args.best.now c.args.found.now)
-    (sym c.clear.ensures.items) x))
+pub ends-preserved : goal.ends-preserved
+ends-preserved g c =
+    let s = seen_from c.args.spot.now g.text in
+    let inv = c.ends.invariant in
+    let r = recorded g (goal.at.ends-preserved g c).After-record in
+    let new : Ending = record { pattern = c.in-Some.pattern; start = c.args.start; end = c.args.spot.now.at } in
+    let sought = recorded_sought c.ends.best c.ends.found new c.ends.growth.slots.items c.record.new.best c.record.new.found r inv.sought in
+    record {
+      races = λ best found later all below x.
+          explored_races s c.args.spot.now.at c.args.start all below c.record.new.best c.record.new.found sought c.drain-ended.ensures.closes.explores best found later
+          (inv.races c.record.new.best c.record.new.found
+          (subst (λ t. Records c.args.start c.args.spot.now.at t c.ends.growth.slots.items c.ends.best c.ends.found c.record.new.best c.record.new.found)
+          (sym c.in-Some.is) r) all below x);
+      empty = c.drain-ended.ensures.closes.empty;
+      sought = sought;
+      counted = λ k h x. recorded_counted c.ends.best c.ends.found new c.ends.growth.slots.items c.record.new.best c.record.new.found r k h (inv.counted k h x);
+      grown = grown_then (size c.args.spot.now.course) c.args.spot.now.course.hi c.args.start c.args.spot.now.at c.args.growth.now.threads c.ends.growth.threads
+          c.drain-ended.new.growth.threads c.args.growth.now.entered c.ends.growth.entered c.drain-ended.new.growth.entered inv.grown c.drain-ended.ensures.grown;
+      exploring = c.drain-ended.ensures.exploring;
+    }
+
+pub returns-clause-races : goal.returns-clause-races
+returns-clause-races g c all below x =
+    let none : c.ends.ended ≡ None = search rules in
+    let inv = c.ends.invariant in
+    subst (λ f. Races (seen_from c.args.spot.now g.text) all c.args.spot.now.at c.ends.growth.threads.items c.ends.growth.entered.items
+    (waits c.args.start c.args.spot.now.at f c.ends.growth.slots.items ++ below) c.ends.best c.ends.found) (inv.empty none)
+    (inv.races c.ends.best c.ends.found
+    (subst (λ t. Records c.args.start c.args.spot.now.at t c.ends.growth.slots.items c.ends.best c.ends.found c.ends.best c.ends.found) (sym none) (refl, refl))
+    all below x)

@@ -1,37 +1,56 @@
-use Rattle.std.proofs.Common.{◌≡◌, ℕ, [], ◌++◌, reverse, sym, subst, rules}
+use Rattle.std.proofs.Common.{◌≡◌, ◌++◌, Some, None, ⊎_elim, sym, ap, subst, ◌∙◌, arith, rules, refl}
+use Rattle.rc_pikevm.specs.Explored.{count_ended}
 use Rattle.rc_pikevm.specs.Near.{seen_from, size}
+use Rattle.rc_pikevm.specs.Passing.{IsCounted}
 use Rattle.rc_pikevm.specs.Spread.{Seeks, runners_of}
+use Rattle.rc_pikevm.specs.declared.pass.Ending.{Ending}
+use Rattle.rc_pikevm.proofs.ExploredLemmas.{Greatens, explored_ordered, explored_seeks}
 use Rattle.rc_pikevm.proofs.GrownLemmas.{grown_then}
-use Rattle.rc_pikevm.proofs.EnteredLemmas.{popped}
 use Rattle.rc_pikevm.proofs.spread.spread.Goals as goal
 
-pub frames-preserved-in-Explore : goal.frames-preserved-in-Explore
-frames-preserved-in-Explore g c =
-    let at : ℕ = c.args.spot.now.at in
-    let start : ℕ = c.args.start in
-    let inv = c.frames.invariant.spread in
-    let frames = popped c.frames.growth.stack.items c.pop.new.self.items c.in-Some.frame c.in-Explore.place c.in-Some.ensures.items c.in-Explore.is in
+pub ends-init : goal.ends-init
+ends-init g c = record {
+  seeks = λ best r below o low x.
+      explored_seeks (seen_from c.args.spot.now g.text) c.args.spot.now.at c.args.start below low o c.close-ended.ensures.closes.explores c.requires.1.1.1.1
+      c.args.best.now best r x;
+  empty = c.close-ended.ensures.closes.empty;
+  ordered = explored_ordered (seen_from c.args.spot.now g.text) c.args.spot.now.at c.args.start c.close-ended.ensures.closes.explores c.requires.1.1.1.1
+      c.requires.1.1.1.0;
+  counted = λ k h x. x;
+  grown = c.close-ended.ensures.grown;
+  exploring = c.close-ended.ensures.exploring;
+}
+
+pub ends-smaller : goal.ends-smaller
+ends-smaller g c =
+    let one = ap count_ended c.in-Some.is in
+    let grown = c.drain-ended.ensures.grown in
+    omega (arith, one, c.drain-ended.ensures.falls, grown.more, grown.sound.few)
+
+pub ends-preserved : goal.ends-preserved
+ends-preserved g c =
+    let s = seen_from c.args.spot.now g.text in
+    let inv = c.ends.invariant in
+    let narrow = inv.grown.same_width ∙ c.requires.1.1.1.1 in
+    let r = c.greater.ensures in
     record {
-      spread = record {
-        seeks = λ below o low x.
-            inv.seeks below o low
-            (subst (λ f. Seeks (seen_from c.args.spot.now g.text) at c.frames.growth.threads.items c.frames.growth.entered.items
-            (runners_of start at f ++ below) c.frames.best o) (sym frames)
-            (c.visit-in-Explore.ensures.seeks below o low x));
-        grown = grown_then (size c.args.spot.now.course) c.args.spot.now.course.hi start at c.args.growth.now.threads c.frames.growth.threads c.visit-in-Explore.new.growth.threads
-            c.args.growth.now.entered c.frames.growth.entered c.visit-in-Explore.new.growth.entered inv.grown c.visit-in-Explore.ensures.grown;
-        ordered = c.visit-in-Explore.ensures.ordered;
-        counted = λ k h x. c.visit-in-Explore.ensures.counted k h (inv.counted k h x);
-        some = c.visit-in-Explore.ensures.some;
-        frames_in = c.visit-in-Explore.ensures.frames;
-      };
-      width = search rules;
-      deep = search rules;
+      seeks = λ best later below o low x.
+          inv.seeks (Some c.greater.result) (subst (λ t. Greatens c.args.start c.args.spot.now.at t c.ends.best (Some c.greater.result)) (sym c.in-Some.is)
+          (c.greater.result, refl, r)) below o low
+          (explored_seeks s c.args.spot.now.at c.args.start below low o c.drain-ended.ensures.closes.explores narrow (Some c.greater.result) best later x);
+      empty = c.drain-ended.ensures.closes.empty;
+      ordered = explored_ordered s c.args.spot.now.at c.args.start c.drain-ended.ensures.closes.explores narrow inv.ordered;
+      counted = λ k h x.
+          ⊎_elim (λ e. subst (λ (r : Ending). IsCounted k (Some r)) (sym e) h) (λ e. subst (IsCounted k) e (inv.counted k h x)) r.one;
+      grown = grown_then (size c.args.spot.now.course) c.args.spot.now.course.hi c.args.start c.args.spot.now.at c.args.growth.now.threads c.ends.growth.threads
+          c.drain-ended.new.growth.threads c.args.growth.now.entered c.ends.growth.entered c.drain-ended.new.growth.entered inv.grown c.drain-ended.ensures.grown;
+      exploring = c.drain-ended.ensures.exploring;
     }
 
 pub returns-clause-seeks : goal.returns-clause-seeks
 returns-clause-seeks g c below o low x =
-    let none : c.frames.growth.stack.items ≡ [] = search rules in
-    c.frames.invariant.spread.seeks below o low
-    (subst (λ fs. Seeks (seen_from c.args.spot.now g.text) c.args.spot.now.at c.frames.growth.threads.items c.frames.growth.entered.items
-    (runners_of c.args.start c.args.spot.now.at (reverse fs) ++ below) c.frames.best o) (sym none) x)
+    let none : c.ends.ended ≡ None = search rules in
+    let inv = c.ends.invariant in
+    inv.seeks c.ends.best (subst (λ t. Greatens c.args.start c.args.spot.now.at t c.ends.best c.ends.best) (sym none) refl) below o low
+    (subst (λ f. Seeks (seen_from c.args.spot.now g.text) c.args.spot.now.at c.ends.growth.threads.items c.ends.growth.entered.items
+    (runners_of c.args.start c.args.spot.now.at f ++ below) c.ends.best o) (sym (inv.empty none)) x)

@@ -1,4 +1,0 @@
-use Rattle.rc_pikevm.proofs.race_closure.visit.Given as goal
-
-abbrev pub ghost-enter : goal.ghost-enter
-ghost-enter g a = g.text
