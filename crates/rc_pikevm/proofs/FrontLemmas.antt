@@ -20,7 +20,7 @@ module _ (s : Sight) (n hi at : ℕ) (threads0 : ThreadList) (entered0 : Members
     same = λ below p low. (λ h. h, λ h. h);
     long = refl;
     more = λ p h. h;
-    grown = grown_same n hi at at threads0 entered0 sound;
+    grown = grown_same sound;
   }
 
   module _ (q a b : ℕ) (threads : ThreadList) (entered : Members) (set : List Bool)
@@ -39,7 +39,7 @@ module _ (s : Sight) (n hi at : ℕ) (threads0 : ThreadList) (entered0 : Members
           (closing ((b, at) ∷ below) p (low_in p set0 set so_far.long low)));
       long = long ∙ so_far.long;
       more = λ p h. more p (so_far.more p h);
-      grown = grown_then n hi at at threads0 threads threads2 entered0 entered entered2 so_far.grown grown;
+      grown = grown_then so_far.grown grown;
     }
 
     -- it is left out
@@ -47,4 +47,4 @@ module _ (s : Sight) (n hi at : ℕ) (threads0 : ThreadList) (entered0 : Members
         IsSettingOut s n hi at b threads0 entered0 set0 threads entered set
     way_left_out number idle own =
         way_set_out threads entered set (λ below p low. owed_idle s p at set threads.items entered.items below a number idle own)
-        refl (λ p h. h) (grown_same n hi at at threads entered so_far.grown.sound)
+        refl (λ p h. h) (grown_same so_far.grown.sound)

@@ -87,9 +87,9 @@ from_push x [] t all h = (h, tt)
 from_push x (u ∷ ts) t all h = (all.0, from_push x ts t all.1 h)
 
 -- nothing happens
-pub grown_same : (n hi start at : ℕ) (threads : ThreadList) (entered : Members) → HasRoom n hi at threads entered →
+pub grown_same : {n hi start at : ℕ} {threads : ThreadList} {entered : Members} → HasRoom n hi at threads entered →
     IsGrown n hi start at threads entered threads entered
-grown_same n hi start at threads entered sound = record {
+grown_same sound = record {
   sound = sound;
   same_room = refl;
   same_most = refl;
@@ -99,10 +99,10 @@ grown_same n hi start at threads entered sound = record {
   begun = λ x h all. all;
 }
 
-pub grown_then : (n hi start at : ℕ) (threads0 threads1 threads2 : ThreadList) (entered0 entered1 entered2 : Members) →
+pub grown_then : {n hi start at : ℕ} {threads0 threads1 threads2 : ThreadList} {entered0 entered1 entered2 : Members} →
     IsGrown n hi start at threads0 entered0 threads1 entered1 → IsGrown n hi start at threads1 entered1 threads2 entered2 →
     IsGrown n hi start at threads0 entered0 threads2 entered2
-grown_then n hi start at threads0 threads1 threads2 entered0 entered1 entered2 a b = record {
+grown_then a b = record {
   sound = b.sound;
   same_room = b.same_room ∙ a.same_room;
   same_most = b.same_most ∙ a.same_most;

@@ -1,8 +1,7 @@
 -- The threads of one position, and all positions, of a pass that marks patterns.
-use Rattle.std.proofs.Common.{◌≡◌, ◌↔◌, ℕ, zero, suc, ◌+◌, ◌-◌, ◌*◌, ◌<◌, ◌≤◌, ◌⊎◌, Bool, true, List, [], ◌∷◌, ◌++◌, length, map, drop, min, inl, inr, ⊎_elim, sym, subst, ap, ◌∙◌, refl, arith, Some, if◌then◌else◌, nat_le, slice_get, add-one, IsTrue}
+use Rattle.std.proofs.Common.{◌≡◌, ◌↔◌, ℕ, zero, suc, ◌+◌, ◌-◌, ◌*◌, ◌<◌, ◌≤◌, ◌⊎◌, Bool, true, List, [], ◌∷◌, ◌++◌, length, map, drop, min, inl, inr, ⊎_elim, sym, subst, ap, ◌∙◌, refl, arith, Some, slice_get, IsTrue}
 use Rattle.std.proofs.Math.Nat.{mul-le-mul_left, mul-le-mul_right}
-use Rattle.std.proofs.lemmas.Bool.{cases_lt, le-leb}
-use Rattle.std.proofs.lemmas.List.{length_push}
+use Rattle.std.proofs.lemmas.Bool.{cases_lt}
 use Rattle.std.proofs.lemmas.Option.{slice_get_within}
 use Rattle.rc_text.specs.Found.{Found}
 use Rattle.rc_pattern_set.specs.Sets.{Has}
@@ -20,10 +19,9 @@ use Rattle.rc_pikevm.specs.Sights as sights
 use Rattle.rc_pikevm.specs.Sights.{HasNoWalkFrom, Sight, sight_of}
 use Rattle.rc_pikevm.specs.Sparse.{Members}
 use Rattle.rc_pikevm.specs.Threads.{Thread, ThreadList}
-use Rattle.rc_pikevm.proofs.GrownLemmas.{count_push, count_all, in_push, from_push}
 use Rattle.rc_pikevm.proofs.MarkLemmas.{AllLater}
 use Rattle.rc_pikevm.proofs.MarkMoveLemmas.{same_then, later_waits, low_in, middle}
-use Rattle.rc_pikevm.proofs.StepLemmas.{drop_get, in_at, from_at}
+use Rattle.rc_pikevm.proofs.StepLemmas.{gone_begins, gone_closes, gone_waits, next_left, waits_here}
 
 pub entries_later : (s : Sight) (p at x count : ℕ) → at < x → AllLater s p at (entries x count)
 entries_later s p at x zero h = tt
@@ -77,62 +75,24 @@ module _ (s : Sight) (n hi at : ℕ) (all : List Thread) (threads0 : ThreadList)
     same = λ below p low. rw (no_threads, no_places) (λ h. h, λ h. h);
     long = refl;
     more = λ p h. h;
-    sound = record {
-      capacity = capacity;
-      few = rw no_places (omega arith);
-      room = rw (no_threads, no_places) (omega (arith, room));
-      inside = rw no_threads tt;
-    };
-    same_room = refl;
-    same_most = refl;
-    same_width = refl;
-    counts = λ q. rw (no_threads, no_places) (omega arith);
-    begun = λ x h. rw no_threads tt;
+    gone = gone_begins no_threads no_places capacity room;
   }
 
   module _ (threads : ThreadList) (entered : Members) (set : List Bool) (index : ℕ) (t : Thread) (item : slice_get all index ≡ Some t)
       (inside : AllIn n at (min hi (at + 3)) all) (so_far : IsMarkingOn s n hi at all (drop index all) threads0 set0 threads entered set) where
-    here : drop index all ≡ t ∷ drop (index + 1) all
-    here = drop_get all index t item ∙ ap (λ k. t ∷ drop k all) (sym (add-one index))
-
-    counted : (q : ℕ) → count_from q threads.items + ((if nat_le q t.at then 1 else 0) + count_from q (drop (index + 1) all)) ≤ count_from q all + length entered.items
-    counted q = subst (λ ts. count_from q threads.items + count_from q ts ≤ count_from q all + length entered.items) here (so_far.counts q)
-
-    -- there is room for a thread that waits
-    pub marks_fit : at < t.at → count_from (at + 1) all + n ≤ threads0.room → length threads.items < threads.room
-    marks_fit later room =
-        let c = rw (le-leb (at + 1) t.at (omega arith)) at (counted (at + 1)) in
-        let l = count_all n (at + 1) (min hi (at + 4)) (at + 1) threads.items so_far.sound.inside (omega arith) in
-        omega (arith, c, l, so_far.same_room, so_far.sound.few)
-
     -- a thread that goes on later waits
-    pub marking_waits : (threads2 : ThreadList) → at < t.at → length threads.items < threads.room →
-        count_from (at + 1) all + n ≤ threads0.room →
+    pub marking_waits : (threads2 : ThreadList) → at < t.at → count_from (at + 1) all + n ≤ threads0.room →
         threads2 ≡ record threads { items = threads.items ++ t ∷ [] } →
         IsMarkingOn s n hi at all (drop (index + 1) all) threads0 set0 threads2 entered set
-    marking_waits threads2 later fits room e = rw e (record {
+    marking_waits threads2 later room e = rw e (record {
       same = λ below p low.
           same_then (so_far.same below p low)
           (subst (λ ts. Owed s at threads.items entered.items (map going ts ++ below) set p
-          ↔ Owed s at (threads.items ++ t ∷ []) entered.items (map going (drop (index + 1) all) ++ below) set p) (sym here)
+          ↔ Owed s at (threads.items ++ t ∷ []) entered.items (map going (drop (index + 1) all) ++ below) set p) (sym (next_left index item inside so_far.gone))
           (later_waits s p at set threads.items entered.items t (map going (drop (index + 1) all) ++ below) later));
       long = so_far.long;
       more = so_far.more;
-      sound = record {
-        capacity = so_far.sound.capacity;
-        few = so_far.sound.few;
-        room = rw length_push (
-            let c = rw (le-leb (at + 1) t.at (omega arith)) at (counted (at + 1)) in
-            let l = count_all n (at + 1) (min hi (at + 4)) (at + 1) threads.items so_far.sound.inside (omega arith) in
-            omega (arith, c, l, so_far.same_room));
-        inside = let i = in_at n at (min hi (at + 3)) all index t inside item in
-            in_push n (at + 1) (min hi (at + 4)) threads.items t so_far.sound.inside (i.0, omega (arith, later), omega (arith, i.2));
-      };
-      same_room = so_far.same_room;
-      same_most = so_far.same_most;
-      same_width = so_far.same_width;
-      counts = λ q. let c = counted q in let p = count_push q threads.items t in omega (arith, c, p);
-      begun = λ x h. from_push x threads.items t (so_far.begun x h) (from_at x all index t h item);
+      gone = gone_waits index item inside so_far.gone later room;
     })
 
     -- a thread goes on here
@@ -145,19 +105,14 @@ module _ (s : Sight) (n hi at : ℕ) (all : List Thread) (threads0 : ThreadList)
       same = λ below p low.
           same_then (so_far.same below p low)
           (subst (λ ts. Owed s at threads.items entered.items (map going ts ++ below) set p
-          ↔ Owed s at threads2.items entered2.items (map going (drop (index + 1) all) ++ below) set2 p) (sym here)
+          ↔ Owed s at threads2.items entered2.items (map going (drop (index + 1) all) ++ below) set2 p) (sym (next_left index item inside so_far.gone))
           (subst (λ x. Owed s at threads.items entered.items ((t.place, x) ∷ (map going (drop (index + 1) all) ++ below)) set p
           ↔ Owed s at threads2.items entered2.items (map going (drop (index + 1) all) ++ below) set2 p)
-          (let i = in_at n at (min hi (at + 3)) all index t inside item in omega (arith, i.1, now))
+          (sym (waits_here index item inside so_far.gone now))
           (closing (map going (drop (index + 1) all) ++ below) p (low_in p set0 set so_far.long low))));
       long = long ∙ so_far.long;
       more = λ p h. more p (so_far.more p h);
-      sound = grown.sound;
-      same_room = grown.same_room ∙ so_far.same_room;
-      same_most = grown.same_most ∙ so_far.same_most;
-      same_width = grown.same_width ∙ so_far.same_width;
-      counts = λ q. let c = counted q in let g = grown.counts q in omega (arith, c, g);
-      begun = λ x h. grown.begun x (from_at x all index t h item) (so_far.begun x h);
+      gone = gone_closes index item inside so_far.gone grown;
     }
 
 none_in : (n lo hi : ℕ) (ts : List Thread) → AllIn n lo hi ts → hi < lo → length ts ≡ 0

@@ -1,6 +1,5 @@
 -- The threads of one position, of which no match cuts off another.
-use Rattle.std.proofs.Common.{◌≡◌, ℕ, zero, suc, ◌+◌, ◌-◌, ◌<◌, ◌≤◌, List, [], ◌∷◌, ◌++◌, length, map, drop, min, inl, inr, sym, subst, ap, ◌∙◌, refl, arith, Option, Some, if◌then◌else◌, nat_le, slice_get, add-one}
-use Rattle.std.proofs.lemmas.Bool.{le-leb}
+use Rattle.std.proofs.Common.{◌≡◌, ℕ, zero, suc, ◌+◌, ◌-◌, ◌<◌, ◌≤◌, List, [], ◌∷◌, ◌++◌, length, map, drop, min, inl, inr, sym, subst, ap, arith, Option, Some, slice_get}
 use Rattle.std.proofs.lemmas.List.{length_push}
 use Rattle.rc_text.specs.Found.{Found}
 use Rattle.rc_pikevm.specs.Sights.{Sight}
@@ -9,8 +8,7 @@ use Rattle.rc_pikevm.specs.Threads.{Thread, ThreadList}
 use Rattle.rc_pikevm.specs.Passing.{AllIn, AllFrom, count_from, IsGrown}
 use Rattle.rc_pikevm.specs.Spread.{Runner, running, Seeks, BeginFrom, AllBefore, IsRising, IsOrdered, StaysCounted, IsSpreading, setting_out, starting}
 use Rattle.rc_pikevm.specs.declared.pass.Ending.{Ending}
-use Rattle.rc_pikevm.proofs.GrownLemmas.{count_push, count_all, in_push, from_push}
-use Rattle.rc_pikevm.proofs.StepLemmas.{drop_get, in_at, from_at}
+use Rattle.rc_pikevm.proofs.StepLemmas.{from_at, gone_begins, gone_closes, gone_waits, next_left, waits_here}
 use Rattle.rc_pikevm.proofs.SpreadLemmas.{AllLater}
 use Rattle.rc_pikevm.proofs.SpreadMoveLemmas.{later_waits, ordered_push, ordered_wider}
 
@@ -48,17 +46,7 @@ module _ (s : Sight) (n hi at : ℕ) (all : List Thread) (threads0 : ThreadList)
     seeks = λ below o low x.
         subst (λ v. Seeks s at [] v (map running all ++ below) best0 o) no_places
         (subst (λ r. Seeks s at r entered.items (map running all ++ below) best0 o) no_threads x);
-    sound = record {
-      capacity = capacity;
-      few = rw no_places (omega arith);
-      room = rw (no_threads, no_places) (omega (arith, room));
-      inside = rw no_threads tt;
-    };
-    same_room = refl;
-    same_most = refl;
-    same_width = refl;
-    counts = λ q. rw (no_threads, no_places) (omega arith);
-    begun = λ x h. rw no_threads tt;
+    gone = gone_begins no_threads no_places capacity room;
     some = inl (omega arith);
     reached = 0;
     within = omega arith;
@@ -71,14 +59,8 @@ module _ (s : Sight) (n hi at : ℕ) (all : List Thread) (threads0 : ThreadList)
 
   module _ (threads : ThreadList) (entered : Members) (best : Option Ending) (index : ℕ) (t : Thread) (item : slice_get all index ≡ Some t)
       (inside : AllIn n at (min hi (at + 3)) all) (so_far : IsSpreading s n hi at all (drop index all) threads0 best0 threads entered best) where
-    left : List Thread
-    left = drop (index + 1) all
-
     here : drop index all ≡ t ∷ drop (index + 1) all
-    here = drop_get all index t item ∙ ap (λ k. t ∷ drop k all) (sym (add-one index))
-
-    counted : (q : ℕ) → count_from q threads.items + ((if nat_le q t.at then 1 else 0) + count_from q (drop (index + 1) all)) ≤ count_from q all + length entered.items
-    counted q = subst (λ ts. count_from q threads.items + count_from q ts ≤ count_from q all + length entered.items) here (so_far.counts q)
+    here = next_left index item inside so_far.gone
 
     from_here : (so_far.reached ≤ t.start) × AllFrom so_far.reached (drop (index + 1) all)
     from_here = subst (λ ts. AllFrom so_far.reached ts) here so_far.left_from
@@ -92,38 +74,16 @@ module _ (s : Sight) (n hi at : ℕ) (all : List Thread) (threads0 : ThreadList)
     pub ordered_here : IsOrdered t.start threads.items
     ordered_here = ordered_wider so_far.reached t.start threads.items from_here.0 so_far.ordered
 
-    -- there is room for a thread that waits
-    pub waits_fit : at < t.at → count_from (at + 1) all + n ≤ threads0.room → length threads.items < threads.room
-    waits_fit later room =
-        let c = rw (le-leb (at + 1) t.at (omega arith)) at (counted (at + 1)) in
-        let l = count_all n (at + 1) (min hi (at + 4)) (at + 1) threads.items so_far.sound.inside (omega arith) in
-        omega (arith, c, l, so_far.same_room, so_far.sound.few)
-
     -- a thread that goes on later waits
-    pub spreading_waits : (threads2 : ThreadList) → at < t.at → length threads.items < threads.room →
-        count_from (at + 1) all + n ≤ threads0.room →
+    pub spreading_waits : (threads2 : ThreadList) → at < t.at → count_from (at + 1) all + n ≤ threads0.room →
         threads2 ≡ record threads { items = threads.items ++ t ∷ [] } →
         IsSpreading s n hi at all (drop (index + 1) all) threads0 best0 threads2 entered best
-    spreading_waits threads2 later fits room e = rw e (record {
+    spreading_waits threads2 later room e = rw e (record {
       seeks = λ below o low x.
           so_far.seeks below o low
           (subst (λ ts. Seeks s at threads.items entered.items (map running ts ++ below) best o) (sym here)
           (later_waits s at threads.items entered.items best o t (map running (drop (index + 1) all) ++ below) later x));
-      sound = record {
-        capacity = so_far.sound.capacity;
-        few = so_far.sound.few;
-        room = rw length_push (
-            let c = rw (le-leb (at + 1) t.at (omega arith)) at (counted (at + 1)) in
-            let l = count_all n (at + 1) (min hi (at + 4)) (at + 1) threads.items so_far.sound.inside (omega arith) in
-            omega (arith, c, l, so_far.same_room));
-        inside = let i = in_at n at (min hi (at + 3)) all index t inside item in
-            in_push n (at + 1) (min hi (at + 4)) threads.items t so_far.sound.inside (i.0, omega (arith, later), omega (arith, i.2));
-      };
-      same_room = so_far.same_room;
-      same_most = so_far.same_most;
-      same_width = so_far.same_width;
-      counts = λ q. let c = counted q in let p = count_push q threads.items t in omega (arith, c, p);
-      begun = λ x h. from_push x threads.items t (so_far.begun x h) (from_at x all index t h item);
+      gone = gone_waits index item inside so_far.gone later room;
       some = inr (rw length_push (omega arith));
       reached = t.start;
       within = before_here.0;
@@ -147,12 +107,7 @@ module _ (s : Sight) (n hi at : ℕ) (all : List Thread) (threads0 : ThreadList)
           (subst (λ ts. Seeks s at threads.items entered.items (map running ts ++ below) best o) (sym here)
           (goes_on below o (closing (map running (drop (index + 1) all) ++ below) o
           (begin_threads t.start (drop (index + 1) all) below rising_here.0 (begin_wider t.start at below before_here.0 low)) x)));
-      sound = grown.sound;
-      same_room = grown.same_room ∙ so_far.same_room;
-      same_most = grown.same_most ∙ so_far.same_most;
-      same_width = grown.same_width ∙ so_far.same_width;
-      counts = λ q. let c = counted q in let g = grown.counts q in omega (arith, c, g);
-      begun = λ x h. grown.begun x (from_at x all index t h item) (so_far.begun x h);
+      gone = gone_closes index item inside so_far.gone grown;
       some = inr (omega (arith, some));
       reached = t.start;
       within = before_here.0;
@@ -167,13 +122,5 @@ module _ (s : Sight) (n hi at : ℕ) (all : List Thread) (threads0 : ThreadList)
             Seeks s at threads.items entered.items ((t.start, (t.place, at)) ∷ (map running (drop (index + 1) all) ++ below)) best o →
             Seeks s at threads.items entered.items (running t ∷ (map running (drop (index + 1) all) ++ below)) best o
         goes_on below o x =
-            let i = in_at n at (min hi (at + 3)) all index t inside item in
-            let e : t.at ≡ at = omega (arith, i.1, now) in
+            let e = waits_here index item inside so_far.gone now in
             subst (λ q. Seeks s at threads.items entered.items ((t.start, (t.place, q)) ∷ (map running (drop (index + 1) all) ++ below)) best o) (sym e) x
-
--- none are left
-pub spreading_over : (ts : List Thread) (k : ℕ) → length ts ≤ k → drop k ts ≡ []
-spreading_over [] zero h = refl
-spreading_over [] (suc k) h = refl
-spreading_over (t ∷ ts) zero h = absurd (omega (arith, h))
-spreading_over (t ∷ ts) (suc k) h = spreading_over ts k (omega (arith, h))

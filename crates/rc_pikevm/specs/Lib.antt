@@ -12,6 +12,7 @@ pub mod Caches
 pub mod Windows
 pub mod Near
 pub mod Spread
+pub mod Steps
 pub mod KindSlots
 pub mod Scratches
 pub mod Entered

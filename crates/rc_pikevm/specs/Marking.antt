@@ -8,7 +8,8 @@ use Rattle.rc_program.specs.Answer.{last_of}
 use Rattle.rc_pikevm.specs.Sights.{Sight, HasNoWalkFrom, ends, next_of}
 use Rattle.rc_pikevm.specs.Sparse.{Members}
 use Rattle.rc_pikevm.specs.Threads.{Thread, ThreadList}
-use Rattle.rc_pikevm.specs.Passing.{pairs, AllFrom, HasRoom, IsGrown, IsLined, AllInside, count_from}
+use Rattle.rc_pikevm.specs.Passing.{pairs, IsGrown, IsLined}
+use Rattle.rc_pikevm.specs.Steps.{HasGone}
 use Rattle.rc_pikevm.specs.declared.growth.Frame.{Frame}
 use Rattle.rc_pikevm.specs.declared.growth.Frame.TheVariants.{Explore, Restore}
 
@@ -80,12 +81,7 @@ pub record IsMarkingOn (s : Sight) (n hi at : ℕ) (all left : List Thread) (thr
       (Owed s at threads.items entered.items (map going left ++ below) set)
   pub long : length set ≡ length set0
   pub more : KeepsMarks set0 set
-  pub sound : HasRoom n hi at threads entered
-  pub same_room : threads.room ≡ threads0.room
-  pub same_most : threads.most ≡ threads0.most
-  pub same_width : threads.width ≡ threads0.width
-  pub counts : (q : ℕ) → count_from q threads.items + count_from q left ≤ count_from q all + length entered.items
-  pub begun : (x : ℕ) → AllFrom x all → AllFrom x threads.items
+  pub gone : HasGone n hi at all left threads0 threads entered
 
 -- The pass from the start `from` has come to the position `at`.
 pub record IsMarkingFrom (s : Sight) (n hi from last at insertions : ℕ) (curr : ThreadList) (set0 set : List Bool) : Type 0 where

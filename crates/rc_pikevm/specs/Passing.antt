@@ -3,7 +3,7 @@
 use Rattle.std.specs.Prelude.{◌≡◌, ℕ, ◌+◌, ◌-◌, ◌<◌, ◌≤◌, ◌⊎◌, Bool, List, [], ◌∷◌, ◌++◌, length, map, reverse, Option, Some, None, IsTrue, slice_set, slice_index_or, if◌then◌else◌, is_none, option_map, nat_lt, nat_le, min, ◌*◌, MatchOption}
 use Rattle.rc_walks.specs.Walks.{Pair}
 use Rattle.rc_walks.specs.Threads.{Pends, noted}
-use Rattle.rc_pikevm.specs.Sights.{Sight, IsFirstFrom, IsFirstTo, HasNoWalkFrom, HasNoWalkTo, IsUpTo, ends_to, next_to}
+use Rattle.rc_pikevm.specs.Sights.{Sight, IsFirstFrom, IsFirstTo, HasNoWalkFrom, HasNoWalkTo, ends_to, next_to}
 use Rattle.rc_pikevm.specs.Sparse.{Members}
 use Rattle.rc_pikevm.specs.Threads.{Thread, ThreadList}
 use Rattle.rc_pikevm.specs.Trace.{Trace, note, trace, done, starts, sets_out}
@@ -102,18 +102,6 @@ pub record IsGrown (n hi start at : ℕ) (threads0 : ThreadList) (entered0 : Mem
   -- Each new thread comes from a place that was entered.
   pub counts : (q : ℕ) → count_from q threads.items + length entered0.items ≤ count_from q threads0.items + length entered.items
   pub begun : (x : ℕ) → x ≤ start → AllFrom x threads0.items → AllFrom x threads.items
-
--- The threads of a position have gone on so far: `left` are those still to go on.
-pub record IsStepping (s : Sight) (n hi at : ℕ) (all left : List Thread) (threads0 threads : ThreadList) (entered : Members) : Type 0 where
-  pub carries : (limit : Option ℕ) → IsUpTo at limit → (below : List (Trace × Pair)) (best o : Option Trace) →
-      CarriesTo limit s at threads.items entered.items (map pending left ++ below) best o → CarriesTo limit s at [] [] (map pending all ++ below) best o
-  pub sound : HasRoom n hi at threads entered
-  pub same_room : threads.room ≡ threads0.room
-  pub same_most : threads.most ≡ threads0.most
-  pub same_width : threads.width ≡ threads0.width
-  pub counts : (q : ℕ) → count_from q threads.items + count_from q left ≤ count_from q all + length entered.items
-  pub begun : (x : ℕ) → AllFrom x all → AllFrom x threads.items
-  pub some : (length all ≤ length left) ⊎ (0 < length threads.items + length entered.items)
 
 -- The starts from `at` to `last`, as long as none has given a match.
 abbrev pub waiting_starts : Bool → ℕ → ℕ → ℕ → List (Trace × Pair)

@@ -8,9 +8,8 @@ use Rattle.rc_pikevm.specs.Sights.{Sight, ends, next_of, HasNoWalkFrom}
 use Rattle.rc_pikevm.specs.Sparse.{Members}
 use Rattle.rc_pikevm.specs.Threads.{Thread, ThreadList}
 use Rattle.rc_pikevm.specs.Trace.{Trace, note, done, starts, sets_out}
-use Rattle.rc_pikevm.specs.Passing.{pending, pairs, waits, AllInside, AllFrom, HasRoom, IsGrown, IsLined, IsCounted, count_from}
-use Rattle.rc_pikevm.specs.Spread.{StaysCounted}
-use Rattle.rc_pikevm.specs.declared.growth.Frame.{Frame}
+use Rattle.rc_pikevm.specs.Passing.{pending, pairs, AllFrom, IsLined, IsCounted}
+use Rattle.rc_pikevm.specs.Steps.{HasGone}
 use Rattle.rc_pikevm.specs.declared.pass.Ending.{Ending}
 
 -- A walk may end here, at the position e.
@@ -153,12 +152,7 @@ pub record IsRunOn (s : Sight) (n hi at : ℕ) (all left : List Thread) (threads
     (threads : ThreadList) (entered : Members) (best : Option Ending) (found : List (Option ℕ)) : Type 0 where
   pub races : (from below : List (Trace × Pair)) → Races s from at [] [] (map pending all ++ below) best0 found0 →
       Races s from at threads.items entered.items (map pending left ++ below) best found
-  pub sound : HasRoom n hi at threads entered
-  pub same_room : threads.room ≡ threads0.room
-  pub same_most : threads.most ≡ threads0.most
-  pub same_width : threads.width ≡ threads0.width
-  pub counts : (q : ℕ) → count_from q threads.items + count_from q left ≤ count_from q all + length entered.items
-  pub begun : (x : ℕ) → AllFrom x all → AllFrom x threads.items
+  pub gone : HasGone n hi at all left threads0 threads entered
   pub counted : (k : ℕ) → AllFrom (at + 1 - k) all → IsCounted k best0 → IsCounted k best
   pub still : (best ≡ best0) ⊎ (0 < length entered.items)
 

@@ -9,7 +9,8 @@ use Rattle.rc_pikevm.specs.Sights.{Sight, ends, next_of}
 use Rattle.rc_program.specs.Greatest.{IsNoGreater}
 use Rattle.rc_pikevm.specs.Sparse.{Members}
 use Rattle.rc_pikevm.specs.Threads.{Thread, ThreadList}
-use Rattle.rc_pikevm.specs.Passing.{pairs, AllFrom, HasRoom, IsGrown, IsLined, IsCounted, AllInside, count_from}
+use Rattle.rc_pikevm.specs.Passing.{pairs, AllFrom, IsLined, IsCounted}
+use Rattle.rc_pikevm.specs.Steps.{HasGone}
 use Rattle.rc_pikevm.specs.declared.growth.Frame.{Frame}
 use Rattle.rc_pikevm.specs.declared.growth.Frame.TheVariants.{Explore, Restore}
 use Rattle.rc_pikevm.specs.declared.pass.Ending.{Ending}
@@ -102,12 +103,7 @@ pub record IsSpreading (s : Sight) (n hi at : ℕ) (all left : List Thread) (thr
     (threads : ThreadList) (entered : Members) (best : Option Ending) : Type 0 where
   pub seeks : (below : List Runner) (o : Option Found) → BeginFrom at below →
       Seeks s at threads.items entered.items (map running left ++ below) best o → Seeks s at [] [] (map running all ++ below) best0 o
-  pub sound : HasRoom n hi at threads entered
-  pub same_room : threads.room ≡ threads0.room
-  pub same_most : threads.most ≡ threads0.most
-  pub same_width : threads.width ≡ threads0.width
-  pub counts : (q : ℕ) → count_from q threads.items + count_from q left ≤ count_from q all + length entered.items
-  pub begun : (x : ℕ) → AllFrom x all → AllFrom x threads.items
+  pub gone : HasGone n hi at all left threads0 threads entered
   pub some : (length all ≤ length left) ⊎ (0 < length threads.items + length entered.items)
   -- The starts so far are at most this one, and those to come at least.
   pub reached : ℕ

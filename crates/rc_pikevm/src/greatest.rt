@@ -1,6 +1,6 @@
 //! The Pike VM for `MatchKind::All`: of all spans that walks spell, the one with the greatest end,
 //! then the least start, then the least pattern.
-ghost use Rattle.std.specs.Prelude.{◌≡◌, ℕ, ◌+◌, ◌-◌, ◌*◌, ◌<◌, ◌≤◌, ◌⊎◌, ⊤, ◌^◌, List, [], ◌++◌, length, map, min, Option, MatchOption, option_map};
+ghost use Rattle.std.specs.Prelude.{◌≡◌, ℕ, ◌+◌, ◌-◌, ◌*◌, ◌<◌, ◌≤◌, ◌⊎◌, ⊤, ◌^◌, List, [], ◌++◌, length, map, Option, MatchOption, option_map};
 ghost use Rattle.rc_text.specs.Found.{Found};
 ghost use Rattle.rc_text.specs.Bounds.{IsWithinBounds};
 ghost use Rattle.rc_text.specs.Text.{Searched, Keeps, low, high};
@@ -8,8 +8,9 @@ ghost use Rattle.rc_program.specs.Greatest.{greatest};
 ghost use Rattle.rc_program.specs.Programs.{search_of};
 ghost use Rattle.rc_pikevm.specs.Near.{IsHere, seen_from, size};
 ghost use Rattle.rc_pikevm.specs.Moves.{IsSetting, seen, seen_by};
-ghost use Rattle.rc_pikevm.specs.Passing.{AllIn, AllFrom, count_from, HasRoom, IsCounted};
+ghost use Rattle.rc_pikevm.specs.Passing.{AllFrom, IsCounted};
 ghost use Rattle.rc_pikevm.specs.Spread.{Runner, running, SomeSpells, IsTop, Seeks, BeginFrom, IsOrdered, span_of, starting};
+ghost use Rattle.rc_pikevm.specs.Steps.{HasStepped, MayStep};
 ghost use Rattle.rc_pikevm.specs.Caches.{IsCacheFor};
 ghost use Rattle.rc_pikevm.specs.Scratches.{IsSame};
 ghost use Rattle.rc_pikevm.specs.Underway.{IsInLine};
@@ -33,27 +34,15 @@ use rc_text::types::{Match, PatternID, Span};
 fn step(spot: &Spot, curr: &Threads, best: &mut Option<Ending>, growth: &mut Growth)
     ghost text: { Searched }
     requires here { IsHere spot.now text }
-    requires inside { AllIn (size spot.now.course) spot.now.at
-        (min spot.now.course.hi (spot.now.at + 3)) curr.now.items }
+    requires ready { MayStep spot.now curr.now.items growth.old }
     requires ordered { IsOrdered spot.now.at curr.now.items }
     requires widths { (curr.now.width ≡ 0) × (growth.old.threads.width ≡ 0) }
-    requires empty { (growth.old.threads.items ≡ []) × (growth.old.entered.items ≡ []) }
-    requires capacity { growth.old.entered.capacity ≡ size spot.now.course }
-    requires room { count_from (spot.now.at + 1) curr.now.items + size spot.now.course
-        ≤ growth.old.threads.room }
     ensures seeks { (below : List Runner) (o : Option Found) → BeginFrom spot.now.at below
         → Seeks (seen_from spot.now text) spot.now.at growth.new.threads.items
         growth.new.entered.items below best.new o
         → Seeks (seen_from spot.now text) spot.now.at [] []
         (map running curr.now.items ++ below) best.old o }
-    ensures sound { HasRoom (size spot.now.course) spot.now.course.hi spot.now.at growth.new.threads
-        growth.new.entered }
-    ensures same { (growth.new.threads.room ≡ growth.old.threads.room)
-        × (growth.new.threads.most ≡ growth.old.threads.most)
-        × (growth.new.threads.width ≡ growth.old.threads.width) }
-    ensures counts { (q : ℕ) → count_from q growth.new.threads.items ≤ count_from q curr.now.items
-        + length growth.new.entered.items }
-    ensures begun { (x : ℕ) → AllFrom x curr.now.items → AllFrom x growth.new.threads.items }
+    ensures stepped { HasStepped spot.now curr.now.items growth.old growth.new }
     ensures ordered { IsOrdered spot.now.at growth.new.threads.items }
     ensures some { (length curr.now.items ≡ 0)
         ⊎ (0 < length growth.new.threads.items + length growth.new.entered.items) }
@@ -75,14 +64,9 @@ fn step(spot: &Spot, curr: &Threads, best: &mut Option<Ending>, growth: &mut Gro
 fn advance(spot: &Spot, curr: &Threads, best: &mut Option<Ending>, growth: &mut Growth)
     ghost text: { Searched }
     requires here { IsHere spot.now text }
-    requires inside { AllIn (size spot.now.course) spot.now.at
-        (min spot.now.course.hi (spot.now.at + 3)) curr.now.items }
+    requires ready { MayStep spot.now curr.now.items growth.old }
     requires ordered { IsOrdered spot.now.at curr.now.items }
     requires widths { (curr.now.width ≡ 0) × (growth.old.threads.width ≡ 0) }
-    requires empty { (growth.old.threads.items ≡ []) × (growth.old.entered.items ≡ []) }
-    requires capacity { growth.old.entered.capacity ≡ size spot.now.course }
-    requires room { count_from (spot.now.at + 1) curr.now.items + size spot.now.course
-        ≤ growth.old.threads.room }
     ensures seeks { (o : Option Found)
         → Seeks (seen_from spot.now text) spot.now.at growth.new.threads.items
         growth.new.entered.items
@@ -90,15 +74,7 @@ fn advance(spot: &Spot, curr: &Threads, best: &mut Option<Ending>, growth: &mut 
         → Seeks (seen_from spot.now text) spot.now.at [] []
         (map running curr.now.items ++ starting spot.now.at spot.now.course.last)
         best.old o }
-    ensures sound { HasRoom (size spot.now.course) spot.now.course.hi spot.now.at growth.new.threads
-        growth.new.entered }
-    ensures same { (growth.new.threads.room ≡ growth.old.threads.room)
-        × (growth.new.threads.most ≡ growth.old.threads.most)
-        × (growth.new.threads.width ≡ growth.old.threads.width) }
-    ensures counts { (q : ℕ) → count_from q growth.new.threads.items ≤ count_from q curr.now.items
-        + length growth.new.entered.items }
-    ensures begun { (x : ℕ) → x ≤ spot.now.at → AllFrom x curr.now.items
-        → AllFrom x growth.new.threads.items }
+    ensures stepped { HasStepped spot.now curr.now.items growth.old growth.new }
     ensures ordered { IsOrdered spot.now.at growth.new.threads.items }
     ensures some { (length curr.now.items ≡ 0)
         ⊎ (0 < length growth.new.threads.items + length growth.new.entered.items) }

@@ -9,7 +9,7 @@
 //!      2   b    (7, start 1) (5, start 1)  the first matches 1..2, so the second is dropped
 //!
 //! No thread is left, so the pass returns 1..2.
-ghost use Rattle.std.specs.Prelude.{◌≡◌, ℕ, ◌+◌, ◌-◌, ◌*◌, ◌<◌, ◌≤◌, ◌⊎◌, ⊤, List, [], ◌∷◌, ◌++◌, length, map, min, Option, None, Some, MatchOption, true, false, replicate, ◌^◌, IsTrue, is_none, vec_capacity};
+ghost use Rattle.std.specs.Prelude.{◌≡◌, ℕ, ◌+◌, ◌-◌, ◌*◌, ◌<◌, ◌≤◌, ◌⊎◌, ⊤, List, [], ◌∷◌, ◌++◌, length, map, Option, None, Some, MatchOption, true, false, replicate, ◌^◌, IsTrue, is_none, vec_capacity};
 ghost use Rattle.rc_walks.specs.Walks.{Pair};
 ghost use Rattle.rc_text.specs.Text.{Searched, Keeps, low, high};
 ghost use Rattle.rc_pikevm.specs.Sights.{HasNoWalkFrom, IsUpTo};
@@ -23,8 +23,9 @@ ghost use Rattle.rc_pikevm.specs.Near.{IsHere, seen_from, size};
 ghost use Rattle.rc_pikevm.specs.Moves.{IsSetting, seen_by};
 ghost use Rattle.rc_pikevm.specs.Roots.{StandsFor};
 ghost use Rattle.rc_pikevm.specs.Trace.{Trace, done};
-ghost use Rattle.rc_pikevm.specs.Passing.{CarriesTo, pending, AllIn, AllFrom, count_from, HasRoom, waiting_starts, Pending, PendingTo, IsCounted, best_of};
+ghost use Rattle.rc_pikevm.specs.Passing.{CarriesTo, pending, AllFrom, waiting_starts, Pending, PendingTo, IsCounted, best_of};
 ghost use Rattle.rc_pikevm.specs.Scratches.{IsSame};
+ghost use Rattle.rc_pikevm.specs.Steps.{HasStepped, MayStep};
 ghost use Rattle.rc_pikevm.specs.Rules.{GivesBy, MayEnter, TellsBy, Turns};
 ghost use Rattle.rc_pikevm.specs.Underway.{IsInLine};
 
@@ -67,13 +68,8 @@ pub struct Ending {
 fn step(spot: &Spot, curr: &Threads, growth: &mut Growth) -> Option<(usize, usize)>
     ghost text: { Searched }
     requires here { IsHere spot.now text }
-    requires inside { AllIn (size spot.now.course) spot.now.at
-        (min spot.now.course.hi (spot.now.at + 3)) curr.now.items }
+    requires ready { MayStep spot.now curr.now.items growth.old }
     requires widths { curr.now.width ≡ growth.old.threads.width }
-    requires empty { (growth.old.threads.items ≡ []) × (growth.old.entered.items ≡ []) }
-    requires capacity { growth.old.entered.capacity ≡ size spot.now.course }
-    requires room { count_from (spot.now.at + 1) curr.now.items + size spot.now.course
-        ≤ growth.old.threads.room }
     ensures carries { (limit : Option ℕ) → IsUpTo spot.now.at limit
         → (below : List (Trace × Pair)) (best o : Option Trace) → MatchOption result
         (CarriesTo limit (seen_from spot.now text) spot.now.at growth.new.threads.items
@@ -83,14 +79,7 @@ fn step(spot: &Spot, curr: &Threads, growth: &mut Growth) -> Option<(usize, usiz
         (Some (done r.0 r.1 spot.now.at growth.new.slots.items)) o)
         → CarriesTo limit (seen_from spot.now text) spot.now.at [] []
         (map pending curr.now.items ++ below) best o }
-    ensures sound { HasRoom (size spot.now.course) spot.now.course.hi spot.now.at growth.new.threads
-        growth.new.entered }
-    ensures same { (growth.new.threads.room ≡ growth.old.threads.room)
-        × (growth.new.threads.most ≡ growth.old.threads.most)
-        × (growth.new.threads.width ≡ growth.old.threads.width) }
-    ensures counts { (q : ℕ) → count_from q growth.new.threads.items ≤ count_from q curr.now.items
-        + length growth.new.entered.items }
-    ensures begun { (x : ℕ) → AllFrom x curr.now.items → AllFrom x growth.new.threads.items }
+    ensures stepped { HasStepped spot.now curr.now.items growth.old growth.new }
     ensures ended { MatchOption result
         ((length curr.now.items ≡ 0) ⊎ (0 < length growth.new.threads.items
         + length growth.new.entered.items))
@@ -118,9 +107,7 @@ fn step(spot: &Spot, curr: &Threads, growth: &mut Growth) -> Option<(usize, usiz
 fn set_out(spot: &Spot, root: usize, is_open: bool, growth: &mut Growth) -> Option<(usize, usize)>
     ghost text: { Searched }
     requires here { IsHere spot.now text }
-    requires empty { (growth.old.threads.items ≡ []) × (growth.old.entered.items ≡ []) }
-    requires capacity { growth.old.entered.capacity ≡ size spot.now.course }
-    requires room { size spot.now.course ≤ growth.old.threads.room }
+    requires ready { MayStep spot.now [] growth.old }
     requires root { root < size spot.now.course }
     requires stands { StandsFor (seen_from spot.now text) root }
     ensures carries { (limit : Option ℕ) → IsUpTo spot.now.at limit → (limit ≡ None) ⊎ (root ≡ 0)
@@ -135,14 +122,7 @@ fn set_out(spot: &Spot, root: usize, is_open: bool, growth: &mut Growth) -> Opti
         → CarriesTo limit (seen_from spot.now text) spot.now.at [] []
         (waiting_starts is_open growth.old.threads.width spot.now.at spot.now.course.last) best
         o }
-    ensures sound { HasRoom (size spot.now.course) spot.now.course.hi spot.now.at growth.new.threads
-        growth.new.entered }
-    ensures same { (growth.new.threads.room ≡ growth.old.threads.room)
-        × (growth.new.threads.most ≡ growth.old.threads.most)
-        × (growth.new.threads.width ≡ growth.old.threads.width) }
-    ensures counts { (q : ℕ) → count_from q growth.new.threads.items
-        ≤ length growth.new.entered.items }
-    ensures begun { (x : ℕ) → x ≤ spot.now.at → AllFrom x growth.new.threads.items }
+    ensures stepped { HasStepped spot.now [] growth.old growth.new }
     ensures ended { MatchOption result ⊤
         (λ r. (0 < length growth.new.entered.items) × ((x : ℕ) → x ≤ spot.now.at → x ≤ r.1)) }
 {
@@ -170,13 +150,8 @@ fn advance(
 ) -> Option<(usize, usize)>
     ghost text: { Searched }
     requires here { IsHere spot.now text }
-    requires inside { AllIn (size spot.now.course) spot.now.at
-        (min spot.now.course.hi (spot.now.at + 3)) curr.now.items }
+    requires ready { MayStep spot.now curr.now.items growth.old }
     requires widths { curr.now.width ≡ growth.old.threads.width }
-    requires empty { (growth.old.threads.items ≡ []) × (growth.old.entered.items ≡ []) }
-    requires capacity { growth.old.entered.capacity ≡ size spot.now.course }
-    requires room { count_from (spot.now.at + 1) curr.now.items + size spot.now.course
-        ≤ growth.old.threads.room }
     requires root { root < size spot.now.course }
     requires stands { StandsFor (seen_from spot.now text) root }
     ensures carries { (limit : Option ℕ) → IsUpTo spot.now.at limit → (limit ≡ None) ⊎ (root ≡ 0)
@@ -191,15 +166,7 @@ fn advance(
         → CarriesTo limit (seen_from spot.now text) spot.now.at [] []
         (map pending curr.now.items ++ waiting_starts is_open growth.old.threads.width
         spot.now.at spot.now.course.last) best o }
-    ensures sound { HasRoom (size spot.now.course) spot.now.course.hi spot.now.at growth.new.threads
-        growth.new.entered }
-    ensures same { (growth.new.threads.room ≡ growth.old.threads.room)
-        × (growth.new.threads.most ≡ growth.old.threads.most)
-        × (growth.new.threads.width ≡ growth.old.threads.width) }
-    ensures counts { (q : ℕ) → count_from q growth.new.threads.items ≤ count_from q curr.now.items
-        + length growth.new.entered.items }
-    ensures begun { (x : ℕ) → x ≤ spot.now.at → AllFrom x curr.now.items
-        → AllFrom x growth.new.threads.items }
+    ensures stepped { HasStepped spot.now curr.now.items growth.old growth.new }
     ensures ended { MatchOption result ⊤
         (λ r. (0 < length growth.new.entered.items)
         × ((x : ℕ) → x ≤ spot.now.at → AllFrom x curr.now.items → x ≤ r.1)) }

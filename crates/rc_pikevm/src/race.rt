@@ -1,13 +1,14 @@
 //! The Pike VM for leftmost-longest: how the threads go on at a position in a pass for the longest
 //! walk of the least start. A match drops the threads of later starts, and no other.
-ghost use Rattle.std.specs.Prelude.{◌≡◌, ℕ, ◌+◌, ◌-◌, ◌*◌, ◌<◌, ◌≤◌, ◌⊎◌, ◌^◌, List, [], ◌++◌, length, map, min, Option, IsTrue};
+ghost use Rattle.std.specs.Prelude.{◌≡◌, ℕ, ◌+◌, ◌-◌, ◌*◌, ◌<◌, ◌≤◌, ◌⊎◌, ◌^◌, List, [], ◌++◌, length, map, Option, IsTrue};
 ghost use Rattle.rc_walks.specs.Walks.{Pair};
 ghost use Rattle.rc_text.specs.Text.{Searched};
 ghost use Rattle.rc_pikevm.specs.Near.{IsHere, seen_from, size};
 ghost use Rattle.rc_pikevm.specs.Trace.{Trace};
-ghost use Rattle.rc_pikevm.specs.Passing.{pending, AllIn, AllFrom, count_from, HasRoom, IsCounted};
+ghost use Rattle.rc_pikevm.specs.Passing.{pending, AllFrom, IsCounted};
 ghost use Rattle.rc_pikevm.specs.Races.{Races, IsCutOff, starts_to};
 ghost use Rattle.rc_pikevm.specs.Scratches.{IsSame};
+ghost use Rattle.rc_pikevm.specs.Steps.{HasStepped, MayStep};
 ghost use Rattle.rc_pikevm.specs.Underway.{IsInLine};
 
 use crate::entrance::way_in;
@@ -31,27 +32,15 @@ fn step(
 )
     ghost text: { Searched }
     requires here { IsHere spot.now text }
-    requires inside { AllIn (size spot.now.course) spot.now.at
-        (min spot.now.course.hi (spot.now.at + 3)) curr.now.items }
+    requires ready { MayStep spot.now curr.now.items growth.old }
     requires widths { (curr.now.width ≡ growth.old.threads.width)
         × (length found.old ≡ growth.old.threads.width) }
-    requires empty { (growth.old.threads.items ≡ []) × (growth.old.entered.items ≡ []) }
-    requires capacity { growth.old.entered.capacity ≡ size spot.now.course }
-    requires room { count_from (spot.now.at + 1) curr.now.items + size spot.now.course
-        ≤ growth.old.threads.room }
     ensures races { (all below : List (Trace × Pair))
         → Races (seen_from spot.now text) all spot.now.at [] []
         (map pending curr.now.items ++ below) best.old found.old
         → Races (seen_from spot.now text) all spot.now.at growth.new.threads.items
         growth.new.entered.items below best.new found.new }
-    ensures sound { HasRoom (size spot.now.course) spot.now.course.hi spot.now.at growth.new.threads
-        growth.new.entered }
-    ensures same { (growth.new.threads.room ≡ growth.old.threads.room)
-        × (growth.new.threads.most ≡ growth.old.threads.most)
-        × (growth.new.threads.width ≡ growth.old.threads.width) }
-    ensures counts { (q : ℕ) → count_from q growth.new.threads.items ≤ count_from q curr.now.items
-        + length growth.new.entered.items }
-    ensures begun { (x : ℕ) → AllFrom x curr.now.items → AllFrom x growth.new.threads.items }
+    ensures stepped { HasStepped spot.now curr.now.items growth.old growth.new }
     ensures counted { (k : ℕ) → AllFrom (spot.now.at + 1 - k) curr.now.items → IsCounted k best.old
         → IsCounted k best.new }
     ensures still { (best.new ≡ best.old) ⊎ (0 < length growth.new.entered.items) }
@@ -83,14 +72,9 @@ fn advance(
 )
     ghost text: { Searched }
     requires here { IsHere spot.now text }
-    requires inside { AllIn (size spot.now.course) spot.now.at
-        (min spot.now.course.hi (spot.now.at + 3)) curr.now.items }
+    requires ready { MayStep spot.now curr.now.items growth.old }
     requires widths { (curr.now.width ≡ growth.old.threads.width)
         × (length found.old ≡ growth.old.threads.width) }
-    requires empty { (growth.old.threads.items ≡ []) × (growth.old.entered.items ≡ []) }
-    requires capacity { growth.old.entered.capacity ≡ size spot.now.course }
-    requires room { count_from (spot.now.at + 1) curr.now.items + size spot.now.course
-        ≤ growth.old.threads.room }
     ensures races { (all : List (Trace × Pair))
         → Races (seen_from spot.now text) all spot.now.at [] []
         (map pending curr.now.items ++ starts_to growth.old.threads.width
@@ -99,15 +83,7 @@ fn advance(
         growth.new.entered.items
         (starts_to growth.old.threads.width
         (spot.now.at + 1) spot.now.course.last) best.new found.new }
-    ensures sound { HasRoom (size spot.now.course) spot.now.course.hi spot.now.at growth.new.threads
-        growth.new.entered }
-    ensures same { (growth.new.threads.room ≡ growth.old.threads.room)
-        × (growth.new.threads.most ≡ growth.old.threads.most)
-        × (growth.new.threads.width ≡ growth.old.threads.width) }
-    ensures counts { (q : ℕ) → count_from q growth.new.threads.items ≤ count_from q curr.now.items
-        + length growth.new.entered.items }
-    ensures begun { (x : ℕ) → x ≤ spot.now.at → AllFrom x curr.now.items
-        → AllFrom x growth.new.threads.items }
+    ensures stepped { HasStepped spot.now curr.now.items growth.old growth.new }
     ensures counted { (k : ℕ) → length growth.new.entered.items ≤ k
         → AllFrom (spot.now.at + 1 - k) curr.now.items
         → IsCounted k best.old → IsCounted k best.new }

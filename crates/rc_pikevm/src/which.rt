@@ -1,6 +1,6 @@
 //! Overlapping search: which patterns have a match, by one pass of the Pike VM. A match drops no
 //! thread, and marks its pattern in a set.
-ghost use Rattle.std.specs.Prelude.{◌≡◌, ◌↔◌, ℕ, ◌+◌, ◌-◌, ◌*◌, ◌<◌, ◌≤◌, ◌⊎◌, ◌^◌, ⊤, false, IfSome, IsTrue, List, MatchOption, [], ◌∷◌, ◌++◌, length, map, min, slice_set, true};
+ghost use Rattle.std.specs.Prelude.{◌≡◌, ◌↔◌, ℕ, ◌+◌, ◌-◌, ◌*◌, ◌<◌, ◌≤◌, ◌⊎◌, ◌^◌, ⊤, false, IfSome, IsTrue, List, MatchOption, [], ◌∷◌, ◌++◌, length, map, slice_set, true};
 ghost use Rattle.rc_text.specs.Text.{Searched, Keeps, low, high};
 ghost use Rattle.rc_text.specs.Limits.{greatest_pattern};
 ghost use Rattle.rc_pattern_set.specs.Sets.{Has};
@@ -17,9 +17,10 @@ ghost use Rattle.rc_pikevm.specs.Fronts.{HasOwnWays};
 ghost use Rattle.rc_pikevm.specs.Marking.{AreSame, Owed, SomeLeads, HasAll, HasNoneBefore, IsSettingOut, KeepsMarks, MarksFrom, MayBegin, entering, going};
 ghost use Rattle.rc_pikevm.specs.Moves.{IsSetting, seen, seen_by};
 ghost use Rattle.rc_pikevm.specs.Near.{IsHere, seen_from, size};
-ghost use Rattle.rc_pikevm.specs.Passing.{AllFrom, AllIn, HasRoom, count_from};
+ghost use Rattle.rc_pikevm.specs.Passing.{HasRoom};
 ghost use Rattle.rc_pikevm.specs.PatternSpans.{AddsSpelled, AreOfFirst};
 ghost use Rattle.rc_pikevm.specs.Scratches.{IsSame};
+ghost use Rattle.rc_pikevm.specs.Steps.{HasStepped, MayStep};
 ghost use Rattle.rc_pikevm.specs.Sparse.{Has as IsEntered};
 ghost use Rattle.rc_pikevm.specs.Underway.{IsInLine};
 
@@ -173,13 +174,8 @@ fn set_out(spot: &Spot, end: usize, set: &mut PatternSet, growth: &mut Growth)
 fn step(spot: &Spot, curr: &Threads, set: &mut PatternSet, growth: &mut Growth)
     ghost text: { Searched }
     requires here { IsHere spot.now text }
-    requires inside { AllIn (size spot.now.course) spot.now.at
-        (min spot.now.course.hi (spot.now.at + 3)) curr.now.items }
+    requires ready { MayStep spot.now curr.now.items growth.old }
     requires widths { (curr.now.width ≡ 0) × (growth.old.threads.width ≡ 0) }
-    requires empty { (growth.old.threads.items ≡ []) × (growth.old.entered.items ≡ []) }
-    requires capacity { growth.old.entered.capacity ≡ size spot.now.course }
-    requires room { count_from (spot.now.at + 1) curr.now.items + size spot.now.course
-        ≤ growth.old.threads.room }
     ensures same { (below : List Pair) → AreSame (length set.old)
         (Owed (seen_from spot.now text) spot.now.at [] []
         (map going curr.now.items ++ below) set.old)
@@ -187,14 +183,7 @@ fn step(spot: &Spot, curr: &Threads, set: &mut PatternSet, growth: &mut Growth)
         growth.new.entered.items below set.new) }
     ensures long { length set.new ≡ length set.old }
     ensures more { KeepsMarks set.old set.new }
-    ensures sound { HasRoom (size spot.now.course) spot.now.course.hi spot.now.at growth.new.threads
-        growth.new.entered }
-    ensures kept { (growth.new.threads.room ≡ growth.old.threads.room)
-        × (growth.new.threads.most ≡ growth.old.threads.most)
-        × (growth.new.threads.width ≡ growth.old.threads.width) }
-    ensures counts { (q : ℕ) → count_from q growth.new.threads.items ≤ count_from q curr.now.items
-        + length growth.new.entered.items }
-    ensures begun { (x : ℕ) → AllFrom x curr.now.items → AllFrom x growth.new.threads.items }
+    ensures stepped { HasStepped spot.now curr.now.items growth.old growth.new }
 {
     'threads: for index in 0..curr.len() {
         let (head, row) = curr.get(index);
@@ -219,13 +208,8 @@ fn advance(
 )
     ghost text: { Searched }
     requires here { IsHere spot.now text }
-    requires inside { AllIn (size spot.now.course) spot.now.at
-        (min spot.now.course.hi (spot.now.at + 3)) curr.now.items }
+    requires ready { MayStep spot.now curr.now.items growth.old }
     requires widths { (curr.now.width ≡ 0) × (growth.old.threads.width ≡ 0) }
-    requires empty { (growth.old.threads.items ≡ []) × (growth.old.entered.items ≡ []) }
-    requires capacity { growth.old.entered.capacity ≡ size spot.now.course }
-    requires room { count_from (spot.now.at + 1) curr.now.items + size spot.now.course
-        ≤ growth.old.threads.room }
     requires begins { MayBegin (seen_from spot.now text) spot.now.at may_begin }
     requires own { HasOwnWays (places_of spot.now.course.program.now.places.items) }
     ensures same { AreSame (length set.old)
@@ -236,15 +220,7 @@ fn advance(
         (entering (spot.now.at + 1) spot.now.course.last) set.new) }
     ensures long { length set.new ≡ length set.old }
     ensures more { KeepsMarks set.old set.new }
-    ensures sound { HasRoom (size spot.now.course) spot.now.course.hi spot.now.at growth.new.threads
-        growth.new.entered }
-    ensures kept { (growth.new.threads.room ≡ growth.old.threads.room)
-        × (growth.new.threads.most ≡ growth.old.threads.most)
-        × (growth.new.threads.width ≡ growth.old.threads.width) }
-    ensures counts { (q : ℕ) → count_from q growth.new.threads.items ≤ count_from q curr.now.items
-        + length growth.new.entered.items }
-    ensures begun { (x : ℕ) → x ≤ spot.now.at → AllFrom x curr.now.items
-        → AllFrom x growth.new.threads.items }
+    ensures stepped { HasStepped spot.now curr.now.items growth.old growth.new }
 {
     step(spot, curr, set, growth);
     if !may_begin {

@@ -2,7 +2,7 @@ use Rattle.std.proofs.Common.{◌≡◌, List, [], ◌∷◌, length, reverse, r
 use Rattle.std.proofs.lemmas.Option.{none-some}
 use Rattle.rc_pikevm.specs.Entrances.{stays_in}
 use Rattle.rc_pikevm.specs.Explored.{Explores, begins, enters, closure_at, closure_of}
-use Rattle.rc_pikevm.specs.Near.{seen_from, size}
+use Rattle.rc_pikevm.specs.Near.{seen_from}
 use Rattle.rc_pikevm.specs.declared.growth.Frame.TheVariants.{Explore}
 use Rattle.rc_pikevm.proofs.ExploredLemmas.{explores_then}
 use Rattle.rc_pikevm.proofs.GrownLemmas.{grown_then}
@@ -45,6 +45,4 @@ returns-clause-closes g c = record {
 
 pub returns-clause-grown : goal.returns-clause-grown
 returns-clause-grown g c =
-    grown_then (size c.args.spot.now.course) c.args.spot.now.course.hi c.args.start c.args.spot.now.at c.args.growth.now.threads c.enter.new.growth.threads
-    c.drain.new.growth.threads c.args.growth.now.entered c.enter.new.growth.entered c.drain.new.growth.entered c.in_default.ensures.grown
-    c.drain.ensures.grown
+    grown_then c.in_default.ensures.grown c.drain.ensures.grown

@@ -14,8 +14,7 @@ use Rattle.rc_pikevm.proofs.closure.drain.Goals.{In-Explore}
 pub frames-init : goal.frames-init
 frames-init g c = record {
   explored = begins;
-  grown = grown_same (size c.args.spot.now.course) c.args.spot.now.course.hi c.args.start c.args.spot.now.at c.args.growth.now.threads
-      c.args.growth.now.entered c.requires.1.sound;
+  grown = grown_same c.requires.1.sound;
   exploring = c.requires.1;
   falls = omega arith;
 }
@@ -37,8 +36,7 @@ returns-in-Some-enter-clause-closes g c = record {
 
 pub returns-in-Some-enter-clause-grown : goal.returns-in-Some-enter-clause-grown
 returns-in-Some-enter-clause-grown g c =
-    grown_then (size c.args.spot.now.course) c.args.spot.now.course.hi c.args.start c.args.spot.now.at c.args.growth.now.threads c.frames.growth.threads c.enter.new.growth.threads
-    c.args.growth.now.entered c.frames.growth.entered c.enter.new.growth.entered c.frames.invariant.grown c.in-Some-enter.ensures.grown
+    grown_then c.frames.invariant.grown c.in-Some-enter.ensures.grown
 
 pub returns-in-Some-enter-clause-falls : goal.returns-in-Some-enter-clause-falls
 returns-in-Some-enter-clause-falls g c = omega (arith, c.frames.invariant.falls, c.in-Some-enter.ensures.falls, c.in-Some.ensures.cases)
@@ -46,8 +44,7 @@ returns-in-Some-enter-clause-falls g c = omega (arith, c.frames.invariant.falls,
 pub frames-preserved-in_default-enter : goal.frames-preserved-in_default-enter
 frames-preserved-in_default-enter g c = record {
   explored = enters (on_top g (goal.at.frames-preserved-in_default-enter g c).In-Explore) c.way_in-place.ensures.way c.in_default-enter.ensures.visited;
-  grown = grown_then (size c.args.spot.now.course) c.args.spot.now.course.hi c.args.start c.args.spot.now.at c.args.growth.now.threads c.frames.growth.threads c.enter.new.growth.threads
-      c.args.growth.now.entered c.frames.growth.entered c.enter.new.growth.entered c.frames.invariant.grown c.in_default-enter.ensures.grown;
+  grown = grown_then c.frames.invariant.grown c.in_default-enter.ensures.grown;
   exploring = c.in_default-enter.ensures.exploring;
   falls = omega (arith, c.frames.invariant.falls, c.in_default-enter.ensures.falls, c.in-Some.ensures.cases);
 }

@@ -2,6 +2,7 @@ use Rattle.std.proofs.Common.{ℕ, ◌+◌, ◌<◌, sym, subst, arith, ◌∙�
 use Rattle.rc_pikevm.specs.Near.{seen_from}
 use Rattle.rc_pikevm.specs.Spread.{Seeks, starting}
 use Rattle.rc_pikevm.proofs.SpreadStepLemmas.{starting_next, starting_over, setting_from}
+use Rattle.rc_pikevm.proofs.StepLemmas.{gone_then}
 use Rattle.rc_pikevm.proofs.greatest.advance.Goals as goal
 
 pub returns-then-spot-clause-seeks : goal.returns-then-spot-clause-seeks
@@ -20,8 +21,8 @@ returns-else-spot-clause-seeks g c o x =
     (subst (λ rs. Seeks (seen_from c.args.spot.now g.text) at c.step.new.growth.threads.items c.step.new.growth.entered.items rs c.step.new.best o)
     (starting_over (at + 1) c.args.spot.now.course.last (omega (arith, past)) ∙ sym (starting_over at c.args.spot.now.course.last past)) x)
 
-pub returns-then-spot-clause-begun : goal.returns-then-spot-clause-begun
-returns-then-spot-clause-begun g c x l h = c.spread.ensures.grown.begun x l (c.step.ensures.begun x h)
+pub returns-then-spot-clause-stepped : goal.returns-then-spot-clause-stepped
+returns-then-spot-clause-stepped g c = gone_then c.step.ensures.stepped c.spread.ensures.grown
 
-pub returns-else-spot-clause-begun : goal.returns-else-spot-clause-begun
-returns-else-spot-clause-begun g c x l h = c.step.ensures.begun x h
+pub returns-else-spot-clause-stepped : goal.returns-else-spot-clause-stepped
+returns-else-spot-clause-stepped g c = c.step.ensures.stepped

@@ -1,6 +1,6 @@
 use Rattle.std.proofs.Common.{drop}
 use Rattle.rc_pikevm.specs.Near.{seen_from, size}
-use Rattle.rc_pikevm.specs.Passing.{IsStepping}
+use Rattle.rc_pikevm.specs.Steps.{IsStepping}
 use Rattle.rc_pikevm.proofs.pass.step.Given as goal
 
 abbrev pub invariant-threads : goal.invariant-threads

@@ -1,9 +1,9 @@
-use Rattle.std.proofs.Common.{◌≡◌, ℕ, ◌+◌, ◌-◌, [], ◌++◌, map, min, sym, ap, subst, ◌∙◌, arith, Some}
+use Rattle.std.proofs.Common.{◌≡◌, ℕ, ◌+◌, ◌-◌, [], ◌++◌, map, sym, ap, subst, ◌∙◌, arith, Some}
 use Rattle.rc_pikevm.specs.Threads.{ThreadList}
-use Rattle.rc_pikevm.specs.Near.{seen_from, size}
+use Rattle.rc_pikevm.specs.Near.{seen_from}
 use Rattle.rc_pikevm.specs.Trace.{done}
-use Rattle.rc_pikevm.specs.Passing.{CarriesTo, PendingTo, AllIn, IsLined, pending, waiting_starts}
-use Rattle.rc_pikevm.proofs.TurnLemmas.{none_from, lined_next, turned_on, turned_ends}
+use Rattle.rc_pikevm.specs.Passing.{CarriesTo, PendingTo, pending, waiting_starts}
+use Rattle.rc_pikevm.proofs.TurnLemmas.{none_from, inside_by, lined_next, ready_for, turned_on, turned_ends}
 use Rattle.rc_pikevm.proofs.pass.turn.Given.{Over}
 use Rattle.rc_pikevm.proofs.pass.turn.Goals as goal
 use Rattle.rc_pikevm.proofs.pass.turn.Goals.{After-clear}
@@ -11,13 +11,21 @@ use Rattle.rc_pikevm.proofs.pass.turn.Goals.{After-clear}
 wide : (g : Over) (c : After-clear g) → c.clear.new.self.threads.width ≡ c.args.scratch.now.next.threads.width
 wide g c = ap (λ (l : ThreadList). l.width) c.clear.ensures.threads
 
-pub finish-requires-clause-inside : goal.finish-requires-clause-inside
-finish-requires-clause-inside g c = (
-  c.args.spot.now.at + 1,
-  min c.args.spot.now.course.hi (c.args.spot.now.at + 4),
-  subst (λ n. AllIn n (c.args.spot.now.at + 1) (min c.args.spot.now.course.hi (c.args.spot.now.at + 4)) c.advance-end.new.growth.threads.items)
-      (sym c.advance-end.ensures.sound.capacity) c.advance-end.ensures.sound.inside,
+pub advance-end-requires : goal.advance-end-requires
+advance-end-requires g c = (
+  c.requires.0,
+  (
+    ready_for c.args.spot.now c.args.scratch.now.next.threads c.args.scratch.now.next.entered c.clear.new.self c.requires.1.1.0 c.clear.ensures.threads
+        c.clear.ensures.entered c.args.scratch.now.alike.0 c.requires.1.0,
+    (
+      c.args.scratch.now.alike.2 ∙ sym (ap (λ (l : ThreadList). l.width) c.clear.ensures.threads),
+      (c.requires.1.1.1.1.1.0, c.requires.1.1.1.1.1.1),
+    ),
+  ),
 )
+
+pub finish-requires-clause-inside : goal.finish-requires-clause-inside
+finish-requires-clause-inside g c = inside_by c.advance-end.ensures.stepped.sound
 
 pub returns-in-Some-clause-carries : goal.returns-in-Some-clause-carries
 returns-in-Some-clause-carries g c limit le free o x =
@@ -55,25 +63,13 @@ returns-clause-carries g c limit le free o x =
 
 pub returns-in-Some-clause-lined : goal.returns-in-Some-clause-lined
 returns-in-Some-clause-lined g c =
-    subst (λ l. IsLined (size c.args.spot.now.course) c.args.spot.now.course.hi c.args.scratch.now.next.threads.width (c.args.spot.now.at + 1)
-    c.finish.new.self.insertions l) (sym c.finish.ensures.threads)
-    (lined_next (size c.args.spot.now.course) c.args.spot.now.course.hi c.args.scratch.now.next.threads.width c.args.spot.now.at
-    c.args.scratch.now.insertions c.finish.new.self.insertions c.args.scratch.now.curr
-    c.advance-end.new.growth.threads c.advance-end.new.growth.entered c.requires.1.1.0 c.in-Some.ensures.sound
-    (c.in-Some.ensures.same.2 ∙ wide g (goal.at.returns-in-Some-clause-lined g c).After-clear)
-    (c.in-Some.ensures.same.0 ∙ ap (λ (l : ThreadList). l.room) c.clear.ensures.threads ∙ sym c.args.scratch.now.alike.0 ∙ c.requires.1.1.0.room)
-    c.in-Some.ensures.counts c.in-Some.ensures.begun c.finish.ensures.some)
+    lined_next c.args.scratch.now.next.threads c.finish.ensures.threads c.clear.ensures.threads c.args.scratch.now.alike c.requires.1.1.0 c.in-Some.ensures.stepped
+    c.finish.ensures.some
 
 pub returns-clause-lined : goal.returns-clause-lined
 returns-clause-lined g c =
-    subst (λ l. IsLined (size c.args.spot.now.course) c.args.spot.now.course.hi c.args.scratch.now.next.threads.width (c.args.spot.now.at + 1)
-    c.finish.new.self.insertions l) (sym c.finish.ensures.threads)
-    (lined_next (size c.args.spot.now.course) c.args.spot.now.course.hi c.args.scratch.now.next.threads.width c.args.spot.now.at
-    c.args.scratch.now.insertions c.finish.new.self.insertions c.args.scratch.now.curr
-    c.advance-end.new.growth.threads c.advance-end.new.growth.entered c.requires.1.1.0 c.in_default.ensures.sound
-    (c.in_default.ensures.same.2 ∙ wide g (goal.at.returns-clause-lined g c).After-clear)
-    (c.in_default.ensures.same.0 ∙ ap (λ (l : ThreadList). l.room) c.clear.ensures.threads ∙ sym c.args.scratch.now.alike.0 ∙ c.requires.1.1.0.room)
-    c.in_default.ensures.counts c.in_default.ensures.begun c.finish.ensures.some)
+    lined_next c.args.scratch.now.next.threads c.finish.ensures.threads c.clear.ensures.threads c.args.scratch.now.alike c.requires.1.1.0 c.in_default.ensures.stepped
+    c.finish.ensures.some
 
 pub returns-in-Some-clause-counted : goal.returns-in-Some-clause-counted
 returns-in-Some-clause-counted g c =

@@ -7,6 +7,7 @@ use Rattle.rc_pikevm.specs.Races.{Races, starts_to}
 use Rattle.rc_pikevm.proofs.RaceAloneLemmas.{raced_quiet}
 use Rattle.rc_pikevm.proofs.RaceMoveLemmas.{raced_drops, raced_way_in}
 use Rattle.rc_pikevm.proofs.RacePassLemmas.{starts_next, starts_over}
+use Rattle.rc_pikevm.proofs.StepLemmas.{gone_then}
 use Rattle.rc_pikevm.proofs.race.advance.Goals as goal
 
 pub returns-then-spot-clause-races : goal.returns-then-spot-clause-races
@@ -19,8 +20,8 @@ returns-then-spot-clause-races g c all x =
     (starts_over width at last past ∙ sym (starts_over width (at + 1) last (omega (arith, past))))
     (c.step.ensures.races all (starts_to width at last) x)
 
-pub returns-then-spot-clause-begun : goal.returns-then-spot-clause-begun
-returns-then-spot-clause-begun g c x l h = c.step.ensures.begun x h
+pub returns-then-spot-clause-stepped : goal.returns-then-spot-clause-stepped
+returns-then-spot-clause-stepped g c = c.step.ensures.stepped
 
 pub returns-then-not-is_sought-clause-races : goal.returns-then-not-is_sought-clause-races
 returns-then-not-is_sought-clause-races g c all x =
@@ -33,8 +34,8 @@ returns-then-not-is_sought-clause-races g c all x =
     (starts_next width at last (omega (arith, c.if-spot.false)))
     (c.step.ensures.races all (starts_to width at last) x))
 
-pub returns-then-not-is_sought-clause-begun : goal.returns-then-not-is_sought-clause-begun
-returns-then-not-is_sought-clause-begun g c x l h = c.step.ensures.begun x h
+pub returns-then-not-is_sought-clause-stepped : goal.returns-then-not-is_sought-clause-stepped
+returns-then-not-is_sought-clause-stepped g c = c.step.ensures.stepped
 
 pub returns-clause-races : goal.returns-clause-races
 returns-clause-races g c all x =
@@ -43,7 +44,7 @@ returns-clause-races g c all x =
     let last : ℕ = c.args.spot.now.course.last in
     let rest : List (Trace × Pair) = starts_to width (at + 1) last in
     let slots : c.empty.new.slots.items ≡ replicate width None =
-    c.empty.ensures.slots ∙ ap (λ n. replicate n None) (c.step.new.growth.wide.0 ∙ c.step.ensures.same.2) in
+    c.empty.ensures.slots ∙ ap (λ n. replicate n None) (c.step.new.growth.wide.0 ∙ c.step.ensures.stepped.same_width) in
     c.run.ensures.races all rest
     (subst (λ l. Races (seen_from c.args.spot.now g.text) all at c.step.new.growth.threads.items c.step.new.growth.entered.items
     ((trace at l, (c.way_in-place.result, at)) ∷ rest) c.step.new.best c.step.new.found) (sym slots)
@@ -53,8 +54,8 @@ returns-clause-races g c all x =
     (starts_next width at last (omega (arith, c.if-spot.false)))
     (c.step.ensures.races all (starts_to width at last) x))))
 
-pub returns-clause-begun : goal.returns-clause-begun
-returns-clause-begun g c x l h = c.run.ensures.grown.begun x l (c.step.ensures.begun x h)
+pub returns-clause-stepped : goal.returns-clause-stepped
+returns-clause-stepped g c = gone_then c.step.ensures.stepped c.run.ensures.grown
 
 pub returns-then-is_dead-clause-races : goal.returns-then-is_dead-clause-races
 returns-then-is_dead-clause-races g c all x =
@@ -65,5 +66,5 @@ returns-then-is_dead-clause-races g c all x =
     width last true (λ e. absurd (true≢false e)) (λ _ _. c.is_dead.ensures c.if-is_dead.true None tt (pairs at c.step.new.growth.entered.items))
     (c.step.ensures.races all (starts_to width at last) x)
 
-pub returns-then-is_dead-clause-begun : goal.returns-then-is_dead-clause-begun
-returns-then-is_dead-clause-begun g c x l h = c.step.ensures.begun x h
+pub returns-then-is_dead-clause-stepped : goal.returns-then-is_dead-clause-stepped
+returns-then-is_dead-clause-stepped g c = c.step.ensures.stepped

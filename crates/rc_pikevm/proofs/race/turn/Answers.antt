@@ -1,10 +1,10 @@
-use Rattle.std.proofs.Common.{◌≡◌, ℕ, zero, suc, ◌+◌, ◌-◌, List, [], ◌∷◌, ◌++◌, length, map, take, drop, min, refl, sym, ap, subst, ◌∙◌, arith, ⊎_elim, true}
+use Rattle.std.proofs.Common.{◌≡◌, ℕ, zero, suc, ◌+◌, ◌-◌, List, [], ◌∷◌, ◌++◌, length, map, take, drop, refl, sym, ap, subst, ◌∙◌, arith, ⊎_elim, true}
 use Rattle.rc_pikevm.specs.Threads.{ThreadList}
-use Rattle.rc_pikevm.specs.Near.{seen_from, size}
-use Rattle.rc_pikevm.specs.Passing.{pending, AllIn, IsLined, IsCounted}
+use Rattle.rc_pikevm.specs.Near.{seen_from}
+use Rattle.rc_pikevm.specs.Passing.{pending, IsCounted}
 use Rattle.rc_pikevm.specs.Races.{Races, starts_to}
 use Rattle.rc_pikevm.proofs.StartLemmas.{waiting_past}
-use Rattle.rc_pikevm.proofs.TurnLemmas.{lined_next, from_earlier}
+use Rattle.rc_pikevm.proofs.TurnLemmas.{inside_by, lined_next, ready_for, from_earlier}
 use Rattle.rc_pikevm.proofs.SpreadPassLemmas.{counted_more}
 use Rattle.rc_pikevm.proofs.RacePassLemmas.{raced_turns}
 use Rattle.rc_pikevm.proofs.race.turn.Goals as goal
@@ -15,13 +15,21 @@ whole [] ys (suc n) e = absurd (omega (arith, e))
 whole (x ∷ xs) ys zero e = absurd (omega (arith, e))
 whole (x ∷ xs) ys (suc n) e = ap (λ l. x ∷ l) (whole xs ys n (omega (arith, e)))
 
-pub finish-requires-clause-inside : goal.finish-requires-clause-inside
-finish-requires-clause-inside g c = (
-  c.args.spot.now.at + 1,
-  min c.args.spot.now.course.hi (c.args.spot.now.at + 4),
-  subst (λ n. AllIn n (c.args.spot.now.at + 1) (min c.args.spot.now.course.hi (c.args.spot.now.at + 4)) c.advance.new.growth.threads.items)
-      (sym c.advance.ensures.sound.capacity) c.advance.ensures.sound.inside,
+pub advance-requires : goal.advance-requires
+advance-requires g c = (
+  c.requires.0,
+  (
+    ready_for c.args.spot.now c.args.scratch.now.next.threads c.args.scratch.now.next.entered c.clear.new.self c.requires.1.1.0 c.clear.ensures.threads
+        c.clear.ensures.entered c.args.scratch.now.alike.0 c.requires.1.0,
+    (
+      c.args.scratch.now.alike.2 ∙ sym (ap (λ (l : ThreadList). l.width) c.clear.ensures.threads),
+      ap length c.deref_mut.ensures.value ∙ c.args.scratch.now.wide.0 ∙ sym (ap (λ (l : ThreadList). l.width) c.clear.ensures.threads),
+    ),
+  ),
 )
+
+pub finish-requires-clause-inside : goal.finish-requires-clause-inside
+finish-requires-clause-inside g c = inside_by c.advance.ensures.stepped.sound
 
 pub returns-clause-races : goal.returns-clause-races
 returns-clause-races g c all x =
@@ -48,13 +56,8 @@ returns-clause-races g c all x =
 
 pub returns-clause-lined : goal.returns-clause-lined
 returns-clause-lined g c =
-    subst (λ l. IsLined (size c.args.spot.now.course) c.args.spot.now.course.hi c.args.scratch.now.next.threads.width (c.args.spot.now.at + 1)
-    c.finish.new.self.insertions l) (sym c.finish.ensures.threads)
-    (lined_next (size c.args.spot.now.course) c.args.spot.now.course.hi c.args.scratch.now.next.threads.width c.args.spot.now.at c.args.scratch.now.insertions
-    c.finish.new.self.insertions c.args.scratch.now.curr c.advance.new.growth.threads c.advance.new.growth.entered c.requires.1.1.0 c.advance.ensures.sound
-    (c.advance.ensures.same.2 ∙ ap (λ (l : ThreadList). l.width) c.clear.ensures.threads)
-    (c.advance.ensures.same.0 ∙ ap (λ (l : ThreadList). l.room) c.clear.ensures.threads ∙ sym c.args.scratch.now.alike.0 ∙ c.requires.1.1.0.room)
-    c.advance.ensures.counts c.advance.ensures.begun c.finish.ensures.some)
+    lined_next c.args.scratch.now.next.threads c.finish.ensures.threads c.clear.ensures.threads c.args.scratch.now.alike c.requires.1.1.0 c.advance.ensures.stepped
+    c.finish.ensures.some
 
 pub returns-clause-counted : goal.returns-clause-counted
 returns-clause-counted g c =

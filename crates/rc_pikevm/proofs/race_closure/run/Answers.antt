@@ -1,6 +1,6 @@
 use Rattle.std.proofs.Common.{◌≡◌, ◌++◌, sym, ap, subst, arith, rules, refl, None}
 use Rattle.rc_pikevm.specs.Explored.{count_ended}
-use Rattle.rc_pikevm.specs.Near.{seen_from, size}
+use Rattle.rc_pikevm.specs.Near.{seen_from}
 use Rattle.rc_pikevm.specs.Passing.{waits}
 use Rattle.rc_pikevm.specs.Races.{Races, IsRecorded}
 use Rattle.rc_pikevm.specs.declared.pass.Ending.{Ending}
@@ -48,8 +48,7 @@ ends-preserved g c =
       empty = c.drain-ended.ensures.closes.empty;
       sought = sought;
       counted = λ k h x. recorded_counted c.ends.best c.ends.found new c.ends.growth.slots.items c.record.new.best c.record.new.found r k h (inv.counted k h x);
-      grown = grown_then (size c.args.spot.now.course) c.args.spot.now.course.hi c.args.start c.args.spot.now.at c.args.growth.now.threads c.ends.growth.threads
-          c.drain-ended.new.growth.threads c.args.growth.now.entered c.ends.growth.entered c.drain-ended.new.growth.entered inv.grown c.drain-ended.ensures.grown;
+      grown = grown_then inv.grown c.drain-ended.ensures.grown;
       exploring = c.drain-ended.ensures.exploring;
     }
 

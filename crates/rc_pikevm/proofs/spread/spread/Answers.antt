@@ -1,6 +1,6 @@
 use Rattle.std.proofs.Common.{◌≡◌, ◌++◌, Some, None, ⊎_elim, sym, ap, subst, ◌∙◌, arith, rules, refl}
 use Rattle.rc_pikevm.specs.Explored.{count_ended}
-use Rattle.rc_pikevm.specs.Near.{seen_from, size}
+use Rattle.rc_pikevm.specs.Near.{seen_from}
 use Rattle.rc_pikevm.specs.Passing.{IsCounted}
 use Rattle.rc_pikevm.specs.Spread.{Seeks, runners_of}
 use Rattle.rc_pikevm.specs.declared.pass.Ending.{Ending}
@@ -42,8 +42,7 @@ ends-preserved g c =
       ordered = explored_ordered s c.args.spot.now.at c.args.start c.drain-ended.ensures.closes.explores narrow inv.ordered;
       counted = λ k h x.
           ⊎_elim (λ e. subst (λ (r : Ending). IsCounted k (Some r)) (sym e) h) (λ e. subst (IsCounted k) e (inv.counted k h x)) r.one;
-      grown = grown_then (size c.args.spot.now.course) c.args.spot.now.course.hi c.args.start c.args.spot.now.at c.args.growth.now.threads c.ends.growth.threads
-          c.drain-ended.new.growth.threads c.args.growth.now.entered c.ends.growth.entered c.drain-ended.new.growth.entered inv.grown c.drain-ended.ensures.grown;
+      grown = grown_then inv.grown c.drain-ended.ensures.grown;
       exploring = c.drain-ended.ensures.exploring;
     }
 

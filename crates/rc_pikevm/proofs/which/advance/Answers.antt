@@ -3,6 +3,7 @@ use Rattle.rc_pikevm.specs.Near.{seen_from}
 use Rattle.rc_pikevm.specs.Marking.{Owed, entering, going}
 use Rattle.rc_pikevm.proofs.MarkMoveLemmas.{same_then, low_in}
 use Rattle.rc_pikevm.proofs.MarkStepLemmas.{entering_next, entering_over, sets_out_none}
+use Rattle.rc_pikevm.proofs.StepLemmas.{gone_then}
 use Rattle.rc_pikevm.proofs.which.advance.Goals as goal
 
 pub returns-then-spot-clause-same : goal.returns-then-spot-clause-same
@@ -31,13 +32,13 @@ returns-then-not-may_begin-clause-same g c p low =
     let last : ℕ = c.args.spot.now.course.last in
     same_then (c.step.ensures.same (entering at last) p low)
     (sets_out_none (seen_from c.args.spot.now g.text) p at last c.step.new.growth.threads.items c.step.new.growth.entered.items c.step.new.set
-    (c.requires.1.1.1.1.1.1.0 c.if-not-may_begin.true))
+    (c.requires.1.1.1.0 c.if-not-may_begin.true))
 
-pub returns-then-not-may_begin-clause-begun : goal.returns-then-not-may_begin-clause-begun
-returns-then-not-may_begin-clause-begun g c x l h = c.step.ensures.begun x h
+pub returns-then-not-may_begin-clause-stepped : goal.returns-then-not-may_begin-clause-stepped
+returns-then-not-may_begin-clause-stepped g c = c.step.ensures.stepped
 
-pub returns-then-spot-clause-begun : goal.returns-then-spot-clause-begun
-returns-then-spot-clause-begun g c x l h = c.set_out.ensures.grown.begun x l (c.step.ensures.begun x h)
+pub returns-then-spot-clause-stepped : goal.returns-then-spot-clause-stepped
+returns-then-spot-clause-stepped g c = gone_then c.step.ensures.stepped c.set_out.ensures.grown
 
-pub returns-else-spot-clause-begun : goal.returns-else-spot-clause-begun
-returns-else-spot-clause-begun g c x l h = c.step.ensures.begun x h
+pub returns-else-spot-clause-stepped : goal.returns-else-spot-clause-stepped
+returns-else-spot-clause-stepped g c = c.step.ensures.stepped

@@ -2,7 +2,7 @@ use Rattle.std.proofs.Common.{◌≡◌, ◌++◌, ◌↔◌, ◌∷◌, None, t
 use Rattle.std.proofs.lemmas.List.{length-set}
 use Rattle.rc_pattern_set.proofs.SetLemmas.{set_keeps}
 use Rattle.rc_pikevm.specs.Explored.{count_ended}
-use Rattle.rc_pikevm.specs.Near.{seen_from, size}
+use Rattle.rc_pikevm.specs.Near.{seen_from}
 use Rattle.rc_pikevm.specs.Marking.{Owed, explored}
 use Rattle.rc_pikevm.proofs.ExploredLemmas.{Marks, explored_accepted, explored_owed}
 use Rattle.rc_pikevm.proofs.GrownLemmas.{grown_then}
@@ -47,8 +47,7 @@ ends-preserved g c =
       empty = c.drain-ended.ensures.closes.empty;
       long = long;
       more = λ p h. rw c.mark.ensures (set_keeps c.ends.set c.in-Some.number p (inv.more p h));
-      grown = grown_then (size c.args.spot.now.course) c.args.spot.now.course.hi c.args.start c.args.spot.now.at c.args.growth.now.threads c.ends.growth.threads
-          c.drain-ended.new.growth.threads c.args.growth.now.entered c.ends.growth.entered c.drain-ended.new.growth.entered inv.grown c.drain-ended.ensures.grown;
+      grown = grown_then inv.grown c.drain-ended.ensures.grown;
       exploring = c.drain-ended.ensures.exploring;
     }
 

@@ -1,20 +1,30 @@
-use Rattle.std.proofs.Common.{ℕ, ◌+◌, ◌-◌, min, sym, ap, subst, ◌∙◌, arith}
+use Rattle.std.proofs.Common.{ℕ, ◌+◌, ◌-◌, arith, sym, ap, ◌∙◌}
 use Rattle.rc_pikevm.specs.Threads.{ThreadList}
-use Rattle.rc_pikevm.specs.Near.{seen_from, size}
-use Rattle.rc_pikevm.specs.Passing.{AllIn, IsLined}
+use Rattle.rc_pikevm.specs.Near.{seen_from}
 use Rattle.rc_pikevm.specs.Marking.{entering}
-use Rattle.rc_pikevm.proofs.TurnLemmas.{lined_next}
+use Rattle.rc_pikevm.proofs.TurnLemmas.{inside_by, lined_next, ready_for}
 use Rattle.rc_pikevm.proofs.MarkMoveLemmas.{same_then, turned_over}
 use Rattle.rc_pikevm.proofs.MarkStepLemmas.{entries_later}
 use Rattle.rc_pikevm.proofs.which.turn.Goals as goal
 
-pub finish-requires-clause-inside : goal.finish-requires-clause-inside
-finish-requires-clause-inside g c = (
-  c.args.spot.now.at + 1,
-  min c.args.spot.now.course.hi (c.args.spot.now.at + 4),
-  subst (λ n. AllIn n (c.args.spot.now.at + 1) (min c.args.spot.now.course.hi (c.args.spot.now.at + 4)) c.advance.new.growth.threads.items)
-      (sym c.advance.ensures.sound.capacity) c.advance.ensures.sound.inside,
+pub advance-requires : goal.advance-requires
+advance-requires g c = (
+  c.requires.0,
+  (
+    ready_for c.args.spot.now c.args.scratch.now.next.threads c.args.scratch.now.next.entered c.clear.new.self c.requires.1.1.0 c.clear.ensures.threads
+        c.clear.ensures.entered c.args.scratch.now.alike.0 c.requires.1.0,
+    (
+      (
+        c.requires.1.1.0.width_is,
+        ap (λ (l : ThreadList). l.width) c.clear.ensures.threads ∙ sym c.args.scratch.now.alike.2 ∙ c.requires.1.1.0.width_is,
+      ),
+      (c.requires.1.1.1.1.0, c.requires.1.1.1.1.1),
+    ),
+  ),
 )
+
+pub finish-requires-clause-inside : goal.finish-requires-clause-inside
+finish-requires-clause-inside g c = inside_by c.advance.ensures.stepped.sound
 
 pub returns-clause-same : goal.returns-clause-same
 returns-clause-same g c p low =
@@ -28,10 +38,5 @@ returns-clause-same g c p low =
 
 pub returns-clause-lined : goal.returns-clause-lined
 returns-clause-lined g c =
-    subst (λ l. IsLined (size c.args.spot.now.course) c.args.spot.now.course.hi 0 (c.args.spot.now.at + 1) c.finish.new.self.insertions l)
-    (sym c.finish.ensures.threads)
-    (lined_next (size c.args.spot.now.course) c.args.spot.now.course.hi 0 c.args.spot.now.at c.args.scratch.now.insertions
-    c.finish.new.self.insertions c.args.scratch.now.curr c.advance.new.growth.threads c.advance.new.growth.entered c.requires.1.1.0 c.advance.ensures.sound
-    (c.advance.ensures.kept.2 ∙ ap (λ (l : ThreadList). l.width) c.clear.ensures.threads ∙ sym c.args.scratch.now.alike.2 ∙ c.requires.1.1.0.width_is)
-    (c.advance.ensures.kept.0 ∙ ap (λ (l : ThreadList). l.room) c.clear.ensures.threads ∙ sym c.args.scratch.now.alike.0 ∙ c.requires.1.1.0.room)
-    c.advance.ensures.counts c.advance.ensures.begun c.finish.ensures.some)
+    lined_next c.args.scratch.now.next.threads c.finish.ensures.threads c.clear.ensures.threads c.args.scratch.now.alike c.requires.1.1.0 c.advance.ensures.stepped
+    c.finish.ensures.some
