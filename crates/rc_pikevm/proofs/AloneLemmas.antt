@@ -301,7 +301,7 @@ module _ (s : Sight) (n hi width from last at insertions : ℕ) (curr : ThreadLi
       → Carries s t.at [] [] ((trace t.start slots, (t.place, t.at)) ∷ waiting_starts is_open width t.at last) best o) →
       IsPassing s n hi width from last r.at insertions2 next best found
   passing_runs t r insertions2 next is_open p one moved here start place later within count open_is run = record {
-    carries = λ o x. p.carries o
+    law = λ o x. p.law o
         (subst (λ ts. Pending s width last at ts best found o) (sym one)
         (subst (λ y. Carries s y [] [] ((trace t.start t.slots, (t.place, t.at)) ∷ waiting_starts (is_none best) width y last) (best_of best found) o) here
         (subst (λ b. Carries s t.at [] [] ((trace t.start t.slots, (t.place, t.at)) ∷ waiting_starts b width t.at last) (best_of best found) o) open_is
@@ -390,10 +390,10 @@ module _ (s : Sight) (n hi width from last at insertions : ℕ) (curr : ThreadLi
       Races s all r.at [] [] ((trace r.start t.slots, (r.place, r.at)) ∷ starts_to width r.at last) best found) →
       IsRunFrom s n hi width from last r.at insertions2 next best found
   runs_alone t r insertions2 next p one moved here start place later within count run = record {
-    races = subst (λ (l : ThreadList). Races s (starts_to width from last) r.at [] [] (map pending l.items ++ starts_to width r.at last) best found) (sym moved)
+    law = subst (λ (l : ThreadList). Races s (starts_to width from last) r.at [] [] (map pending l.items ++ starts_to width r.at last) best found) (sym moved)
         (run (starts_to width from last)
         (subst (λ y. Races s (starts_to width from last) y [] [] ((trace t.start t.slots, (t.place, t.at)) ∷ starts_to width y last) best found) (sym here)
-        (subst (λ ts. Races s (starts_to width from last) at [] [] (map pending ts ++ starts_to width at last) best found) one p.races)));
+        (subst (λ ts. Races s (starts_to width from last) at [] [] (map pending ts ++ starts_to width at last) best found) one p.law)));
     lined = lined_moved n hi width at insertions insertions2 curr next t r one moved later count p.lined start place within;
     ended = counted_more insertions insertions2 best (omega (arith, count)) p.ended;
     few = few_moved n hi width at insertions insertions2 curr next t r one moved later count from p.few p.reached place;

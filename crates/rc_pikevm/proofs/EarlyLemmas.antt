@@ -56,7 +56,7 @@ module _ (s : Sight) where
         IsPassing s n hi width from last at insertions curr (Some r) slots → Tells s from last (Some r)
     early_tells at insertions curr r slots high p =
         let got = threads_give n at (min hi (at + 3)) curr.items (done r.pattern r.start r.end slots) (omega (arith, high)) p.lined.inside in
-        tells_some r got.0 (p.carries (Some got.0) (over got.1))
+        tells_some r got.0 (p.law (Some got.0) (over got.1))
 
     pub early_tells_if : (at insertions : ℕ) (curr : ThreadList) (best : Option Ending) (slots : List (Option ℕ)) → hi ≡ s.hi →
         is_some best ≡ true → IsPassing s n hi width from last at insertions curr best slots → Tells s from last best

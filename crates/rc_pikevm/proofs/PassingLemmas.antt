@@ -51,7 +51,7 @@ module _ (s : Sight) (n hi width from last : ℕ) where
   pub passing_begins : (curr : ThreadList) (found : List (Option ℕ)) → curr.items ≡ [] → curr.width ≡ width → curr.room ≡ 4 * n →
       from ≤ last → last ≤ hi → IsPassing s n hi width from last from 0 curr None found
   passing_begins curr found no_items wide room low high = record {
-    carries = λ o x. begins_to None curr.items found no_items low o x;
+    law = λ o x. begins_to None curr.items found no_items low o x;
     lined = record {
       inside = rw no_items tt;
       width_is = wide;
@@ -71,7 +71,7 @@ module _ (s : Sight) (n hi width from last : ℕ) where
       IsLined n hi width (at + 1) insertions2 next → IsCounted insertions2 best2 → insertions2 ≤ insertions + n →
       IsPassing s n hi width from last (at + 1) insertions2 next best2 found2
   passing_turns at insertions insertions2 curr next best best2 found found2 p within turn lined ended few = record {
-    carries = λ o x. p.carries o (turn o x);
+    law = λ o x. p.law o (turn o x);
     lined = lined;
     ended = ended;
     few =
@@ -95,7 +95,7 @@ module _ (s : Sight) (n hi width from last : ℕ) where
   passing_done : (at insertions : ℕ) (curr : ThreadList) (best : Option Ending) (found : List (Option ℕ)) →
       IsPassing s n hi width from last at insertions curr best found → length curr.items ≡ 0 → waiting_starts (is_none best) width at last ≡ [] →
       GivesTrace s width from last (best_of best found)
-  passing_done at insertions curr best found p none no_starts = done_to None at curr.items best found p.carries none no_starts
+  passing_done at insertions curr best found p none no_starts = done_to None at curr.items best found p.law none no_starts
 
   -- no thread is left, and no start
   pub passing_stops : (at insertions : ℕ) (curr : ThreadList) (best : Option Ending) (found : List (Option ℕ)) →
@@ -135,7 +135,7 @@ module _ (s : Sight) (n hi width from last : ℕ) where
   passing_skips at x insertions curr best found p none unmatched low high no_walk =
       let no_items = no_threads curr.items none in
       record {
-        carries = λ o y. p.carries o (skips_carries at x curr best found o none unmatched low no_walk y);
+        law = λ o y. p.law o (skips_carries at x curr best found o none unmatched low no_walk y);
         lined = lined_without n hi width at x insertions curr no_items p.lined;
         ended = p.ended;
         few = let m : n * (at - from) ≤ n * (x - from) = mul-le-mul_left n (omega (arith, low)) in omega (arith, m, p.few);
@@ -156,7 +156,7 @@ module _ (s : Sight) (n hi width from last : ℕ) where
       ((y : ℕ) → at ≤ y → y ≤ hi → HasNoWalkFrom s y) → GivesTrace s width from last None
   passing_gives_up at insertions curr (Some r) found p none unmatched within high no_walk = absurd (true≢false (sym unmatched))
   passing_gives_up at insertions curr None found p none unmatched within high no_walk =
-      p.carries None
+      p.law None
       (skips_carries at (hi + 1) curr None found None none unmatched (omega (arith, within)) (λ y a b. no_walk y a (omega (arith, b)))
       (subst (λ ts. Carries s (hi + 1) [] [] (map pending ts ++ waiting_starts true width (hi + 1) last) None None)
       (sym (no_threads curr.items none))

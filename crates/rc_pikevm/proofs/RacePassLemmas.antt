@@ -143,7 +143,7 @@ module _ (s : Sight) (n hi width from last : ℕ) where
   pub runs_begin : (curr : ThreadList) (found : List (Option ℕ)) → curr.items ≡ [] → curr.width ≡ width → curr.room ≡ 4 * n →
       from ≤ last → last ≤ hi → IsRunFrom s n hi width from last from 0 curr None found
   runs_begin curr found no_items wide room low high = record {
-    races = subst (λ ts. Races s (starts_to width from last) from [] [] (map pending ts ++ starts_to width from last) None found) (sym no_items)
+    law = subst (λ ts. Races s (starts_to width from last) from [] [] (map pending ts ++ starts_to width from last) None found) (sym no_items)
         (race_begins (next_of s) (Ends s) Trace (note s.places) began (note_keeps s.places) same_pair (last_pair s) (onward s) (starts_to width from last) from
         (starts_ready width from from (last + 1 - from) (omega arith))
         (apart_rising (next_of s) (Ends s) Trace (note s.places) began (note_keeps s.places) same_pair (last_pair s) (onward s) (starts_to width from last)
@@ -168,7 +168,7 @@ module _ (s : Sight) (n hi width from last : ℕ) where
       IsLined n hi width (at + 1) insertions2 threads → IsCounted insertions2 best2 → insertions2 ≤ insertions + n →
       IsRunFrom s n hi width from last (at + 1) insertions2 threads best2 found2
   runs_turn at insertions insertions2 curr threads best best2 found found2 p within turn lined counted few = record {
-    races = turn (starts_to width from last) p.races;
+    law = turn (starts_to width from last) p.law;
     lined = lined;
     ended = counted;
     few =
@@ -194,7 +194,7 @@ module _ (s : Sight) (n hi width from last : ℕ) where
       IsRunFrom s n hi width from last at insertions curr best found → curr.items ≡ [] →
       Races s (starts_to width from last) at [] [] (starts_to width at last) best found
   alone at insertions curr best found p none =
-      subst (λ ts. Races s (starts_to width from last) at [] [] (map pending ts ++ starts_to width at last) best found) none p.races
+      subst (λ ts. Races s (starts_to width from last) at [] [] (map pending ts ++ starts_to width at last) best found) none p.law
 
   past_last : (at insertions : ℕ) (curr : ThreadList) (best : Option Ending) (found : List (Option ℕ)) →
       IsRunFrom s n hi width from last at insertions curr best found → curr.items ≡ [] → last < at → from ≤ last →
@@ -230,7 +230,7 @@ module _ (s : Sight) (n hi width from last : ℕ) where
   pub runs_skip : (at x insertions : ℕ) (curr : ThreadList) (found : List (Option ℕ)) → IsRunFrom s n hi width from last at insertions curr None found →
       curr.items ≡ [] → at ≤ x → x ≤ hi → ((y : ℕ) → at ≤ y → y < x → HasNoWalkFrom s y) → IsRunFrom s n hi width from last x insertions curr None found
   runs_skip at x insertions curr found p no_items low high none = record {
-    races = subst (λ ts. Races s (starts_to width from last) x [] [] (map pending ts ++ starts_to width x last) None found) (sym no_items)
+    law = subst (λ ts. Races s (starts_to width from last) x [] [] (map pending ts ++ starts_to width x last) None found) (sym no_items)
         (raced_jumps s (starts_to width from last) width last at x low none (alone at insertions curr None found p no_items));
     lined = lined_without n hi width at x insertions curr no_items p.lined;
     ended = p.ended;

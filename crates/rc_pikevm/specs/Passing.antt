@@ -148,11 +148,16 @@ pub record IsLined (n hi width at insertions : ℕ) (curr : ThreadList) : Type 0
 abbrev pub IsCounted : ℕ → Option Ending → Type 0
 IsCounted insertions best = MatchOption best (Unit {0}) (λ (r : Ending). r.end + 1 ≤ insertions + r.start)
 
--- The pass from the start `from` has come to the position `at`.
-pub record IsPassing (s : Sight) (n hi width from last at insertions : ℕ) (curr : ThreadList) (best : Option Ending) (found : List (Option ℕ)) : Type 0 where
-  pub carries : (o : Option Trace) → Pending s width last at curr.items best found o → GivesTrace s width from last o
+-- A pass from the start `from` has come to the position `at`, where the law holds.
+pub record IsCome (Law : Type 0) (n hi width from at insertions : ℕ) (curr : ThreadList) (best : Option Ending) : Type 0 where
+  pub law : Law
   pub lined : IsLined n hi width at insertions curr
   pub ended : IsCounted insertions best
   pub few : insertions ≤ n * (at - from)
   pub reached : from ≤ at
   pub within : at ≤ hi + 1
+
+-- The pass for the first walk has come there.
+abbrev pub IsPassing : Sight → ℕ → ℕ → ℕ → ℕ → ℕ → ℕ → ℕ → ThreadList → Option Ending → List (Option ℕ) → Type 0
+IsPassing s n hi width from last at insertions curr best found =
+    IsCome ((o : Option Trace) → Pending s width last at curr.items best found o → GivesTrace s width from last o) n hi width from at insertions curr best

@@ -1,6 +1,6 @@
 -- Only proofs use this file.
 -- The Pike VM for leftmost-longest: what one pass for the longest walk of the least start keeps.
-use Rattle.std.specs.Prelude.{◌≡◌, ℕ, ◌+◌, ◌-◌, ◌*◌, ◌<◌, ◌≤◌, ◌⊎◌, List, [], ◌∷◌, ◌++◌, length, map, Option, Some, None, IsTrue, if◌then◌else◌, nat_le, option_map}
+use Rattle.std.specs.Prelude.{◌≡◌, ℕ, ◌+◌, ◌-◌, ◌<◌, ◌≤◌, ◌⊎◌, List, [], ◌∷◌, ◌++◌, length, map, Option, Some, None, IsTrue, if◌then◌else◌, nat_le, option_map}
 use Rattle.rc_walks.specs.Walks.{Pair, IsIn, HasNoWalk}
 use Rattle.rc_walks.specs.Threads.{IsFirstOf, Pends, AllPast, noted}
 use Rattle.rc_program.specs.Longest.{IsLongestWalk}
@@ -8,7 +8,7 @@ use Rattle.rc_pikevm.specs.Sights.{Sight, ends, next_of, HasNoWalkFrom}
 use Rattle.rc_pikevm.specs.Sparse.{Members}
 use Rattle.rc_pikevm.specs.Threads.{Thread, ThreadList}
 use Rattle.rc_pikevm.specs.Trace.{Trace, note, done, starts, sets_out}
-use Rattle.rc_pikevm.specs.Passing.{pending, pairs, AllFrom, IsLined, IsCounted}
+use Rattle.rc_pikevm.specs.Passing.{pending, pairs, AllFrom, IsCome, IsCounted}
 use Rattle.rc_pikevm.specs.Steps.{HasGone}
 use Rattle.rc_pikevm.specs.declared.pass.Ending.{Ending}
 
@@ -156,11 +156,7 @@ pub record IsRunOn (s : Sight) (n hi at : ℕ) (all left : List Thread) (threads
   pub counted : (k : ℕ) → AllFrom (at + 1 - k) all → IsCounted k best0 → IsCounted k best
   pub still : (best ≡ best0) ⊎ (0 < length entered.items)
 
--- The pass from the start `from` has come to the position `at`.
-pub record IsRunFrom (s : Sight) (n hi width from last at insertions : ℕ) (curr : ThreadList) (best : Option Ending) (found : List (Option ℕ)) : Type 0 where
-  pub races : Races s (starts_to width from last) at [] [] (map pending curr.items ++ starts_to width at last) best found
-  pub lined : IsLined n hi width at insertions curr
-  pub ended : IsCounted insertions best
-  pub few : insertions ≤ n * (at - from)
-  pub reached : from ≤ at
-  pub within : at ≤ hi + 1
+-- The pass for the longest walk, from the start `from`, has come to the position `at`.
+abbrev pub IsRunFrom : Sight → ℕ → ℕ → ℕ → ℕ → ℕ → ℕ → ℕ → ThreadList → Option Ending → List (Option ℕ) → Type 0
+IsRunFrom s n hi width from last at insertions curr best found =
+    IsCome (Races s (starts_to width from last) at [] [] (map pending curr.items ++ starts_to width at last) best found) n hi width from at insertions curr best

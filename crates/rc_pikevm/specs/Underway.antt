@@ -5,9 +5,10 @@ use Rattle.std.specs.Prelude.{ℕ, Option}
 use Rattle.rc_text.specs.Text.{Searched}
 use Rattle.rc_pikevm.specs.Moves.{seen_by}
 use Rattle.rc_pikevm.specs.Near.{size}
-use Rattle.rc_pikevm.specs.Passing.{IsLined, IsPassing}
-use Rattle.rc_pikevm.specs.Races.{IsRunFrom}
+use Rattle.rc_pikevm.specs.Passing.{IsLined}
+use Rattle.rc_pikevm.specs.Rules.{IsUnderWay}
 use Rattle.rc_pikevm.specs.declared.pass.Ending.{Ending}
+use Rattle.rc_pikevm.specs.declared.rule.Rule.{Rule}
 use Rattle.rc_pikevm.specs.declared.scratch.Scratch.{Scratch}
 use Rattle.rc_pikevm.specs.declared.spot.Course.{Course}
 
@@ -15,12 +16,7 @@ use Rattle.rc_pikevm.specs.declared.spot.Course.{Course}
 abbrev pub IsInLine : Course → ℕ → ℕ → Scratch → Type 0
 IsInLine course width at scratch = IsLined (size course) course.hi width at scratch.insertions scratch.curr
 
--- The pass for the first walk has come there.
-abbrev pub HasPassed : Course → Searched → ℕ → ℕ → ℕ → Scratch → Option Ending → Type 0
-HasPassed course text width from at scratch best =
-    IsPassing (seen_by course text) (size course) course.hi width from course.last at scratch.insertions scratch.curr best scratch.found.items
-
--- The pass for the longest walk has come there.
-abbrev pub HasRun : Course → Searched → ℕ → ℕ → ℕ → Scratch → Option Ending → Type 0
-HasRun course text width from at scratch best =
-    IsRunFrom (seen_by course text) (size course) course.hi width from course.last at scratch.insertions scratch.curr best scratch.found.items
+-- The pass by the rule has come there.
+abbrev pub HasCome : Rule → Course → Searched → ℕ → ℕ → ℕ → Scratch → Option Ending → Type 0
+HasCome rule course text width from at scratch best =
+    IsUnderWay rule (seen_by course text) (size course) course.hi width from course.last at scratch.insertions scratch.curr best scratch.found.items

@@ -13,11 +13,13 @@ ghost use Rattle.rc_pikevm.specs.Near.{IsHere, seen_from, size};
 ghost use Rattle.rc_pikevm.specs.Passing.{Carries, waiting_starts};
 ghost use Rattle.rc_pikevm.specs.Races.{Races, IsCutOff, IsSought, starts_to};
 ghost use Rattle.rc_pikevm.specs.Roots.{StandsFor};
+ghost use Rattle.rc_pikevm.specs.Rules.{root_of};
+ghost use Rattle.rc_pikevm.specs.declared.rule.Rule.{Rule};
 ghost use Rattle.rc_pikevm.specs.Scratches.{IsSame};
 ghost use Rattle.rc_pikevm.specs.Sights.{HasNoWalkFrom};
 ghost use Rattle.rc_pikevm.specs.Threads.{Thread, thread_of};
 ghost use Rattle.rc_pikevm.specs.Trace.{Trace, trace};
-ghost use Rattle.rc_pikevm.specs.Underway.{HasPassed, HasRun, IsInLine};
+ghost use Rattle.rc_pikevm.specs.Underway.{HasCome, IsInLine};
 ghost use Rattle.rc_pikevm.specs.Windows.{IsWindow, IsBegun, IsAround};
 
 use crate::entrance::is_shut;
@@ -396,13 +398,9 @@ fn go_alone(
     requires within { at ≤ course.hi }
     requires small { scratch.old.insertions + 2 ^ 65 < 2 ^ 128 }
     requires lined { IsInLine course scratch.old.next.threads.width at scratch.old }
-    ensures passing { (from : ℕ) → HasPassed course.entry text scratch.old.next.threads.width
-        from at scratch.old best.old
-        → HasPassed course.entry text scratch.old.next.threads.width from result scratch.new
-        best.new }
-    ensures running { (from : ℕ) → HasRun course.entry text scratch.old.next.threads.width from
-        at scratch.old best.old
-        → HasRun course.entry text scratch.old.next.threads.width from result scratch.new
+    ensures come { (rule : Rule) (from : ℕ)
+        → HasCome rule course.entry text scratch.old.next.threads.width from at scratch.old best.old
+        → HasCome rule course.entry text scratch.old.next.threads.width from result scratch.new
         best.new }
     ensures same { IsSame scratch.old scratch.new }
     ensures later { at ≤ result }
@@ -464,13 +462,10 @@ fn begin(
     requires stands { StandsFor (seen_by course text) root }
     requires small { scratch.old.insertions + 2 ^ 66 < 2 ^ 128 }
     requires lined { IsInLine course scratch.old.next.threads.width at scratch.old }
-    ensures passing { (from : ℕ) → HasPassed course.entry text scratch.old.next.threads.width
-        from at scratch.old best
-        → HasPassed course.entry text scratch.old.next.threads.width from result.0 scratch.new
+    ensures come { (rule : Rule) (from : ℕ) → root_of rule ≡ root
+        → HasCome rule course.entry text scratch.old.next.threads.width from at scratch.old best
+        → HasCome rule course.entry text scratch.old.next.threads.width from result.0 scratch.new
         best }
-    ensures running { root ≡ 0 → (from : ℕ) → HasRun course.entry text
-        scratch.old.next.threads.width from at scratch.old best
-        → HasRun course.entry text scratch.old.next.threads.width from result.0 scratch.new best }
     ensures lined { IsInLine course.entry scratch.old.next.threads.width result.0 scratch.new }
     ensures same { IsSame scratch.old scratch.new }
     ensures few { scratch.new.insertions ≤ scratch.old.insertions + 1 }
@@ -516,13 +511,9 @@ fn wander(
     requires stands { StandsFor (seen_by course text) root }
     requires small { scratch.old.insertions + 2 ^ 66 < 2 ^ 128 }
     requires lined { IsInLine course scratch.old.next.threads.width at scratch.old }
-    ensures passing { (from : ℕ) → HasPassed course.entry text scratch.old.next.threads.width
-        from at scratch.old best.old
-        → HasPassed course.entry text scratch.old.next.threads.width from result scratch.new
-        best.new }
-    ensures running { root ≡ 0 → (from : ℕ) → HasRun course.entry text
-        scratch.old.next.threads.width from at scratch.old best.old
-        → HasRun course.entry text scratch.old.next.threads.width from result scratch.new
+    ensures come { (rule : Rule) (from : ℕ) → root_of rule ≡ root
+        → HasCome rule course.entry text scratch.old.next.threads.width from at scratch.old best.old
+        → HasCome rule course.entry text scratch.old.next.threads.width from result scratch.new
         best.new }
     ensures same { IsSame scratch.old scratch.new }
     ensures later { at ≤ result }
@@ -568,13 +559,9 @@ pub fn glide(
     requires stands { StandsFor (seen_by course text) root }
     requires small { scratch.old.insertions + 2 ^ 66 < 2 ^ 128 }
     requires lined { IsInLine course scratch.old.next.threads.width at scratch.old }
-    ensures passing { (from : ℕ) → HasPassed course.entry text scratch.old.next.threads.width
-        from at scratch.old best.old
-        → HasPassed course.entry text scratch.old.next.threads.width from result scratch.new
-        best.new }
-    ensures running { root ≡ 0 → (from : ℕ) → HasRun course.entry text
-        scratch.old.next.threads.width from at scratch.old best.old
-        → HasRun course.entry text scratch.old.next.threads.width from result scratch.new
+    ensures come { (rule : Rule) (from : ℕ) → root_of rule ≡ root
+        → HasCome rule course.entry text scratch.old.next.threads.width from at scratch.old best.old
+        → HasCome rule course.entry text scratch.old.next.threads.width from result scratch.new
         best.new }
     ensures same { IsSame scratch.old scratch.new }
     ensures later { at ≤ result }

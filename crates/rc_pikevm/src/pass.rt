@@ -17,16 +17,15 @@ ghost use Rattle.rc_needles.specs.Guards.{Guards};
 ghost use Rattle.rc_needles.specs.Prefilters.{needles_of};
 ghost use Rattle.rc_program.specs.Places.{places_of};
 ghost use Rattle.rc_pikevm.specs.Alone.{EndsAlone, IsAhead, ReadsOne};
-ghost use Rattle.rc_pikevm.specs.Races.{Races, starts_to};
 ghost use Rattle.rc_pikevm.specs.Threads.{Thread};
 ghost use Rattle.rc_pikevm.specs.Near.{IsHere, seen_from, size};
 ghost use Rattle.rc_pikevm.specs.Moves.{IsSetting, seen_by};
 ghost use Rattle.rc_pikevm.specs.Roots.{StandsFor};
 ghost use Rattle.rc_pikevm.specs.Trace.{Trace, done};
-ghost use Rattle.rc_pikevm.specs.Passing.{CarriesTo, pending, AllFrom, waiting_starts, Pending, PendingTo, IsCounted, best_of};
+ghost use Rattle.rc_pikevm.specs.Passing.{CarriesTo, pending, AllFrom, waiting_starts, PendingTo, IsCounted, best_of};
 ghost use Rattle.rc_pikevm.specs.Scratches.{IsSame};
 ghost use Rattle.rc_pikevm.specs.Steps.{HasStepped, MayStep};
-ghost use Rattle.rc_pikevm.specs.Rules.{GivesBy, MayEnter, TellsBy, Turns};
+ghost use Rattle.rc_pikevm.specs.Rules.{GivesBy, MayEnter, TellsBy, Turns, root_of};
 ghost use Rattle.rc_pikevm.specs.Underway.{IsInLine};
 
 use crate::alone::{FastPath, glide};
@@ -278,22 +277,9 @@ pub fn end_walk(course: Course, at: usize, number: usize, scratch: &mut Scratch)
     requires lined { IsInLine course scratch.old.next.threads.width at scratch.old }
     requires small { scratch.old.insertions + 1 < 2 ^ 128 }
     requires ends { EndsAlone (seen_by course text) at scratch.old.curr.items number }
-    ensures carries { (best : Option Ending) (o : Option Trace)
-        → Pending (seen_by course.entry text) scratch.old.next.threads.width course.entry.last
-        (at + 1) scratch.new.curr.items
-        (Some result) scratch.new.found.items o
-        → Pending (seen_by course.entry text) scratch.old.next.threads.width course.entry.last at
-        scratch.old.curr.items
-        best scratch.old.found.items o }
-    ensures races { (all : List (Trace × Pair)) (best : Option Ending)
-        → IsAhead best result.start at
-        → Races (seen_by course.entry text) all at [] []
-        (map pending scratch.old.curr.items
-        ++ starts_to scratch.old.next.threads.width at course.entry.last) best
-        scratch.old.found.items
-        → Races (seen_by course.entry text) all (at + 1) [] []
-        (map pending scratch.new.curr.items
-        ++ starts_to scratch.old.next.threads.width (at + 1) course.entry.last) (Some result)
+    ensures turns { (rule : Rule) (best : Option Ending) → IsAhead best result.start at
+        → Turns rule (seen_by course.entry text) scratch.old.next.threads.width course.entry.last at
+        scratch.old.curr scratch.new.curr best (Some result) scratch.old.found.items
         scratch.new.found.items }
     ensures start { (t : Thread) → scratch.old.curr.items ≡ t ∷ [] → result.start ≡ t.start }
     ensures lined { IsInLine course.entry scratch.old.next.threads.width (at + 1) scratch.new }
@@ -325,22 +311,10 @@ pub fn set_out_alone(course: Course, at: usize, root: usize, next: usize, scratc
     requires within { at ≤ course.last }
     requires stands { StandsFor (seen_by course text) root }
     requires reads { (p : ℕ) × ReadsOne (seen_by course text) (size course) at root (p, next) }
-    ensures carries { (o : Option Trace)
-        → Pending (seen_by course.entry text) scratch.old.next.threads.width course.entry.last
-        (at + 1) scratch.new.curr.items
-        None scratch.new.found.items o
-        → Pending (seen_by course.entry text) scratch.old.next.threads.width course.entry.last at
-        scratch.old.curr.items
-        None scratch.old.found.items o }
-    ensures races { root ≡ 0 → (all : List (Trace × Pair))
-        → Races (seen_by course.entry text) all at [] []
-        (map pending scratch.old.curr.items
-        ++ starts_to scratch.old.next.threads.width at course.entry.last) None
-        scratch.old.found.items
-        → Races (seen_by course.entry text) all (at + 1) [] []
-        (map pending scratch.new.curr.items
-        ++ starts_to scratch.old.next.threads.width
-        (at + 1) course.entry.last) None scratch.new.found.items }
+    ensures turns { (rule : Rule) → root_of rule ≡ root
+        → Turns rule (seen_by course.entry text) scratch.old.next.threads.width course.entry.last at
+        scratch.old.curr scratch.new.curr None None scratch.old.found.items
+        scratch.new.found.items }
     ensures lined { IsInLine course.entry scratch.old.next.threads.width (at + 1) scratch.new }
     ensures same { IsSame scratch.old scratch.new }
     ensures few { scratch.new.insertions ≤ scratch.old.insertions + 1 }

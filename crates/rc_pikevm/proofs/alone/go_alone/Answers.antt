@@ -1,15 +1,18 @@
-use Rattle.std.proofs.Common.{◌≡◌, ℕ, ◌+◌, [], ◌∷◌, ◌++◌, map, min, Some, refl, sym, ap, subst, ◌∙◌, arith}
+use Rattle.std.proofs.Common.{◌≡◌, ℕ, ◌+◌, [], ◌∷◌, min, Some, refl, sym, ap, subst, ◌∙◌, arith}
 use Rattle.rc_pikevm.specs.Near.{size}
 use Rattle.rc_pikevm.specs.Moves.{seen_by}
 use Rattle.rc_pikevm.specs.Threads.{ThreadList, thread_of}
-use Rattle.rc_pikevm.specs.Passing.{IsPassing, Pending, pending, IsLined}
-use Rattle.rc_pikevm.specs.Races.{Races, IsCutOff, starts_to, IsRunFrom}
+use Rattle.rc_pikevm.specs.Passing.{IsPassing, IsLined}
+use Rattle.rc_pikevm.specs.Races.{IsCutOff, IsRunFrom}
 use Rattle.rc_pikevm.specs.Alone.{IsAhead}
+use Rattle.rc_pikevm.specs.Rules.{Turns}
+use Rattle.rc_pikevm.specs.Underway.{HasCome}
+use Rattle.rc_pikevm.specs.declared.rule.Rule.{Rule}
+use Rattle.rc_pikevm.specs.declared.rule.Rule.TheVariants.{First, Longest}
 use Rattle.rc_pikevm.specs.Windows.{IsBegun}
 use Rattle.rc_pikevm.proofs.StepLemmas.{in_at}
 use Rattle.rc_pikevm.proofs.TurnLemmas.{none_from}
-use Rattle.rc_pikevm.proofs.PassingLemmas.{passing_turns}
-use Rattle.rc_pikevm.proofs.RacePassLemmas.{runs_turn}
+use Rattle.rc_pikevm.proofs.UnderwayLemmas.{turns_by}
 use Rattle.rc_pikevm.proofs.RaceAloneLemmas.{ahead_sought, ahead_cut, ahead_later}
 use Rattle.rc_pikevm.proofs.AloneLemmas.{only_thread, lined_moved, passing_runs, runs_alone, ends_only}
 use Rattle.rc_pikevm.proofs.alone.go_alone.Given.{Over}
@@ -42,12 +45,10 @@ run-ended-requires g c =
     )
 
 -- the lone thread has gone on
-gone-passing : (g : Over) (c : After-move_alone g) (from : ℕ) → c.args.scratch.now.curr.items ≡ thread_of c.get.result.0 c.get.result.1.now ∷ [] →
-    IsPassing (seen_by c.args.course g.text) (size c.args.course) c.args.course.hi c.args.scratch.now.next.threads.width from c.args.course.last
-    c.args.at c.args.scratch.now.insertions c.args.scratch.now.curr c.args.best.now c.args.scratch.now.found.items →
-    IsPassing (seen_by c.args.course g.text) (size c.args.course) c.args.course.hi c.args.scratch.now.next.threads.width from c.args.course.last
-    c.run-ended.result.0.at c.move_alone.new.scratch.insertions c.move_alone.new.scratch.curr c.args.best.now c.move_alone.new.scratch.found.items
-gone-passing g c from e p =
+gone : (g : Over) (c : After-move_alone g) (rule : Rule) (from : ℕ) → c.args.scratch.now.curr.items ≡ thread_of c.get.result.0 c.get.result.1.now ∷ [] →
+    HasCome rule c.args.course g.text c.args.scratch.now.next.threads.width from c.args.at c.args.scratch.now c.args.best.now →
+    HasCome rule c.args.course g.text c.args.scratch.now.next.threads.width from c.run-ended.result.0.at c.move_alone.new.scratch c.args.best.now
+gone g c (First root) from e p =
     let t = thread_of c.get.result.0 c.get.result.1.now in
     let here : c.get.result.0.at ≡ c.args.at = (c.is_ahead.ensures c.if-not-is_ahead.false).0 in
     subst (λ l. IsPassing (seen_by c.args.course g.text) (size c.args.course) c.args.course.hi c.args.scratch.now.next.threads.width from
@@ -58,18 +59,7 @@ gone-passing g c from e p =
     c.move_alone.new.scratch.insertions c.move_alone.new.scratch.curr c.is_none.result p e (c.move_alone.ensures.curr t e) here
     c.run-ended.ensures.start c.run-ended.ensures.place_in (omega (arith, here, c.run-ended.ensures.later)) c.run-ended.ensures.within
     c.move_alone.ensures.insertions (none_from c.args.best.now c.is_none.result c.is_none.ensures) c.run-ended.ensures.carries)
-
-pub returns-in_default-clause-passing : goal.returns-in_default-clause-passing
-returns-in_default-clause-passing g c from p =
-    gone-passing g (goal.at.returns-in_default-clause-passing g c).After-move_alone from (one g (goal.at.returns-in_default-clause-passing g c).After-get) p
-
--- so in a pass for the longest walk
-gone-running : (g : Over) (c : After-move_alone g) (from : ℕ) → c.args.scratch.now.curr.items ≡ thread_of c.get.result.0 c.get.result.1.now ∷ [] →
-    IsRunFrom (seen_by c.args.course g.text) (size c.args.course) c.args.course.hi c.args.scratch.now.next.threads.width from c.args.course.last
-    c.args.at c.args.scratch.now.insertions c.args.scratch.now.curr c.args.best.now c.args.scratch.now.found.items →
-    IsRunFrom (seen_by c.args.course g.text) (size c.args.course) c.args.course.hi c.args.scratch.now.next.threads.width from c.args.course.last
-    c.run-ended.result.0.at c.move_alone.new.scratch.insertions c.move_alone.new.scratch.curr c.args.best.now c.move_alone.new.scratch.found.items
-gone-running g c from e p =
+gone g c Longest from e p =
     let t = thread_of c.get.result.0 c.get.result.1.now in
     let here : c.get.result.0.at ≡ c.args.at = (c.is_ahead.ensures c.if-not-is_ahead.false).0 in
     let ahead : IsAhead c.args.best.now t.start c.args.at = (c.is_ahead.ensures c.if-not-is_ahead.false).1 in
@@ -86,9 +76,9 @@ gone-running g c from e p =
     (λ e. subst (IsCutOff c.args.best.now) (sym here)
     (ahead_cut c.args.best.now t.start c.args.at ahead (sym (none_from c.args.best.now c.is_none.result c.is_none.ensures) ∙ e))) x))
 
-pub returns-in_default-clause-running : goal.returns-in_default-clause-running
-returns-in_default-clause-running g c from p =
-    gone-running g (goal.at.returns-in_default-clause-running g c).After-move_alone from (one g (goal.at.returns-in_default-clause-running g c).After-get) p
+pub returns-in_default-clause-come : goal.returns-in_default-clause-come
+returns-in_default-clause-come g c rule from p =
+    gone g (goal.at.returns-in_default-clause-come g c).After-move_alone rule from (one g (goal.at.returns-in_default-clause-come g c).After-get) p
 
 -- the lone thread is in line there
 lined-there : (g : Over) (c : After-move_alone g) → c.args.scratch.now.curr.items ≡ thread_of c.get.result.0 c.get.result.1.now ∷ [] →
@@ -117,53 +107,28 @@ end_walk-requires g c =
       ),
     )
 
-pub returns-clause-passing : goal.returns-clause-passing
-returns-clause-passing g c from p =
+pub returns-clause-come : goal.returns-clause-come
+returns-clause-come g c rule from p =
     let width : ℕ = c.args.scratch.now.next.threads.width in
     let s = seen_by c.args.course g.text in
     let n : ℕ = size c.args.course in
     let last : ℕ = c.args.course.last in
     let at : ℕ = c.run-ended.result.0.at in
     let wide = c.move_alone.ensures.width in
-    let here = gone-passing g (goal.at.returns-clause-passing g c).After-move_alone from (one g (goal.at.returns-clause-passing g c).After-get) p in
-    passing_turns s n c.args.course.hi width from last at c.move_alone.new.scratch.insertions c.end_walk.new.scratch.insertions
-    c.move_alone.new.scratch.curr c.end_walk.new.scratch.curr c.args.best.now (Some c.end_walk.result) c.move_alone.new.scratch.found.items
-    c.end_walk.new.scratch.found.items here c.run-ended.ensures.within
-    (λ o x. subst (λ w. Pending s w last at c.move_alone.new.scratch.curr.items c.args.best.now c.move_alone.new.scratch.found.items o) wide
-    (c.end_walk.ensures.carries c.args.best.now o
-    (subst (λ w. Pending s w last (at + 1) c.end_walk.new.scratch.curr.items (Some c.end_walk.result)
-    c.end_walk.new.scratch.found.items o) (sym wide) x)))
-    (subst (λ w. IsLined n c.args.course.hi w (at + 1) c.end_walk.new.scratch.insertions c.end_walk.new.scratch.curr) wide
-    c.end_walk.ensures.lined)
-    c.end_walk.ensures.counted
-    (omega (arith, c.end_walk.ensures.few, c.run-ended.ensures.place_in))
-
-pub returns-clause-running : goal.returns-clause-running
-returns-clause-running g c from p =
-    let width : ℕ = c.args.scratch.now.next.threads.width in
-    let s = seen_by c.args.course g.text in
-    let n : ℕ = size c.args.course in
-    let last : ℕ = c.args.course.last in
-    let at : ℕ = c.run-ended.result.0.at in
-    let wide = c.move_alone.ensures.width in
-    let here = gone-running g (goal.at.returns-clause-running g c).After-move_alone from (one g (goal.at.returns-clause-running g c).After-get) p in
     let t = thread_of c.get.result.0 c.get.result.1.now in
-    let e = one g (goal.at.returns-clause-running g c).After-get in
-    let moved = c.move_alone.ensures.curr t e in
+    let e = one g (goal.at.returns-clause-come g c).After-get in
+    let here = gone g (goal.at.returns-clause-come g c).After-move_alone rule from e p in
     let start : c.end_walk.result.start ≡ t.start =
-    c.end_walk.ensures.start (thread_of c.run-ended.result.0 t.slots) (ap (λ (l : ThreadList). l.items) moved) ∙ c.run-ended.ensures.start in
+    c.end_walk.ensures.start (thread_of c.run-ended.result.0 t.slots) (ap (λ (l : ThreadList). l.items) (c.move_alone.ensures.curr t e)) ∙ c.run-ended.ensures.start in
     let first = c.is_ahead.ensures c.if-not-is_ahead.false in
     let ahead : IsAhead c.args.best.now c.end_walk.result.start at =
     subst (λ x. IsAhead c.args.best.now x at) (sym start)
     (ahead_later c.args.best.now t.start c.args.at at (let f = first.0 in omega (arith, f, c.run-ended.ensures.later)) first.1) in
-    runs_turn s n c.args.course.hi width from last at c.move_alone.new.scratch.insertions c.end_walk.new.scratch.insertions
+    turns_by rule s n c.args.course.hi width from last at c.move_alone.new.scratch.insertions c.end_walk.new.scratch.insertions
     c.move_alone.new.scratch.curr c.end_walk.new.scratch.curr c.args.best.now (Some c.end_walk.result) c.move_alone.new.scratch.found.items
     c.end_walk.new.scratch.found.items here c.run-ended.ensures.within
-    (λ all x. subst (λ w. Races s all (at + 1) [] [] (map pending c.end_walk.new.scratch.curr.items ++ starts_to w (at + 1) last)
-    (Some c.end_walk.result) c.end_walk.new.scratch.found.items) wide
-    (c.end_walk.ensures.races all c.args.best.now ahead
-    (subst (λ w. Races s all at [] [] (map pending c.move_alone.new.scratch.curr.items ++ starts_to w at last) c.args.best.now
-    c.move_alone.new.scratch.found.items) (sym wide) x)))
+    (subst (λ w. Turns rule s w last at c.move_alone.new.scratch.curr c.end_walk.new.scratch.curr c.args.best.now (Some c.end_walk.result)
+    c.move_alone.new.scratch.found.items c.end_walk.new.scratch.found.items) wide (c.end_walk.ensures.turns rule c.args.best.now ahead))
     (subst (λ w. IsLined n c.args.course.hi w (at + 1) c.end_walk.new.scratch.insertions c.end_walk.new.scratch.curr) wide
     c.end_walk.ensures.lined)
     c.end_walk.ensures.counted

@@ -11,7 +11,7 @@ use Rattle.rc_pikevm.specs.Roots.{StandsFor}
 use Rattle.rc_pikevm.specs.Rules.{GivesBy, IsUnderWay, Turns}
 use Rattle.rc_pikevm.proofs.KeptLemmas.{kept_back, kept_then, kept_seen_by, kept_window, kept_begun, kept_around, begun_from, begun_later}
 use Rattle.rc_pikevm.proofs.PassingLemmas.{GoesOn, counts_fit, counts_small, counted_in_all, counted_at_last}
-use Rattle.rc_pikevm.proofs.UnderwayLemmas.{begins_by, early_by, ends_by, enters_there, gives_up_by, glides_by, goes_on_by, spent_by, stops_by, tells_by, turns_by}
+use Rattle.rc_pikevm.proofs.UnderwayLemmas.{begins_by, early_by, ends_by, enters_there, gives_up_by, goes_on_by, spent_by, stops_by, tells_by, turns_by}
 use Rattle.std.proofs.lemmas.List.{length-map}
 use Rattle.rc_program.specs.Places.{place_of}
 use Rattle.rc_pikevm.proofs.pass.pass.Given.{Over}
@@ -43,10 +43,7 @@ gone g c here =
     let last : ℕ = c.args.course.last in
     subst (λ w. IsUnderWay c.args.rule s n c.args.course.hi w c.args.from last c.glide-here.result c.glide-here.new.scratch.insertions
     c.glide-here.new.scratch.curr c.glide-here.new.best c.glide-here.new.scratch.found.items) wide
-    (glides_by c.args.rule s n c.args.course.hi c.positions.scratch.next.threads.width c.args.from last c.in-Some.next_at c.glide-here.result
-    c.positions.scratch.insertions c.glide-here.new.scratch.insertions c.positions.scratch.curr c.glide-here.new.scratch.curr c.positions.best
-    c.glide-here.new.best c.positions.scratch.found.items c.glide-here.new.scratch.found.items (c.glide-here.ensures.passing c.args.from)
-    (λ zero. c.glide-here.ensures.running (c.root_of-root.ensures ∙ zero) c.args.from)
+    (c.glide-here.ensures.come c.args.rule c.args.from (sym c.root_of-root.ensures)
     (subst (λ w. IsUnderWay c.args.rule s n c.args.course.hi w c.args.from last c.in-Some.next_at c.positions.scratch.insertions c.positions.scratch.curr
     c.positions.best c.positions.scratch.found.items) (sym wide) here))
 
