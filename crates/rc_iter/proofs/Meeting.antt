@@ -1,5 +1,5 @@
 -- An error that is handed on is one that the rule met.
-use Rattle.std.proofs.Common.{◌≡◌, ℕ, ◌+◌, true, Option, Some, Result, Ok, Err, IfErr, eq-eqb, refl, subst}
+use Rattle.std.proofs.Common.{◌≡◌, ℕ, ◌+◌, true, Option, Some, Result, Ok, Err, IfErr, subst}
 use Rattle.rc_text.specs.Text.{Searched}
 use Rattle.rc_text.specs.declared.types.MatchError.{MatchError}
 use Rattle.rc_program.specs.Matches.{is_again}
@@ -8,9 +8,6 @@ use Rattle.rc_iter.specs.Searchers
 use Rattle.rc_iter.specs.Searchers.{Meets, Searching}
 
 module _ {X : Type 0} (begin end : X → ℕ) where
-  again : (last : Option ℕ) (m : X) → last ≡ Some (end m) → begin m ≡ end m → is_again begin end last m ≡ true
-  again last m ended empty = rw (ended, eq-eqb (begin m) (end m) empty, eq-eqb (end m) (end m) refl) refl
-
   module _ {F I : Type 0} (searched : I → Searched) (g : Calls F I X) (s : Searching) (r : Result (Option X) MatchError) (e : MatchError) where
     -- the first call failed
     pub at_once : (a : Result (Option X) MatchError) (f then : F) → Answers searched g f s.input a then → a ≡ Err e → r ≡ Err e →
@@ -19,8 +16,8 @@ module _ {X : Type 0} (begin end : X → ℕ) where
 
     -- the call from a byte later failed
     pub later : (a b : Result (Option X) MatchError) (m : X) (f between then : F) → Answers searched g f s.input a between → a ≡ Ok (Some m) →
-        s.last ≡ Some (end m) → begin m ≡ end m → Answers searched g between (with_start s.input (s.input.span.start + 1)) b then →
+        is_again begin end s.last m ≡ true → Answers searched g between (with_start s.input (s.input.span.start + 1)) b then →
         b ≡ Err e → r ≡ Err e → IfErr r (Meets begin end searched g f s)
-    later a b m f between then met gave ended empty again_met is same =
-        rw same (Searchers.later m (subst (λ x. Answers searched g f s.input x between) gave met) (again s.last m ended empty)
+    later a b m f between then met gave again again_met is same =
+        rw same (Searchers.later m (subst (λ x. Answers searched g f s.input x between) gave met) again
         (subst (λ x. Answers searched g between (with_start s.input (s.input.span.start + 1)) x then) is again_met))

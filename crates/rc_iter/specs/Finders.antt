@@ -4,7 +4,7 @@ use Rattle.std.specs.declared.result.Result.{Result}
 use Rattle.std.specs.Borrow.{MutBor}
 use Rattle.std.specs.Fn.{Mut, Called, AlwaysReturns}
 use Rattle.rc_text.specs.Text.{Searched, Keeps}
-use Rattle.rc_text.specs.Found.{Found, HalfFound}
+use Rattle.rc_text.specs.Found.{HalfFound}
 use Rattle.rc_text.specs.declared.types.Span.{Span}
 use Rattle.rc_text.specs.declared.types.Anchored.{Anchored}
 use Rattle.rc_text.specs.declared.types.MatchError.{MatchError}

@@ -72,7 +72,7 @@ impl<F: FnMut(&mut I) -> Result<Option<HalfMatch>, MatchError> + Drop, I: KeptIn
         if self.is_done {
             return None;
         }
-        match self.searcher.next_half(&mut self.finder) {
+        match self.searcher.next_by(&mut self.finder) {
             Ok(Some(found)) => Some(Ok(found)),
             Ok(None) => {
                 self.is_done = true;

@@ -5,7 +5,7 @@ ghost use Rattle.rc_program.specs.Matches.{begin_of, end_of};
 ghost use Rattle.rc_iter.specs.Finders.{AnswersAs, IsLawfulFinder, Task, offset_of};
 ghost use Rattle.rc_iter.specs.Searchers.{FindsAhead, GoesOn, IsPast, Leaves, Meets, Rises, StaysWithin, halves_of, next_by};
 
-use crate::ask::{ask, ask_half};
+use crate::ask::{Ending, ask};
 use crate::kept::KeptInput;
 use rc_text::input::Input;
 use rc_text::types::{HalfMatch, Match, MatchError};
@@ -94,22 +94,7 @@ impl<I: KeptInput + Drop> SearcherOf<I> {
         ensures rises { Rises begin_of end_of self.old result }
         ensures leaves { Leaves begin_of end_of self.old result self.new }
     {
-        let start = self.input.span_start();
-        let Some(found) = ask(&mut finder, &mut self.input)? else {
-            return Ok(None);
-        };
-        if !found.is_empty() || self.last != Some(found.end()) {
-            self.go_on(found.end());
-            return Ok(Some(found));
-        }
-        self.input.restart(start + 1);
-        let answer = ask(&mut finder, &mut self.input);
-        self.input.restart(start);
-        let Some(found) = answer? else {
-            return Ok(None);
-        };
-        self.go_on(found.end());
-        Ok(Some(found))
+        self.next_by(&mut finder)
     }
 
     /// Returns the pattern and the end of the next match: the half match that the finder finds from
@@ -136,45 +121,43 @@ impl<I: KeptInput + Drop> SearcherOf<I> {
         ensures rises { Rises offset_of offset_of self.old result }
         ensures leaves { Leaves offset_of offset_of self.old result self.new }
     {
-        self.next_half(&mut finder)
+        self.next_by(&mut finder)
     }
 
-    /// Returns the next half match, as `try_advance_half` does, by a borrowed finder.
-    pub(crate) fn next_half<F: FnMut(&mut I) -> Result<Option<HalfMatch>, MatchError>>(
+    /// Returns the next match or half match, as `try_advance` does, by a borrowed finder.
+    pub(crate) fn next_by<F: FnMut(&mut I) -> Result<Option<M>, MatchError>, M: Ending>(
         &mut self,
         finder: &mut F,
-    ) -> Result<Option<HalfMatch>, MatchError>
+    ) -> Result<Option<M>, MatchError>
         requires callable { F.IsAlwaysCallable finder.old }
-        requires lawful { IsLawfulFinder offset_of offset_of I.searched F.FnMut finder.old }
+        requires lawful { IsLawfulFinder M.begin M.end I.searched F.FnMut finder.old }
         ensures callable { F.IsAlwaysCallable finder.new }
-        ensures lawful { IsLawfulFinder offset_of offset_of I.searched F.FnMut finder.new }
-        ensures exact { (find : Task → Option HalfFound)
-            → AnswersAs I.searched F.FnMut find finder.old
-            → IfOk result (λ o. o ≡ next_by offset_of offset_of find self.old) }
-        ensures stays { (find : Task → Option HalfFound)
-            → AnswersAs I.searched F.FnMut find finder.old
+        ensures lawful { IsLawfulFinder M.begin M.end I.searched F.FnMut finder.new }
+        ensures exact { (find : Task → Option M) → AnswersAs I.searched F.FnMut find finder.old
+            → IfOk result (λ o. o ≡ next_by M.begin M.end find self.old) }
+        ensures stays { (find : Task → Option M) → AnswersAs I.searched F.FnMut find finder.old
             → AnswersAs I.searched F.FnMut find finder.new }
-        ensures failed { IfErr result (Meets offset_of offset_of I.searched F.FnMut
+        ensures failed { IfErr result (Meets M.begin M.end I.searched F.FnMut
             finder.old self.old) }
-        ensures within { StaysWithin offset_of offset_of self.old result }
-        ensures rises { Rises offset_of offset_of self.old result }
-        ensures leaves { Leaves offset_of offset_of self.old result self.new }
+        ensures within { StaysWithin M.begin M.end self.old result }
+        ensures rises { Rises M.begin M.end self.old result }
+        ensures leaves { Leaves M.begin M.end self.old result self.new }
     {
-        let from = self.input.span_start();
-        let Some(found) = ask_half(finder, &mut self.input)? else {
+        let start = self.input.span_start();
+        let Some(found) = ask(finder, &mut self.input)? else {
             return Ok(None);
         };
-        if self.last != Some(found.offset()) {
-            self.go_on(found.offset());
+        if !found.is_again(self.last) {
+            self.go_on(found.ending());
             return Ok(Some(found));
         }
-        self.input.restart(from + 1);
-        let later = ask_half(finder, &mut self.input);
-        self.input.restart(from);
+        self.input.restart(start + 1);
+        let later = ask(finder, &mut self.input);
+        self.input.restart(start);
         let Some(found) = later? else {
             return Ok(None);
         };
-        self.go_on(found.offset());
+        self.go_on(found.ending());
         Ok(Some(found))
     }
 
