@@ -4,15 +4,15 @@ ghost use Rattle.std.specs.Prelude.{◌≡◌};
 ghost use Rattle.rc_program.specs.Places.{places_of};
 ghost use Rattle.rc_pikevm_search.specs.Literals.{MayGoBy, MayGoBy-is_fact};
 
+use crate::lists::gives_way;
 use crate::literals::{Literals, guards_of, literals_of};
 use rc_literals::search;
 use rc_pikevm::cache::Cache;
 use rc_pikevm::kinds::{find_by_kind, is_match_by_kind, search_slots_by_kind};
 use rc_pikevm::reach::{Reached, find_reach};
-use rc_program::matches::is_again;
 use rc_program::program::Program;
 use rc_text::cursor::Cursor;
-use rc_text::input::{Input, advance_start};
+use rc_text::input::Input;
 use rc_text::types::{Match, MatchKind, PatternID};
 use std::alloc::{AllocError, Global};
 
@@ -171,10 +171,9 @@ impl Engine {
         ensures counts { Counts self.now input.new result cache.old cache.new }
     {
         let found = self.find(cache, input)?;
-        if !is_again(last, found) {
-            return Some(found);
+        if gives_way(input, last, found) {
+            return self.find(cache, input);
         }
-        advance_start(input);
-        self.find(cache, input)
+        Some(found)
     }
 }

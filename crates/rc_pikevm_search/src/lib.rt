@@ -5,4 +5,5 @@
 pub mod choice;
 pub mod engine;
 pub mod laws;
+pub mod lists;
 pub mod literals;
