@@ -26,7 +26,6 @@ use Rattle.rc_class_sets.proofs.RangeLemmas.{ranges_law}
 use Rattle.rc_full_lists.specs.Lists.{IsList}
 use Rattle.rc_full_lists.proofs.ListLemmas.{one_list_law}
 use Rattle.rc_full_parser.specs.declared.marks.Piece.TheVariants as piece
-use Rattle.rc_full_parser.specs.Settings.{FullSettings}
 use Rattle.rc_full_parser.specs.Marks as mark
 use Rattle.rc_full_parser.specs.Marks.{Mark}
 use Rattle.rc_full_parser.specs.Marked.{read_mark}
@@ -148,66 +147,66 @@ Arrives v u n t = (n.work ≡ v) × (n.verbose ≡ false) × NoneVerbose n.aroun
 arrives : (v : Work) (x : Bool) (xs : List Bool) (n : State) (u t : Characters) → state v x xs ≡ n → x ≡ false → NoneVerbose xs → u ≡ t → Arrives v u n t
 arrives v x xs n u t same off none e = subst (λ n. Arrives v u n t) same (refl, off, none, e)
 
-module _ (s : FullSettings) where
-  taken : (k : said.Said) (w v : Work) (x : Bool) (xs : List Bool) (n : State) (u t : Characters) → take_said s.stated k w ≡ Some v → x ≡ false → NoneVerbose xs →
-      (take_said s.stated k w >>= λ w. Some (state w x xs)) ≡ Some n → u ≡ t → Arrives v u n t
+module _ (s : Settings) where
+  taken : (k : said.Said) (w v : Work) (x : Bool) (xs : List Bool) (n : State) (u t : Characters) → take_said s k w ≡ Some v → x ≡ false → NoneVerbose xs →
+      (take_said s k w >>= λ w. Some (state w x xs)) ≡ Some n → u ≡ t → Arrives v u n t
   taken k w v x xs n u t takes off none h e =
       let (y, is, same) = took s k w x xs n h in
       arrives v x xs n u t (ap (λ w. state w x xs) (same_Some v y (sym takes ∙ is)) ∙ same) off none e
 
-  closed_taken : (w v : Work) (xs : List Bool) (n : State) (u t : Characters) → take_said s.stated said.Closes w ≡ Some v → NoneVerbose xs → shut s w xs ≡ Some n → u ≡ t → Arrives v u n t
+  closed_taken : (w v : Work) (xs : List Bool) (n : State) (u t : Characters) → take_said s said.Closes w ≡ Some v → NoneVerbose xs → shut s w xs ≡ Some n → u ≡ t → Arrives v u n t
   closed_taken w v [] n u t takes none h e = absurd (none-some n h)
   closed_taken w v (x ∷ xs) n u t takes none h e = taken said.Closes w v x xs n u t takes (none.0) (none.1) h e
 
   -- the item that both add
-  item_taken : (k : said.Sense) (w v : Work) (xs : List Bool) (n : State) (u t : Characters) (q : Subpattern) → take_said s.stated (said.Stands k) w ≡ Some v → NoneVerbose xs →
-      ((p : Subpattern) → sense_part s.stated w.level.flags k ≡ Some p → p ≡ q) → state (work (settled w.last w.level) (Some q) w.outer) false xs ≡ n → u ≡ t → Arrives v u n t
+  item_taken : (k : said.Sense) (w v : Work) (xs : List Bool) (n : State) (u t : Characters) (q : Subpattern) → take_said s (said.Stands k) w ≡ Some v → NoneVerbose xs →
+      ((p : Subpattern) → sense_part s w.level.flags k ≡ Some p → p ≡ q) → state (work (settled w.last w.level) (Some q) w.outer) false xs ≡ n → u ≡ t → Arrives v u n t
   item_taken k w v xs n u t q takes none alike same e =
       let l = settled w.last w.level in
-      let (p, says, is) = some_parts (sense_part s.stated l.flags k) (λ p. Some (work l (Some p) w.outer)) v takes in
-      let one = alike p (subst (λ f. sense_part s.stated f k ≡ Some p) (same_flags w.last w.level) says) in
+      let (p, says, is) = some_parts (sense_part s l.flags k) (λ p. Some (work l (Some p) w.outer)) v takes in
+      let one = alike p (subst (λ f. sense_part s f k ≡ Some p) (same_flags w.last w.level) says) in
       let there : work l (Some q) w.outer ≡ v = ap (λ p. work l (Some p) w.outer) (sym one) ∙ same_Some (work l (Some p) w.outer) v is in
       arrives v false xs n u t (ap (λ w. state w false xs) (sym there) ∙ same) refl none e
 
   moves_alike : (k : said.Said) (w v : Work) (xs : List Bool) (n : State) (u t : Characters) → IsSame k → w.level.flags.case_insensitive ≡ false →
-      take_said s.stated k w ≡ Some v → NoneVerbose xs → Moves s (as_mark k) (state w false xs) u n t → Arrives v u n t
+      take_said s k w ≡ Some v → NoneVerbose xs → Moves s (as_mark k) (state w false xs) u n t → Arrives v u n t
   moves_alike said.Bar w v xs n u t same off takes none (h, e) = taken said.Bar w v false xs n u t takes refl none h e
   moves_alike said.Closes w v xs n u t same off takes none (h, e) = closed_taken w v xs n u t takes none h e
   moves_alike (said.Setting to) w v xs n u t same off takes none (h, e) = taken (said.Setting to) w v false xs n u t takes refl none h e
   moves_alike (said.Opens k) w v xs n u t same off takes none (h, e) = taken (said.Opens k) w v false (false ∷ xs) n u t takes refl (refl, none) h e
   moves_alike (said.Repeats b) w v xs n u t same off takes none (h, e) = taken (said.Repeats b) w v false xs n u t takes refl none h e
   moves_alike (said.Stands (said.Character c)) w v xs n u t same off takes none (q, is, there, e) =
-      item_taken (said.Character c) w v xs n u t q takes none (λ p h. char_piece s.stated w.level.flags off c p q h is) there e
+      item_taken (said.Character c) w v xs n u t q takes none (λ p h. char_piece s w.level.flags off c p q h is) there e
   moves_alike (said.Stands (said.Byte b)) w v xs n u t same off takes none (q, is, there, e) =
-      item_taken (said.Byte b) w v xs n u t q takes none (λ p h. byte_piece s.stated w.level.flags off b p q h is) there e
+      item_taken (said.Byte b) w v xs n u t q takes none (λ p h. byte_piece s w.level.flags off b p q h is) there e
   moves_alike (said.Stands said.Dot) w v xs n u t same off takes none (q, is, there, e) =
-      item_taken said.Dot w v xs n u t q takes none (λ p h. dot_piece s.stated w.level.flags off p q h is) there e
+      item_taken said.Dot w v xs n u t q takes none (λ p h. dot_piece s w.level.flags off p q h is) there e
   moves_alike (said.Stands (said.Asserts a)) w v xs n u t same off takes none (q, is, there, e) =
-      item_taken (said.Asserts a) w v xs n u t q takes none (λ p h. assertion_piece s.stated w.level.flags off a p q h is) there e
+      item_taken (said.Asserts a) w v xs n u t q takes none (λ p h. assertion_piece s w.level.flags off a p q h is) there e
   moves_alike (said.Stands (said.PerlClass p)) w v xs n u t same off takes none m = absurd same
   moves_alike (said.Stands (said.Members negated bracket ms)) w v xs n u t same off takes none m = absurd same
 
   -- ---- lists
 
   -- the list of one class that both add
-  list_part : (f : Flags) (c : CodeSet) (rs : List Range) (d : ℕ) (p q : Subpattern) → AreRangesOf f.unicode c rs → (set_re s.stated f rs >>= λ re. deeper s.stated re 0) ≡ Some p →
-      1 ≡ d → IsListPart s.stated f c d q → p ≡ q
+  list_part : (f : Flags) (c : CodeSet) (rs : List Range) (d : ℕ) (p q : Subpattern) → AreRangesOf f.unicode c rs → (set_re s f rs >>= λ re. deeper s re 0) ≡ Some p →
+      1 ≡ d → IsListPart s f c d q → p ≡ q
   list_part f _ rs _ p _ are h one (list c d re q class deep) =
-      let (a, allowed, nested) = some_parts (set_re s.stated f rs) (λ re. deeper s.stated re 0) p h in
-      let same = same_Some a re (sym allowed ∙ ap (set_re s.stated f) (ranges_law f.unicode c rs class.ranges are class.are_ranges) ∙ class.allowed) in
-      same_Some p q (sym nested ∙ ap (λ x. deeper s.stated x 0) same ∙ ap (λ x. deeper s.stated re (x - 1)) one ∙ deep)
+      let (a, allowed, nested) = some_parts (set_re s f rs) (λ re. deeper s re 0) p h in
+      let same = same_Some a re (sym allowed ∙ ap (set_re s f) (ranges_law f.unicode c rs class.ranges are class.are_ranges) ∙ class.allowed) in
+      same_Some p q (sym nested ∙ ap (λ x. deeper s x 0) same ∙ ap (λ x. deeper s re (x - 1)) one ∙ deep)
 
   -- behind its `[` a list of the stated grammar is one here
   list_taken : (negated bracket : Bool) (atoms : List Atom) (ms : List Member) (w v : Work) (xs : List Bool) (n : State) (u b : Characters) → is_list negated bracket (written_atoms atoms) ≡ true →
-      members_of atoms ≡ Some ms → NoSets ms → w.level.flags.case_insensitive ≡ false → take_said s.stated (said.Stands (said.Members negated bracket ms)) w ≡ Some v → NoneVerbose xs →
+      members_of atoms ≡ Some ms → NoSets ms → w.level.flags.case_insensitive ≡ false → take_said s (said.Stands (said.Members negated bracket ms)) w ≡ Some v → NoneVerbose xs →
       Moves s mark.brackets (state w false xs) (written_if negated 94 ++ (written_if bracket 93 ++ tail atoms u)) n b → Arrives v u n b
   list_taken negated bracket atoms ms w v xs n u b good members plain_ms off takes none (c, d, q, is, part, same) =
       let f = w.level.flags in
       let k = said.Members negated bracket ms in
       let l = settled w.last w.level in
-      let (p, says, _) = some_parts (sense_part s.stated l.flags k) (λ p. Some (work l (Some p) w.outer)) v takes in
-      let here = subst (λ f. sense_part s.stated f k ≡ Some p) (same_flags w.last w.level) says in
-      let (rs, are, _) = some_parts (list_ranges f.unicode bracket ms) (λ rs. set_re s.stated f (class_of f.unicode f.case_insensitive negated rs) >>= λ re. deeper s.stated re 0) p here in
+      let (p, says, _) = some_parts (sense_part s l.flags k) (λ p. Some (work l (Some p) w.outer)) v takes in
+      let here = subst (λ f. sense_part s f k ≡ Some p) (same_flags w.last w.level) says in
+      let (rs, are, _) = some_parts (list_ranges f.unicode bracket ms) (λ rs. set_re s f (class_of f.unicode f.case_insensitive negated rs) >>= λ re. deeper s re 0) p here in
       let (codes, built, ranges) = list_is f.unicode s.octal negated bracket atoms ms rs u good members plain_ms are in
       let front = written_if negated 94 ++ (written_if bracket 93 ++ tail atoms u) in
       let ls = list_settings s (place (state w false xs)) in
@@ -216,14 +215,14 @@ module _ (s : FullSettings) where
       (λ p' h. alike f rs codes c d p' q off are h ranges one_set one_depth part) same one_rest
     where
       alike : (f : Flags) (rs : List Range) (codes c : CodeSet) (d : ℕ) (p q : Subpattern) → f.case_insensitive ≡ false → list_ranges f.unicode bracket ms ≡ Some rs →
-          sense_part s.stated f (said.Members negated bracket ms) ≡ Some p → AreRangesOf f.unicode codes (class_of f.unicode false negated rs) → codes ≡ c → 1 ≡ d →
-          IsListPart s.stated f c d q → p ≡ q
+          sense_part s f (said.Members negated bracket ms) ≡ Some p → AreRangesOf f.unicode codes (class_of f.unicode false negated rs) → codes ≡ c → 1 ≡ d →
+          IsListPart s f c d q → p ≡ q
       alike f rs codes c d p q off are h ranges same_set one part =
-          let (rs', are', next) = some_parts (list_ranges f.unicode bracket ms) (λ rs. set_re s.stated f (class_of f.unicode f.case_insensitive negated rs) >>= λ re. deeper s.stated re 0) p h in
+          let (rs', are', next) = some_parts (list_ranges f.unicode bracket ms) (λ rs. set_re s f (class_of f.unicode f.case_insensitive negated rs) >>= λ re. deeper s re 0) p h in
           let e = same_Some rs' rs (sym are' ∙ are) in
           list_part f c (class_of f.unicode false negated rs) d p q (subst (λ x. AreRangesOf f.unicode x (class_of f.unicode false negated rs)) same_set ranges)
-          (sym (ap (λ x. set_re s.stated f (class_of f.unicode x negated rs') >>= λ re. deeper s.stated re 0) off
-          ∙ ap (λ x. set_re s.stated f (class_of f.unicode false negated x) >>= λ re. deeper s.stated re 0) e) ∙ next) one part
+          (sym (ap (λ x. set_re s f (class_of f.unicode x negated rs') >>= λ re. deeper s re 0) off
+          ∙ ap (λ x. set_re s f (class_of f.unicode false negated x) >>= λ re. deeper s re 0) e) ∙ next) one part
 
   -- ---- mark by mark
 
@@ -234,7 +233,7 @@ module _ (s : FullSettings) where
   Front w xs t found = read_mark (mark_settings s (place (state w false xs))) t ≡ Some found
 
   single_alike : (m : stated.Mark) (k : said.Said) (w v : Work) (xs : List Bool) (u : Characters) (found : Mark × Characters) (n : State) (b : Characters) → IsSingle m → is_shared m ≡ true →
-      stated.said m ≡ Some k → takes_more m u ≡ false → w.level.flags.case_insensitive ≡ false → take_said s.stated k w ≡ Some v → NoneVerbose xs → Front w xs (written m ++ u) found →
+      stated.said m ≡ Some k → takes_more m u ≡ false → w.level.flags.case_insensitive ≡ false → take_said s k w ≡ Some v → NoneVerbose xs → Front w xs (written m ++ u) found →
       Moves s found.0 (state w false xs) found.1 n b → Both k v u n b
   single_alike m k w v xs u found n b single sh says alone off takes none front moves =
       let same = said_same m k single sh says in
@@ -242,7 +241,7 @@ module _ (s : FullSettings) where
       (moves_alike k w v xs n u b same off takes none (subst (λ (r : Mark × Characters). Moves s r.0 (state w false xs) r.1 n b) (sym both) moves), same_keeps k same)
 
   list_alike : (negated bracket : Bool) (atoms : List Atom) (k : said.Said) (w v : Work) (xs : List Bool) (u : Characters) (found : Mark × Characters) (n : State) (b : Characters) →
-      are_plain atoms ≡ true → stated.said (stated.stands (stated.brackets negated bracket atoms)) ≡ Some k → w.level.flags.case_insensitive ≡ false → take_said s.stated k w ≡ Some v →
+      are_plain atoms ≡ true → stated.said (stated.stands (stated.brackets negated bracket atoms)) ≡ Some k → w.level.flags.case_insensitive ≡ false → take_said s k w ≡ Some v →
       NoneVerbose xs → Front w xs (written (stated.stands (stated.brackets negated bracket atoms)) ++ u) found → Moves s found.0 (state w false xs) found.1 n b → Both k v u n b
   list_alike negated bracket atoms k w v xs u found n b sh h off takes none front moves =
       let (x, is, same) = some_parts (stated.piece_says (stated.brackets negated bracket atoms)) (λ s. Some (said.Stands s)) k h in
@@ -256,12 +255,12 @@ module _ (s : FullSettings) where
       let both : (mark.brackets, inner) ≡ found = same_Some (mark.brackets, inner) found
       (subst (λ t. read_mark (mark_settings s (place (state w false xs))) (91 ∷ t) ≡ Some found) text front) in (
         list_taken negated bracket atoms ms w v xs n u b good members (no_sets atoms ms sh (members_are atoms ms members)) off
-            (subst (λ k. take_said s.stated k w ≡ Some v) (sym kind) takes) none (subst (λ (r : Mark × Characters). Moves s r.0 (state w false xs) r.1 n b) (sym both) moves),
+            (subst (λ k. take_said s k w ≡ Some v) (sym kind) takes) none (subst (λ (r : Mark × Characters). Moves s r.0 (state w false xs) r.1 n b) (sym both) moves),
         subst KeepsCase kind tt,
       )
 
   one_alike : (m : stated.Mark) (k : said.Said) (w v : Work) (xs : List Bool) (u : Characters) (found : Mark × Characters) (n : State) (b : Characters) → is_shared m ≡ true →
-      stated.said m ≡ Some k → takes_more m u ≡ false → w.level.flags.case_insensitive ≡ false → take_said s.stated k w ≡ Some v → NoneVerbose xs → Front w xs (written m ++ u) found →
+      stated.said m ≡ Some k → takes_more m u ≡ false → w.level.flags.case_insensitive ≡ false → take_said s k w ≡ Some v → NoneVerbose xs → Front w xs (written m ++ u) found →
       Moves s found.0 (state w false xs) found.1 n b → Both k v u n b
   one_alike (stated.stands (stated.brackets negated bracket atoms)) k w v xs u found n b sh says alone off takes none front moves =
       list_alike negated bracket atoms k w v xs u found n b sh says off takes none front moves
@@ -287,13 +286,13 @@ module _ (s : FullSettings) where
       single_alike (stated.repeats o) k w v xs u found n b tt sh says alone off takes none front moves
 
   lockstep : (ms : List stated.Mark) (w : Work) (xs : List Bool) (t : Characters) (p q : Subpattern) → Off w → NoneVerbose xs → AreShared ms → AreMarks ms t →
-      run_marks s.stated w ms ≡ Some p → Leads s (state w false xs) t q → p ≡ q
+      run_marks s w ms ≡ Some p → Leads s (state w false xs) t q → p ≡ q
   lockstep [] w xs t p q off none shared are run l = ⊎_elim
       (λ (_, done). same_Some p q (sym run ∙ done))
       (λ (k, u, _, _, f, _, _). absurd (no_front s (state w false xs) t u k are f)) (leads_first s (state w false xs) t q l)
   lockstep (m ∷ ms) w xs t p q off none (sh, shs) (u, is, alone, are) run l =
-      let (k, says, more) = some_parts (stated.said m) (λ k. take_said s.stated k w >>= λ v. run_marks s.stated v ms) p run in
-      let (v, takes, rest) = some_parts (take_said s.stated k w) (λ v. run_marks s.stated v ms) p more in
+      let (k, says, more) = some_parts (stated.said m) (λ k. take_said s k w >>= λ v. run_marks s v ms) p run in
+      let (v, takes, rest) = some_parts (take_said s k w) (λ v. run_marks s v ms) p more in
       ⊎_elim
       (λ (nil, _). absurd (none-some (k, u) (sym (ap lex nil) ∙ ap lex is ∙ lex_again (written m ++ u) k u (m, says, refl, alone))))
       (λ (found, a, n, b, front, moves, next).
@@ -301,12 +300,12 @@ module _ (s : FullSettings) where
       (subst (λ x. read_mark (mark_settings s (place (state w false xs))) x ≡ Some (found, a)) is front) moves in
       let on : Leads s (state v false n.around) u q = subst (λ x. Leads s (state x false n.around) u q) e (subst (λ x. Leads s (state n.work x n.around) u q) verbose
       (subst (λ x. Leads s n x q) (sym ends) next)) in
-      lockstep ms v n.around u p q (take_off s.stated k w v keeps off takes) around shs are rest on)
+      lockstep ms v n.around u p q (take_off s k w v keeps off takes) around shs are rest on)
       (leads_first s (state w false xs) t q l)
 
 pub shared_law : SharedPatternsAlike
 shared_law s text a b plain_start off r shared f =
     let (depth, l) = (marks_law s text b).0 f in
-    let run = body_run s.stated r.body (begin (first_flags s.stated) 0 []) ∙ ap (λ o. o >>= whole s.stated) r.is_read ∙ r.is_whole in
-    ap (λ (p : Subpattern). p.re) (lockstep s (marks r.body) (fresh s.stated) [] text (record { re = a; depth = r.depth }) (record { re = b; depth = depth })
-    (off, tt) tt shared r.is_written run (subst (λ x. Leads s (state (fresh s.stated) x []) text (record { re = b; depth = depth })) plain_start l))
+    let run = body_run s r.body (begin (first_flags s) 0 []) ∙ ap (λ o. o >>= whole s) r.is_read ∙ r.is_whole in
+    ap (λ (p : Subpattern). p.re) (lockstep s (marks r.body) (fresh s) [] text (record { re = a; depth = r.depth }) (record { re = b; depth = depth })
+    (off, tt) tt shared r.is_written run (subst (λ x. Leads s (state (fresh s) x []) text (record { re = b; depth = depth })) plain_start l))

@@ -11,12 +11,12 @@ use Rattle.rc_tokens.specs.Text.{Characters}
 use Rattle.rc_tokens.specs.Marks.{bounds}
 use Rattle.rc_tokens.specs.Said.{Capturing, Named}
 use Rattle.rc_tokens.specs.declared.tokens.Assertion.TheVariants.{Boundary}
+use Rattle.rc_parser.specs.Settings.{Settings, default_settings}
 use Rattle.rc_parser.specs.Pieces.{Subpattern, leaf}
 use Rattle.rc_full_tokens.specs.Gaps.{none}
 use Rattle.rc_full_tokens.specs.Flags.{no_change}
 use Rattle.rc_full_lists.specs.Read.{passed}
 use Rattle.rc_full_parser.specs.declared.marks.Piece.TheVariants as piece
-use Rattle.rc_full_parser.specs.Settings.{FullSettings, default_full}
 use Rattle.rc_full_parser.specs.Marks.{Mark, closes, sets, opens, repeats, stands}
 use Rattle.rc_full_parser.specs.Marked.{read_mark}
 use Rattle.rc_full_parser.specs.Pieces.{plain, character, asserts}
@@ -25,7 +25,7 @@ use Rattle.rc_full_parser.proofs.OneLemmas.{Front, Next, next_items, items_next,
 
 -- ---- what is read
 
-step : {s : FullSettings} {g : Bool} {p end : Place} {t u : Characters} (b : Characters) (k : Mark) → Front s p t k b → Next s g p k b end u → Items s g p t end u
+step : {s : Settings} {g : Bool} {p end : Place} {t u : Characters} (b : Characters) (k : Mark) → Front s p t k b → Next s g p k b end u → Items s g p t end u
 step b k h n = next_items _ _ _ _ _ b _ k h n
 
 abbrev itself : ℕ → Re
@@ -41,7 +41,7 @@ abbrev verbose_on : Mark
 verbose_on = sets (record no_change { ignore_whitespace = Some true })
 
 -- `a{ 2 , 3 }`
-counted : Reads default_full (codes "a{ 2 , 3 }") (repeat 2 (Some 3) true (itself 97))
+counted : Reads default_settings (codes "a{ 2 , 3 }") (repeat 2 (Some 3) true (itself 97))
 unfolding lib.Utf8.encode ucd_props
 counted = record {
   end = _;
@@ -62,7 +62,7 @@ counted = record {
 }
 
 -- `a{,3}`, where that is set
-up_to : Reads (record default_full { empty_min = true }) (codes "a{,3}") (repeat 0 (Some 3) true (itself 97))
+up_to : Reads (record default_settings { empty_min = true }) (codes "a{,3}") (repeat 0 (Some 3) true (itself 97))
 unfolding lib.Utf8.encode ucd_props
 up_to = record {
   end = _;
@@ -83,7 +83,7 @@ up_to = record {
 }
 
 -- `\b{ 2}`
-boundaries : Reads default_full (codes "\\b{ 2}") (repeat 2 (Some 2) true (look WordUnicode))
+boundaries : Reads default_settings (codes "\\b{ 2}") (repeat 2 (Some 2) true (look WordUnicode))
 unfolding lib.Utf8.encode ucd_props
 boundaries = record {
   end = _;
@@ -104,7 +104,7 @@ boundaries = record {
 }
 
 -- `(?x)a *`
-spaced : Reads default_full (codes "(?x)a *") (concat_of (empty ∷ repeat 0 None true (itself 97) ∷ []))
+spaced : Reads default_settings (codes "(?x)a *") (concat_of (empty ∷ repeat 0 None true (itself 97) ∷ []))
 unfolding lib.Utf8.encode ucd_props
 spaced = record {
   end = _;
@@ -126,7 +126,7 @@ spaced = record {
 }
 
 -- `(?x)a* ?`: the `?` doesn't follow at once
-repeated_twice : Reads default_full (codes "(?x)a* ?") (concat_of (empty ∷ repeat 0 (Some 1) true (repeat 0 None true (itself 97)) ∷ []))
+repeated_twice : Reads default_settings (codes "(?x)a* ?") (concat_of (empty ∷ repeat 0 (Some 1) true (repeat 0 None true (itself 97)) ∷ []))
 unfolding lib.Utf8.encode ucd_props
 repeated_twice = record {
   end = _;
@@ -154,7 +154,7 @@ repeated_twice = record {
 }
 
 -- `(?x)(a # )`, and behind the end of the line `)`: the comment hides the first `)`
-hidden : Reads default_full (codes "(?x)(a # )\n)") (concat_of (empty ∷ capture 1 None (itself 97) ∷ []))
+hidden : Reads default_settings (codes "(?x)(a # )\n)") (concat_of (empty ∷ capture 1 None (itself 97) ∷ []))
 unfolding lib.Utf8.encode ucd_props
 hidden = record {
   end = _;
@@ -181,7 +181,7 @@ hidden = record {
 }
 
 -- `(?<été>a)`
-named : Reads default_full (40 ∷ 63 ∷ 60 ∷ 233 ∷ 116 ∷ 233 ∷ codes ">a)") (capture 1 (Some (encode_utf8_all (233 ∷ 116 ∷ 233 ∷ []))) (itself 97))
+named : Reads default_settings (40 ∷ 63 ∷ 60 ∷ 233 ∷ 116 ∷ 233 ∷ codes ">a)") (capture 1 (Some (encode_utf8_all (233 ∷ 116 ∷ 233 ∷ []))) (itself 97))
 unfolding lib.Utf8.encode ucd_derived ucd_category
 named = record {
   end = _;
@@ -208,27 +208,27 @@ named = record {
 
 -- ---- what isn't
 
-stuck : {s : FullSettings} {g : Bool} {p end : Place} {t u : Characters} → read_mark (mark_settings s p) (passed p.verbose t) ≡ None → (passed p.verbose t ≡ [] → ⊥) →
+stuck : {s : Settings} {g : Bool} {p end : Place} {t u : Characters} → read_mark (mark_settings s p) (passed p.verbose t) ≡ None → (passed p.verbose t ≡ [] → ⊥) →
     Items s g p t end u → ⊥
 stuck h some i = ⊎_elim (λ (e, _, _). some e) (λ (k, b, f, _). none-some (k, b) (sym h ∙ f)) (went _ _ _ _ _ _ i)
 
 -- `)`, which closes nothing
-closed : (re : Re) → Reads default_full (codes ")") re → ⊥
-closed re r = true≢false (sym ((items_next default_full false _ r.end (codes ")") [] [] closes refl r.is_read).0))
+closed : (re : Re) → Reads default_settings (codes ")") re → ⊥
+closed re r = true≢false (sym ((items_next default_settings false _ r.end (codes ")") [] [] closes refl r.is_read).0))
 
 -- `*` with nothing before it
-bare : (re : Re) → Reads default_full (codes "*") re → ⊥
+bare : (re : Re) → Reads default_settings (codes "*") re → ⊥
 bare re r =
-    let (q, _, last, _, _) = items_next default_full false _ r.end (codes "*") [] [] (repeats (bounds false 0 None)) refl r.is_read in none-some q last
+    let (q, _, last, _, _) = items_next default_settings false _ r.end (codes "*") [] [] (repeats (bounds false 0 None)) refl r.is_read in none-some q last
 
 -- `{ }`, `(?<1>a)` and `\8` begin with no mark
-no_count : (re : Re) → Reads default_full (codes "{ }") re → ⊥
+no_count : (re : Re) → Reads default_settings (codes "{ }") re → ⊥
 unfolding ucd_props
 no_count re r = stuck refl (λ e. absurd (cc)) r.is_read
 
-no_name : (re : Re) → Reads default_full (codes "(?<1>a)") re → ⊥
+no_name : (re : Re) → Reads default_settings (codes "(?<1>a)") re → ⊥
 unfolding ucd_derived ucd_category
 no_name re r = stuck refl (λ e. absurd (cc)) r.is_read
 
-no_octal : (re : Re) → Reads default_full (codes "\\8") re → ⊥
+no_octal : (re : Re) → Reads default_settings (codes "\\8") re → ⊥
 no_octal re r = stuck refl (λ e. absurd (cc)) r.is_read

@@ -5,11 +5,11 @@ use Rattle.rc_pattern.specs.Re.{empty}
 use Rattle.rc_tokens.specs.Text.{Characters, ◌>>=◌}
 use Rattle.rc_tokens.specs.Said as said
 use Rattle.rc_tokens.proofs.StepLemmas.{some_parts}
+use Rattle.rc_parser.specs.Settings.{Settings}
 use Rattle.rc_parser.specs.Pieces.{Subpattern, leaf}
 use Rattle.rc_parser.specs.Grammar.{Level, add, set_flags, switched, end_branch, whole, repeated_once, inside, closed, tie}
 use Rattle.rc_parser.specs.Machine.{Outside, Work, work, settled, nameless, take_said, finish}
 use Rattle.rc_full_tokens.specs.declared.flags.FlagChange.{FlagChange}
-use Rattle.rc_full_parser.specs.Settings.{FullSettings}
 use Rattle.rc_full_parser.specs.Marks as mark
 use Rattle.rc_full_parser.specs.Grammar as items
 use Rattle.rc_full_parser.specs.Grammar.{Place, flags, here, at, behind, with_flags, behind_group, Begins, Items, fresh, Reads}
@@ -32,18 +32,18 @@ back q e f x = at (record (f.1) { groups = (here e).groups; names = (here e).nam
 abbrev in_state : Place → List Outside → List Bool → State
 in_state p fs xs = state (work p.level p.last fs) p.verbose xs
 
-module _ (s : FullSettings) where
-  pub took : (k : said.Said) (w : Work) (x : Bool) (xs : List Bool) (n : State) → (take_said s.stated k w >>= λ v. Some (state v x xs)) ≡ Some n →
-      (v : Work) × (take_said s.stated k w ≡ Some v) × (state v x xs ≡ n)
+module _ (s : Settings) where
+  pub took : (k : said.Said) (w : Work) (x : Bool) (xs : List Bool) (n : State) → (take_said s k w >>= λ v. Some (state v x xs)) ≡ Some n →
+      (v : Work) × (take_said s k w ≡ Some v) × (state v x xs ≡ n)
   took k w x xs n h =
-      let (v, is, same) = some_parts (take_said s.stated k w) (λ v. Some (state v x xs)) n h in (v, is, same_Some (state v x xs) n same)
+      let (v, is, same) = some_parts (take_said s k w) (λ v. Some (state v x xs)) n h in (v, is, same_Some (state v x xs) n same)
 
   -- the levels that wait go on, each behind its group, to the end of the text
   abbrev Rest : List Outside → List Bool → Place → Characters → Subpattern → Type 0
-  Rest [] xs p t re = (end : Place) × Items s false p t end [] × (whole s.stated (here end) ≡ Some re)
+  Rest [] xs p t re = (end : Place) × Items s false p t end [] × (whole s (here end) ≡ Some re)
   Rest (f ∷ fs) [] p t re = ⊥
   Rest (f ∷ fs) (x ∷ xs) p t re = (end : Place) × (u : Characters) × (body : Subpattern) × (q : Subpattern) × Items s true p t end u
-      × (whole s.stated (here end) ≡ Some body) × (closed s.stated (f.0) body ≡ Some q) × Rest fs xs (back q end f x) u re
+      × (whole s (here end) ≡ Some body) × (closed s (f.0) body ≡ Some q) × Rest fs xs (back q end f x) u re
 
   abbrev RestOf : State → Characters → Subpattern → Type 0
   RestOf m t re = Rest m.work.outer m.around (place m) t re
@@ -65,8 +65,8 @@ module _ (s : FullSettings) where
       let (w, fails, _) = took said.Closes (work p.level p.last []) x xs n h in absurd (none-some w fails)
   closed_rest p (f ∷ fs) (x ∷ xs) n t u v re b h e r =
       let (w, is, same) = took said.Closes (work p.level p.last (f ∷ fs)) x xs n h in
-      let (body, done, next) = some_parts (whole s.stated (here p)) _ w is in
-      let (q, shuts, made) = some_parts (closed s.stated (f.0) body) _ w next in
+      let (body, done, next) = some_parts (whole s (here p)) _ w is in
+      let (q, shuts, made) = some_parts (closed s (f.0) body) _ w next in
       let m = in_state (back q p f x) fs xs in
       let there : m ≡ n = ap (λ w. state w x xs) (same_Some m.work w made) ∙ same in
       (p, u, body, q, items.closes p t u b, done, shuts, to_next m n u v re there e r)
@@ -74,7 +74,7 @@ module _ (s : FullSettings) where
   moved : (k : mark.Mark) (m n : State) (t u v : Characters) (re : Subpattern) → Begins s (place m) t k u → Moves s k m u n v → RestOf n v re → RestOf m t re
   moved mark.bar m n t u v re b (h, e) r =
       let (w, is, same) = took said.Bar m.work m.verbose m.around n h in
-      let (l, done, made) = some_parts (end_branch s.stated (here (place m))) (λ l. Some (work l None m.work.outer)) w is in
+      let (l, done, made) = some_parts (end_branch s (here (place m))) (λ l. Some (work l None m.work.outer)) w is in
       let next = in_state (at l m.verbose None) m.work.outer m.around in
       before m.work.outer m.around (place m) (at l m.verbose None) t u re (λ g end x i. items.bars g (place m) end t u x l b done i)
       (to_next next n u v re (ap (λ w. state w m.verbose m.around) (same_Some next.work w made) ∙ same) e r)
@@ -97,7 +97,7 @@ module _ (s : FullSettings) where
   moved (mark.repeats n) m next t u v re b (h, e) r =
       let (w, is, same) = took (said.Repeats n) m.work m.verbose m.around next h in
       let (q, last, more) = some_parts m.work.last _ w is in
-      let (a, done, made) = some_parts (repeated_once s.stated m.work.level.flags n q) _ w more in
+      let (a, done, made) = some_parts (repeated_once s m.work.level.flags n q) _ w more in
       let there = in_state (at m.work.level m.verbose (Some a)) m.work.outer m.around in
       before m.work.outer m.around (place m) (at m.work.level m.verbose (Some a)) t u re (λ g end x i. items.repeats g (place m) end t u x n q a b last done i)
       (to_next there next u v re (ap (λ w. state w m.verbose m.around) (same_Some there.work w made) ∙ same) e r)
@@ -108,7 +108,7 @@ module _ (s : FullSettings) where
       before m.work.outer m.around (place m) (behind q (place m)) t u re (λ g end x i. items.stands g (place m) end t u x k q b is i)
       (to_next (appended q m) n u v re same e r)
 
-  ended : (p : Place) (fs : List Outside) (xs : List Bool) (t : Characters) (re : Subpattern) → Items s false p t p [] → finish s.stated (here p) fs ≡ Some re → Rest fs xs p t re
+  ended : (p : Place) (fs : List Outside) (xs : List Bool) (t : Characters) (re : Subpattern) → Items s false p t p [] → finish s (here p) fs ≡ Some re → Rest fs xs p t re
   ended p [] xs t re i h = (p, i, h)
   ended p (f ∷ fs) xs t re i h = absurd (none-some re h)
 
@@ -118,10 +118,10 @@ module _ (s : FullSettings) where
 
   -- behind the items of a body
   abbrev Then : Bool → Place → Characters → List Outside → List Bool → Subpattern → Type 0
-  Then false end u fs xs re = (fs ≡ []) × (whole s.stated (here end) ≡ Some re)
+  Then false end u fs xs re = (fs ≡ []) × (whole s (here end) ≡ Some re)
   Then true end u [] xs re = ⊥
   Then true end u (f ∷ fs) [] re = ⊥
-  Then true end u (f ∷ fs) (x ∷ xs) re = (body : Subpattern) × (q : Subpattern) × (whole s.stated (here end) ≡ Some body) × (closed s.stated (f.0) body ≡ Some q)
+  Then true end u (f ∷ fs) (x ∷ xs) re = (body : Subpattern) × (q : Subpattern) × (whole s (here end) ≡ Some body) × (closed s (f.0) body ≡ Some q)
       × Leads s (in_state (back q end f x) fs xs) u re
 
   shuts : (p : Place) (fs : List Outside) (xs : List Bool) (t u : Characters) (re : Subpattern) → Begins s p t mark.closes u → Then true p u fs xs re →
@@ -134,7 +134,7 @@ module _ (s : FullSettings) where
   leads : (g : Bool) (p end : Place) (t u : Characters) (fs : List Outside) (xs : List Bool) (re : Subpattern) → Items s g p t end u → Then g end u fs xs re →
       Leads s (in_state p fs xs) t re
   leads _ _ _ _ _ fs xs re (items.ends p t gaps) (none, done) =
-      ends (in_state p fs xs) t re gaps (ap (finish s.stated (here p)) none ∙ done)
+      ends (in_state p fs xs) t re gaps (ap (finish s (here p)) none ∙ done)
   leads _ _ _ _ _ fs xs re (items.closes p t u b) h = shuts p fs xs t u re b h
   leads _ _ _ _ _ fs xs re (items.bars g p end t u v l b done i) h =
       goes (in_state p fs xs) (in_state (at l p.verbose None) fs xs) t u u mark.bar re b (rw done refl, refl) (leads g (at l p.verbose None) end u v fs xs re i h)

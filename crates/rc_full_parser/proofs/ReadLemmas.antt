@@ -7,6 +7,7 @@ use Rattle.rc_tokens.specs.Text.{Characters}
 use Rattle.rc_tokens.specs.declared.refusal.Refusal.{Refusal}
 use Rattle.rc_tokens.specs.declared.refusal.Refusal.TheVariants.{Memory, Syntax}
 use Rattle.rc_tokens.proofs.StepLemmas.{pair_parts}
+use Rattle.rc_parser.specs.Settings.{Settings}
 use Rattle.rc_parser.specs.Pieces.{Subpattern, depth_limit}
 use Rattle.rc_parser.specs.Machine.{settled, finish}
 use Rattle.rc_parser.specs.Nesting.{least_depth}
@@ -15,7 +16,6 @@ use Rattle.rc_full_lists.specs.Parts.{Passes}
 use Rattle.rc_full_lists.specs.Read.{passed}
 use Rattle.rc_full_lists.proofs.PartLemmas.{passes_there, passed_passes}
 use Rattle.rc_full_lists.proofs.ListLemmas.{one_list_law}
-use Rattle.rc_full_parser.specs.Settings.{FullSettings}
 use Rattle.rc_full_parser.specs.Marks as mark
 use Rattle.rc_full_parser.specs.Marks.{Mark}
 use Rattle.rc_full_parser.specs.Marked.{read_mark}
@@ -61,7 +61,7 @@ passes_behind x t u f e h =
 passes_on : (x : Bool) (t f : Characters) → Passes x t f → Passes x (passed x t) f
 passes_on x t f h = subst (λ y. Passes x y f) (passes_there x t f h) (passes_again x t f h)
 
-module _ (s : FullSettings) where
+module _ (s : Settings) where
   leads_on : (m : State) (t : Characters) (p : Subpattern) → Leads s m t p → Leads s m (passed m.verbose t) p
   leads_on _ _ _ (ends m t p gaps done) = ends m (passed m.verbose t) p (passes_on m.verbose t [] gaps) done
   leads_on _ _ _ (goes m n t u v k p b moves l) = goes m n (passed m.verbose t) u v k p
@@ -75,7 +75,7 @@ module _ (s : FullSettings) where
   -- ---- the first mark
 
   abbrev pub Ended : State → Characters → Subpattern → Type 0
-  Ended m t p = (passed m.verbose t ≡ []) × (finish s.stated (settled m.work.last m.work.level) m.work.outer ≡ Some p)
+  Ended m t p = (passed m.verbose t ≡ []) × (finish s (settled m.work.last m.work.level) m.work.outer ≡ Some p)
 
   abbrev pub Went : State → Characters → Subpattern → Type 0
   Went m t p = (k : Mark) × (u : Characters) × (n : State) × (v : Characters) × Front s (place m) t k u × Moves s k m u n v × Leads s n v p
@@ -99,10 +99,10 @@ module _ (s : FullSettings) where
   one_move mark.brackets m a b t u w (c, d, q, is, part, same) (c', d', q', is', part', same') =
       let f = flags (place m) in
       let (x, y, z) = one_list_law (list_settings s (place m)) f.case_insensitive t c c' d d' u w is is' in
-      let there = subst (λ j. IsListPart s.stated f j d' q) x (subst (λ j. IsListPart s.stated f c j q) y part) in
-      (sym same ∙ ap (λ q. appended q m) (one_list_part s.stated f c' d' q q' there part') ∙ same', z)
+      let there = subst (λ j. IsListPart s f j d' q) x (subst (λ j. IsListPart s f c j q) y part) in
+      (sym same ∙ ap (λ q. appended q m) (one_list_part s f c' d' q q' there part') ∙ same', z)
   one_move (mark.stands k) m a b t u w (q, is, same, e) (q', is', same', e') =
-      (sym same ∙ ap (λ q. appended q m) (one_piece s.stated (flags (place m)) k q q' is is') ∙ same', sym e ∙ e')
+      (sym same ∙ ap (λ q. appended q m) (one_piece s (flags (place m)) k q q' is is') ∙ same', sym e ∙ e')
 
   -- what leads on from there, where the first mark is known
   leads_next : (m n : State) (t u v : Characters) (k : Mark) (p : Subpattern) → Front s (place m) t k u → Moves s k m u n v → Leads s m t p → Leads s n v p
@@ -133,11 +133,11 @@ module _ (s : FullSettings) where
   }
 
   pub same_end : (text : Characters) (m : State) (t : Characters) (p : Subpattern) → Same text m t → length t ≡ 0 →
-      finish s.stated (settled m.work.last m.work.level) m.work.outer ≡ Some p → Leads s (start s) text p
+      finish s (settled m.work.last m.work.level) m.work.outer ≡ Some p → Leads s (start s) text p
   same_end text m t p same nil done = same.gives p (ends m t p (subst (λ x. Passes m.verbose x []) (sym (nil_from_length t nil)) (nothing_passed m.verbose)) done)
 
   pub same_none : (text : Characters) (m : State) (t : Characters) → Same text m t → length t ≡ 0 →
-      finish s.stated (settled m.work.last m.work.level) m.work.outer ≡ None → (p : Subpattern) → Leads s (start s) text p → ⊥
+      finish s (settled m.work.last m.work.level) m.work.outer ≡ None → (p : Subpattern) → Leads s (start s) text p → ⊥
   same_none text m t same nil fails p l = ⊎_elim (λ (_, done). none-some p (sym fails ∙ done))
       (λ (k, u, _, _, f, _, _). no_front m t u k (ap (passed m.verbose) (nil_from_length t nil) ∙ sym (passes_there m.verbose [] [] (nothing_passed m.verbose))) f) (leads_first m t p (same.takes p l))
 
@@ -162,7 +162,7 @@ module _ (s : FullSettings) where
       let (same, rest) = pair_parts k' k u' u (sym f' ∙ f) in
       never (n, v) (subst (λ x. Moves s x m u n v) same (subst (λ x. Moves s k' m x n v) rest moves))) (leads_first m t p l)
 
-  pub too_deep : (m n : State) (t u v : Characters) (k : Mark) → Front s (place m) t k u → Moves s k m u n v → depth_limit s.stated < least_depth n.work → Refuses s m t
+  pub too_deep : (m n : State) (t u v : Characters) (k : Mark) → Front s (place m) t k u → Moves s k m u n v → depth_limit s < least_depth n.work → Refuses s m t
   too_deep m n t u v k f moves deep p l within =
       let least = leads_deeper s n v p (leads_next m n t u v k p f moves l) in omega (arith, deep, least, within)
 

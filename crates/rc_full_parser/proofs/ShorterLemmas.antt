@@ -2,11 +2,11 @@
 use Rattle.std.proofs.Common.{ℕ, ◌≤◌, ◌<◌, Bool, true, false, ◌==◌, [], ◌∷◌, ◌++◌, Option, length, length-append, sym, subst, arith, if◌then◌else◌}
 use Rattle.rc_tokens.specs.Text.{Characters}
 use Rattle.rc_tokens.specs.Lexer.{past}
+use Rattle.rc_parser.specs.Settings.{Settings}
 use Rattle.rc_full_tokens.specs.Counts.{IsCount, exactly, from, between, up_to}
 use Rattle.rc_full_lists.proofs.OpeningLemmas.{passed_shorter}
 use Rattle.rc_full_lists.proofs.ShorterLemmas.{passes_shorter, escape_shorter, list_shorter}
 use Rattle.rc_full_parser.specs.declared.marks.MarkSettings.{MarkSettings}
-use Rattle.rc_full_parser.specs.Settings.{FullSettings}
 use Rattle.rc_full_parser.specs.Marks as mark
 use Rattle.rc_full_parser.specs.Marks.{Mark, IsAmount, any, some, maybe, counted, IsMark, branch, close, setting, capturing, naming, flagging, repeating, bracket, escaped, dot, caret, dollar, character}
 use Rattle.rc_full_parser.specs.Grammar.{flags, list_settings}
@@ -50,7 +50,7 @@ mark_shorter s _ _ _ (caret t) = omega arith
 mark_shorter s _ _ _ (dollar t) = omega arith
 mark_shorter s _ _ _ (character c t other) = omega arith
 
-moves_shorter : (s : FullSettings) (k : Mark) (m n : State) (t u : Characters) → Moves s k m t n u → length u ≤ length t
+moves_shorter : (s : Settings) (k : Mark) (m n : State) (t u : Characters) → Moves s k m t n u → length u ≤ length t
 moves_shorter s mark.bar m n t u (h, e) = subst (λ x. length x ≤ length t) e (omega arith)
 moves_shorter s mark.closes m n t u (h, e) = subst (λ x. length x ≤ length t) e (omega arith)
 moves_shorter s (mark.sets to) m n t u (h, e) = subst (λ x. length x ≤ length t) e (omega arith)
@@ -60,7 +60,7 @@ moves_shorter s mark.brackets m n t u (c, d, q, is, part, same) =
     let h = list_shorter (list_settings s (place m)) (flags (place m)).case_insensitive t u c d is in omega (arith, h)
 moves_shorter s (mark.stands k) m n t u (q, is, same, e) = subst (λ x. length x ≤ length t) e (omega arith)
 
-pub steps_shorter : (s : FullSettings) (m n : State) (t v : Characters) → Steps s m t n v → length v < length t
+pub steps_shorter : (s : Settings) (m n : State) (t v : Characters) → Steps s m t n v → length v < length t
 steps_shorter s m n t v (k, u, w, b, moves, e) =
     let gaps = passes_shorter m.verbose t b.front b.gaps in
     let here = mark_shorter _ b.front u k b.is_mark in

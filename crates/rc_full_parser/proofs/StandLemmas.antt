@@ -20,7 +20,6 @@ use Rattle.rc_class_sets.specs.Sets.{CodeSet}
 use Rattle.rc_full_tokens.specs.Counts.{IsCount, exactly, from, between, up_to}
 use Rattle.rc_full_parser.specs.declared.marks.MarkSettings.{MarkSettings}
 use Rattle.rc_full_parser.specs.declared.marks.Piece.{Piece}
-use Rattle.rc_full_parser.specs.Settings.{FullSettings}
 use Rattle.rc_full_parser.specs.Marks as mark
 use Rattle.rc_full_parser.specs.Marks.{Mark, IsAmount, any, some, maybe, counted, IsMark}
 use Rattle.rc_full_parser.specs.Pieces as pieces
@@ -157,44 +156,44 @@ repeat_stands s pre l x (Some a) b q r ordered is done h =
       last = fit;
     }
 
-module _ (s : FullSettings) (byte : s.stated.line_terminator < 256) where
+module _ (s : Settings) (byte : s.line_terminator < 256) where
   items_stand : (g : Bool) (p end : Place) (t u : Characters) (pre : List Numbered) → Items s g p t end u → StandsAt pre p → StandsAt pre end
   items_stand _ _ _ _ _ pre (items.ends p t gaps) h = h
   items_stand _ _ _ _ _ pre (items.closes p t u b) h = h
   items_stand _ _ _ _ _ pre (items.bars g p end t u v l b done i) h =
-      items_stand g (at l p.verbose None) end u v pre i (level_stands pre l p.verbose ((branch_stands s.stated pre (here p) l h.stands done).0))
+      items_stand g (at l p.verbose None) end u v pre i (level_stands pre l p.verbose ((branch_stands s pre (here p) l h.stands done).0))
   items_stand _ _ _ _ _ pre (items.sets g p end t u v to b i) h =
       items_stand g (with_flags to p) end u v pre i (level_stands pre _ (switched p.verbose to.ignore_whitespace)
       (add_nothing pre (record (here p) { flags = set_flags to.stated (flags p) }) (leaf empty) h.stands.items h.stands.branches
-      (plain_fit s.stated empty (tt, omega arith, tt, refl)) refl h.stands.ordered))
+      (plain_fit s empty (tt, omega arith, tt, refl)) refl h.stands.ordered))
   items_stand _ _ _ _ _ pre (items.repeats g p end t u v n q r b last done i) h =
       items_stand g (at p.level p.verbose (Some r)) end u v pre i
-      (repeat_stands s.stated pre p.level p.verbose p.last n q r (mark_bounded _ b.front u (mark.repeats n) b.is_mark) last done h)
+      (repeat_stands s pre p.level p.verbose p.last n q r (mark_bounded _ b.front u (mark.repeats n) b.is_mark) last done h)
   items_stand _ _ _ _ _ pre (items.stands g p end t u v k q b is i) h =
-      items_stand g (behind q p) end u v pre i (item_stands pre p q h (piece_fit s.stated (flags p) k q byte is))
+      items_stand g (behind q p) end u v pre i (item_stands pre p q h (piece_fit s (flags p) k q byte is))
   items_stand _ _ _ _ _ pre (items.list g p end t u v w c d q b is part i) h =
-      items_stand g (behind q p) end v w pre i (item_stands pre p q h (list_fit s.stated (flags p) c d q part))
+      items_stand g (behind q p) end v w pre i (item_stands pre p q h (list_fit s (flags p) c d q part))
   items_stand _ _ _ _ _ pre (items.group g p e end t u v w k x begun body q b into i done shut j) h =
       let l = here p in
       let group = tie k l in
-      let front = parser.before s.stated pre l group in
+      let front = parser.before s pre l group in
       let within = items_stand true (at begun (switched p.verbose x) None) e u v front i
-      (level_stands front begun (switched p.verbose x) (inside_stands s.stated k pre l begun h.stands into)) in
-      let (fit, gs) = whole_stands s.stated front (here e) body within.stands done in
-      let (closed_in, is) = closed_fit s.stated group body q fit shut in
+      (level_stands front begun (switched p.verbose x) (inside_stands s k pre l begun h.stands into)) in
+      let (fit, gs) = whole_stands s front (here e) body within.stands done in
+      let (closed_in, is) = closed_fit s group body q fit shut in
       items_stand g (behind_group q e p) end v w pre j (record {
         stands = add_stands pre (record l { groups = (here e).groups; names = (here e).names }) q h.stands.items h.stands.branches closed_in
             (ordered_as (pre ++ (held l ++ groups q.re)) (front ++ held (here e)) (here e).groups (here e).names
-            (ap (λ y. pre ++ (held l ++ y)) (ap groups is) ∙ around s.stated group pre l body.re (held (here e)) gs) within.stands.ordered);
+            (ap (λ y. pre ++ (held l ++ y)) (ap groups is) ∙ around s group pre l body.re (held (here e)) gs) within.stands.ordered);
         items = h.stands.items;
         last = closed_in;
       })
 
   reads_stand : (text : Characters) (re : Re) → Reads s text re → IsWellFormed re
   reads_stand text re r =
-      let l = begin (first_flags s.stated) 0 [] in
-      let last = items_stand false (fresh s) r.end text [] [] r.is_read (level_stands [] l s.ignore_whitespace (first_stands s.stated)) in
-      whole_formed s.stated (here r.end) re r.depth last.stands r.is_whole
+      let l = begin (first_flags s) 0 [] in
+      let last = items_stand false (fresh s) r.end text [] [] r.is_read (level_stands [] l s.ignore_whitespace (first_stands s)) in
+      whole_formed s (here r.end) re r.depth last.stands r.is_whole
 
 pub well_formed_law : PatternsAreWellFormed
 well_formed_law s text re byte r = reads_stand s byte text re r

@@ -1,11 +1,10 @@
--- Only proofs use this file.
 -- What the text of a pattern is read as, by the full grammar.
 use Rattle.std.specs.Prelude.{◌≡◌, ℕ, Bool, true, false, [], Option, Some, None}
 use Rattle.rc_pattern.specs.Re.{Re, empty}
 use Rattle.rc_tokens.specs.Text.{Characters}
 use Rattle.rc_tokens.specs.Said.{Start}
 use Rattle.rc_tokens.specs.declared.tokens.Bounds.{Bounds}
-use Rattle.rc_parser.specs.Settings.{first_flags}
+use Rattle.rc_parser.specs.Settings.{Settings, first_flags}
 use Rattle.rc_parser.specs.Pieces.{Subpattern, leaf}
 use Rattle.rc_parser.specs.Grammar.{Level, begin, add, switched, set_flags, end_branch, whole, repeated_once, inside, tie, closed}
 use Rattle.rc_parser.specs.Machine.{settled}
@@ -17,7 +16,6 @@ use Rattle.rc_full_lists.specs.Parts.{Passes}
 use Rattle.rc_full_lists.specs.Lists.{IsList}
 use Rattle.rc_full_parser.specs.declared.marks.MarkSettings.{MarkSettings}
 use Rattle.rc_full_parser.specs.declared.marks.Piece.{Piece}
-use Rattle.rc_full_parser.specs.Settings.{FullSettings}
 use Rattle.rc_full_parser.specs.Marks as mark
 use Rattle.rc_full_parser.specs.Marks.{IsMark}
 use Rattle.rc_full_parser.specs.Pieces.{IsPiece, IsListPart}
@@ -49,7 +47,7 @@ with_flags to p = at (add (leaf empty) (record (here p) { flags = set_flags to.s
 abbrev pub behind_group : Subpattern → Place → Place → Place
 behind_group q e p = at (record (here p) { groups = (here e).groups; names = (here e).names }) p.verbose (Some q)
 
-module _ (s : FullSettings) where
+module _ (s : Settings) where
   abbrev pub mark_settings : Place → MarkSettings
   mark_settings p = record { unicode = (flags p).unicode; octal = s.octal; empty_min = s.empty_min }
 
@@ -67,29 +65,29 @@ module _ (s : FullSettings) where
   pub data Items : Bool → Place → Characters → Place → Characters → Type 0 where
     ends : (p : Place) (t : Characters) → Passes p.verbose t [] → Items false p t p []
     closes : (p : Place) (t u : Characters) → Begins p t mark.closes u → Items true p t p u
-    bars : (in_group : Bool) (p end : Place) (t u v : Characters) (l : Level) → Begins p t mark.bar u → end_branch s.stated (here p) ≡ Some l →
+    bars : (in_group : Bool) (p end : Place) (t u v : Characters) (l : Level) → Begins p t mark.bar u → end_branch s (here p) ≡ Some l →
         Items in_group (at l p.verbose None) u end v → Items in_group p t end v
     sets : (in_group : Bool) (p end : Place) (t u v : Characters) (to : FlagChange) → Begins p t (mark.sets to) u →
         Items in_group (with_flags to p) u end v → Items in_group p t end v
     repeats : (in_group : Bool) (p end : Place) (t u v : Characters) (b : Bounds) (q r : Subpattern) → Begins p t (mark.repeats b) u → p.last ≡ Some q →
-        repeated_once s.stated (flags p) b q ≡ Some r → Items in_group (at p.level p.verbose (Some r)) u end v → Items in_group p t end v
+        repeated_once s (flags p) b q ≡ Some r → Items in_group (at p.level p.verbose (Some r)) u end v → Items in_group p t end v
     stands : (in_group : Bool) (p end : Place) (t u v : Characters) (k : Piece) (q : Subpattern) → Begins p t (mark.stands k) u →
-        IsPiece s.stated (flags p) k q → Items in_group (behind q p) u end v → Items in_group p t end v
+        IsPiece s (flags p) k q → Items in_group (behind q p) u end v → Items in_group p t end v
     list : (in_group : Bool) (p end : Place) (t u v w : Characters) (c : CodeSet) (depth : ℕ) (q : Subpattern) → Begins p t mark.brackets u →
-        IsList (list_settings p) (flags p).case_insensitive u c depth v → IsListPart s.stated (flags p) c depth q →
+        IsList (list_settings p) (flags p).case_insensitive u c depth v → IsListPart s (flags p) c depth q →
         Items in_group (behind q p) v end w → Items in_group p t end w
     group : (in_group : Bool) (p e end : Place) (t u v w : Characters) (k : Start) (x : Option Bool) (from : Level) (body q : Subpattern) →
         Begins p t (mark.opens k x) u → inside k (here p) ≡ Some from → Items true (at from (switched p.verbose x) None) u e v →
-        whole s.stated (here e) ≡ Some body → closed s.stated (tie k (here p)) body ≡ Some q →
+        whole s (here e) ≡ Some body → closed s (tie k (here p)) body ≡ Some q →
         Items in_group (behind_group q e p) v end w → Items in_group p t end w
 
   -- before a pattern
   abbrev pub fresh : Place
-  fresh = at (begin (first_flags s.stated) 0 []) s.ignore_whitespace None
+  fresh = at (begin (first_flags s) 0 []) s.ignore_whitespace None
 
   -- The text is read as `re`.
   pub record Reads (text : Characters) (re : Re) : Type 0 where
     pub end : Place
     pub is_read : Items false fresh text end []
     pub depth : ℕ
-    pub is_whole : whole s.stated (here end) ≡ Some (record { re = re; depth = depth })
+    pub is_whole : whole s (here end) ≡ Some (record { re = re; depth = depth })

@@ -8,23 +8,23 @@ use Rattle.rc_tokens.specs.Marks as stated
 use Rattle.rc_tokens.specs.Marks.{Mark, stands, bar, setting, opens, closes, repeats, escape_says}
 use Rattle.rc_tokens.specs.declared.tokens.Escape.{Escape}
 use Rattle.rc_tokens.specs.declared.tokens.Escape.TheVariants as says
+use Rattle.rc_parser.specs.Settings.{Settings}
 use Rattle.rc_parser.specs.Grammar as parser
-use Rattle.rc_full_parser.specs.Settings.{FullSettings}
 use Rattle.rc_full_parser.specs.Grammar.{Reads}
 use Rattle.rc_full_parser.specs.Machine.{start, Leads}
 
 -- no text is read as two patterns
 abbrev pub PatternsInOneWay : Type 0
-PatternsInOneWay = (s : FullSettings) (text : Characters) (a b : Re) → Reads s text a → Reads s text b → a ≡ b
+PatternsInOneWay = (s : Settings) (text : Characters) (a b : Re) → Reads s text a → Reads s text b → a ≡ b
 
 -- A text is read as the pattern to which its marks lead.
 abbrev pub PatternsByMarks : Type 0
-PatternsByMarks = (s : FullSettings) (text : Characters) (re : Re) → Reads s text re
+PatternsByMarks = (s : Settings) (text : Characters) (re : Re) → Reads s text re
     ↔ ((depth : ℕ) × Leads s (start s) text (record { re = re; depth = depth }))
 
 -- what is read is well-formed, where the line terminator is a byte
 abbrev pub PatternsAreWellFormed : Type 0
-PatternsAreWellFormed = (s : FullSettings) (text : Characters) (re : Re) → s.stated.line_terminator < 256 → Reads s text re → IsWellFormed re
+PatternsAreWellFormed = (s : Settings) (text : Characters) (re : Re) → s.line_terminator < 256 → Reads s text re → IsWellFormed re
 
 -- ---- what both grammars read alike
 
@@ -70,5 +70,5 @@ AreShared (m ∷ ms) = (is_shared m ≡ true) × AreShared ms
 
 -- A text that both grammars read, and that has no Perl class and no flag i or x, both read alike.
 abbrev pub SharedPatternsAlike : Type 0
-SharedPatternsAlike = (s : FullSettings) (text : Characters) (a b : Re) → s.ignore_whitespace ≡ false → s.stated.case_insensitive ≡ false →
-    (r : parser.Reads s.stated text a) → AreShared (parser.marks r.body) → Reads s text b → a ≡ b
+SharedPatternsAlike = (s : Settings) (text : Characters) (a b : Re) → s.ignore_whitespace ≡ false → s.case_insensitive ≡ false →
+    (r : parser.Reads s text a) → AreShared (parser.marks r.body) → Reads s text b → a ≡ b

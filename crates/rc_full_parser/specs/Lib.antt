@@ -1,4 +1,3 @@
-pub mod Settings
 pub mod Marks
 pub mod Marked
 pub mod View

@@ -1,4 +1,3 @@
--- Only proofs use this file.
 -- The marks of which the text of a pattern is made, from left to right.
 use Rattle.std.specs.Prelude.{◌≡◌, ℕ, Bool, true, false, ◌∷◌, ◌++◌, Option, Some, None, encode_utf8_all, if◌then◌else◌}
 use Rattle.rc_tokens.specs.Text.{Characters, ◌>>◌, is_at, is_empty, each}

@@ -1,4 +1,3 @@
--- Only proofs use this file.
 -- What a mark that stands alone is read as, under the flags that hold.
 use Rattle.std.specs.Prelude.{◌≡◌, ℕ, ◌-◌, Bool, true, false, not, ◌&&◌, ◌==◌, nat_le, List, [], ◌∷◌, Some, encode_utf8_all}
 use Rattle.std.specs.List.{list_any}

@@ -4,12 +4,11 @@ use Rattle.std.specs.Prelude.{◌≡◌, ◌⊎◌, reverse, Result, MatchResult
 use Rattle.rc_tokens.specs.declared.refusal.Refusal.{Refusal}
 use Rattle.rc_tokens.specs.declared.refusal.Refusal.TheVariants.{Memory}
 use Rattle.rc_tokens.specs.View.{start_of}
-use Rattle.rc_parser.specs.Settings.{settings_of}
+use Rattle.rc_parser.specs.Settings.{Settings, settings_of}
 use Rattle.rc_parser.specs.View as stated
 use Rattle.rc_full_parser.specs.declared.marks.Mark as code
 use Rattle.rc_full_parser.specs.declared.marks.Mark.TheVariants as mark
 use Rattle.rc_full_parser.specs.declared.reader.Reader as reader
-use Rattle.rc_full_parser.specs.Settings.{FullSettings}
 use Rattle.rc_full_parser.specs.Machine.{State, state}
 use Rattle.rc_full_parser.specs.Marks.{Mark, bar, closes, sets, opens, repeats, brackets, stands}
 
@@ -26,13 +25,8 @@ mark_of (mark.Stands k) = stands k
 abbrev pub Gives : {A B : Type 0} → Result A Refusal → (B → Type 0) → (A → B) → Type 0
 Gives {B = B} r P view = MatchResult r (λ a. P (view a)) (λ e. (e ≡ Memory) ⊎ ((b : B) → P b → ⊥))
 
-abbrev pub settings_at : reader.Reader → FullSettings
-settings_at r = record {
-  stated = settings_of r.work.config;
-  ignore_whitespace = r.config.ignore_whitespace;
-  octal = r.config.octal;
-  empty_min = r.config.empty_min;
-}
+abbrev pub settings_at : reader.Reader → Settings
+settings_at r = settings_of r.work.config
 
 abbrev pub state_of : reader.Reader → State
 state_of r = state (stated.state r.work) r.verbose (reverse r.around.items)

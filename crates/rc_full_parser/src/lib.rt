@@ -2,11 +2,9 @@
 #![tactic(auto)]
 
 pub mod characters;
-mod config;
 pub mod laws;
 pub mod marks;
 mod pieces;
 mod reader;
 
-pub use config::FullConfig;
 pub use reader::parse;

@@ -10,26 +10,25 @@ ghost use Rattle.rc_pattern.specs.declared.hir.HirKind.TheVariants as HirKind;
 ghost use Rattle.rc_tokens.specs.Text.{Characters};
 ghost use Rattle.rc_tokens.specs.View.{IsResultOf};
 ghost use Rattle.rc_tokens.specs.declared.refusal.Refusal.TheVariants.{Memory};
+ghost use Rattle.rc_parser.specs.Settings.{settings_of};
 ghost use Rattle.rc_parser.specs.Pieces.{Subpattern};
 ghost use Rattle.rc_parser.specs.Outcome.{OnSyntax, OnFault};
 ghost use Rattle.rc_parser.specs.View.{part};
 ghost use Rattle.rc_full_lists.specs.Read.{passed};
-ghost use Rattle.rc_full_parser.specs.Settings.{full_settings_of};
 ghost use Rattle.rc_full_parser.specs.Grammar.{Reads, mark_settings};
 ghost use Rattle.rc_full_parser.specs.Marks.{brackets};
 ghost use Rattle.rc_full_parser.specs.Pieces.{IsPiece, HasCodesOf, HasCodesAt};
 ghost use Rattle.rc_full_parser.specs.Machine.{State, place, appended, take_mark, Moves, Leads, Steps, Refuses, start};
 ghost use Rattle.rc_full_parser.specs.View.{mark_of, Gives, settings_at, state_of};
 
-use crate::config::FullConfig;
 use crate::marks::{Mark, MarkSettings, Piece, first_mark};
 use crate::pieces::{listed, piece};
 use rc_full_lists::parts::{Settings, passed};
 use rc_full_tokens::flags::FlagChange;
-use rc_parser::Error;
 use rc_parser::builder::Work;
 use rc_parser::nested::Nested;
 use rc_parser::reader::{Fault, byte_before, characters};
+use rc_parser::{Config, Error};
 use rc_pattern::hir::Hir;
 use rc_tokens::refusal::Refusal;
 use rc_tokens::tokens::{Opening, Token};
@@ -38,7 +37,6 @@ use std::alloc::Global;
 /// How far a pattern is read.
 #[derive(Drop)]
 pub struct Reader {
-    pub config: FullConfig,
     pub work: Work,
     /// The flag `x`.
     pub verbose: bool,
@@ -47,15 +45,14 @@ pub struct Reader {
 }
 
 impl Reader {
-    fn new(alloc: Global, config: FullConfig) -> Reader
-        ensures state { state_of result ≡ start (full_settings_of config) }
-        ensures settings { settings_at result ≡ full_settings_of config }
+    fn new(alloc: Global, config: Config) -> Reader
+        ensures state { state_of result ≡ start (settings_of config) }
+        ensures settings { settings_at result ≡ settings_of config }
         ensures groups { result.work.level.groups ≡ 0 }
     {
         Reader {
-            config,
-            work: Work::new(alloc, config.stated),
-            verbose: config.ignore_whitespace,
+            work: Work::new(alloc, config),
+            verbose: config.get_ignore_whitespace(),
             around: Vec::new(alloc),
         }
     }
@@ -65,8 +62,8 @@ impl Reader {
     {
         MarkSettings {
             unicode: self.work.level.flags.unicode,
-            octal: self.config.octal,
-            empty_min: self.config.empty_min,
+            octal: self.work.config.get_octal(),
+            empty_min: self.work.config.get_empty_min(),
         }
     }
 
@@ -125,7 +122,7 @@ impl Reader {
     fn put(&mut self, alloc: Global, kind: Piece) -> Result<(), Refusal>
         requires { HasCodesOf self.old.work.level.flags.unicode kind }
         ensures value { Gives result (λ (n : State). (q : Subpattern)
-            × IsPiece (settings_at self.old).stated self.old.work.level.flags kind q
+            × IsPiece (settings_at self.old) self.old.work.level.flags kind q
             × (appended q (state_of self.old) ≡ n)) (λ _. state_of self.new) }
         ensures settings { settings_at self.new ≡ settings_at self.old }
         ensures groups { self.new.work.level.groups ≡ self.old.work.level.groups }
@@ -146,7 +143,7 @@ impl Reader {
         let settings = Settings {
             unicode: flags.unicode,
             verbose: self.verbose,
-            octal: self.config.octal,
+            octal: self.work.config.get_octal(),
         };
         let (item, rest) = listed(alloc, self.work.config, flags, settings, text)?;
         self.work.append(item)?;
@@ -202,15 +199,15 @@ impl Reader {
     }
 }
 
-fn read(alloc: Global, text: &[char], config: FullConfig) -> Result<Nested, Fault>
-    ensures terminator { (full_settings_of config).stated.line_terminator < 256 }
+fn read(alloc: Global, text: &[char], config: Config) -> Result<Nested, Fault>
+    ensures terminator { (settings_of config).line_terminator < 256 }
     ensures reads { MatchResult result
-        (λ n. Leads (full_settings_of config) (start (full_settings_of config)) text.now (part n))
-        (λ e. OnFault e ((p : Subpattern) → Leads (full_settings_of config)
-        (start (full_settings_of config)) text.now p → ⊥)) }
+        (λ n. Leads (settings_of config) (start (settings_of config)) text.now (part n))
+        (λ e. OnFault e ((p : Subpattern) → Leads (settings_of config)
+        (start (settings_of config)) text.now p → ⊥)) }
 {
     let mut reader = Reader::new(alloc, config);
-    let mut rest = passed(config.ignore_whitespace, text);
+    let mut rest = passed(config.get_ignore_whitespace(), text);
     while !rest.is_empty() {
         rest = match reader.step(alloc, rest) {
             Ok(behind) => behind,
@@ -230,11 +227,11 @@ fn read(alloc: Global, text: &[char], config: FullConfig) -> Result<Nested, Faul
 /// It returns the pattern that the grammar gives the text. That pattern is well-formed. None of its
 /// nodes is a concatenation of nothing, and the empty text is the node `Empty`. It fails with
 /// `Syntax` only if the grammar gives no pattern, and with `Memory` if it runs out of memory.
-pub fn parse(alloc: Global, text: &str, config: &FullConfig) -> Result<Hir, Error>
+pub fn parse(alloc: Global, text: &str, config: &Config) -> Result<Hir, Error>
     ensures reads { MatchResult result
-        (λ h. Reads (full_settings_of config.now) (chars text.now) (meaning h))
+        (λ h. Reads (settings_of config.now) (chars text.now) (meaning h))
         (λ e. OnSyntax e (λ at. (at ≤ length text.now)
-        × ((re : Re) → Reads (full_settings_of config.now) (chars text.now) re → ⊥))) }
+        × ((re : Re) → Reads (settings_of config.now) (chars text.now) re → ⊥))) }
     ensures well_formed { IfOk result (λ h. IsWellFormed (meaning h)) }
     ensures kind { IfOk result (λ h. IsTrue (has_plain_nodes h)) }
     ensures empty { text.now ≡ [] → IfOk result (λ h. (out-Hir h).kind ≡ HirKind.Empty) }

@@ -1,13 +1,13 @@
 //! Worked examples of whole patterns.
 
-use rc_full_parser::{FullConfig, parse};
-use rc_parser::{Config, Error};
+use rc_full_parser::parse;
+use rc_parser::{Config, Error, Grammar};
 use rc_pattern::hir::{Class, Hir, HirKind, Look};
 use std::alloc::Global;
 
-/// The default settings.
-fn full() -> FullConfig {
-    FullConfig::new(Config::new())
+/// The default settings of the full grammar.
+fn full() -> Config {
+    Config::new().grammar(Grammar::Full)
 }
 
 /// Whether the ranges of the class are these, or begin so if `whole` isn't set.
@@ -31,13 +31,7 @@ fn has(class: &Class, wanted: &[(u32, u32)], whole: bool) -> bool {
     true
 }
 
-fn is_class(
-    alloc: Global,
-    config: FullConfig,
-    text: &str,
-    wanted: &[(u32, u32)],
-    whole: bool,
-) -> bool {
+fn is_class(alloc: Global, config: Config, text: &str, wanted: &[(u32, u32)], whole: bool) -> bool {
     let Ok(hir) = parse(alloc, text, &config) else {
         return false;
     };
@@ -47,7 +41,7 @@ fn is_class(
     }
 }
 
-fn is_literal(alloc: Global, config: FullConfig, text: &str, wanted: &[u8]) -> bool {
+fn is_literal(alloc: Global, config: Config, text: &str, wanted: &[u8]) -> bool {
     let Ok(hir) = parse(alloc, text, &config) else {
         return false;
     };
@@ -58,7 +52,7 @@ fn is_literal(alloc: Global, config: FullConfig, text: &str, wanted: &[u8]) -> b
 }
 
 /// The byte of the text at which the parser stopped.
-fn refused_at(alloc: Global, config: FullConfig, text: &str) -> Option<usize> {
+fn refused_at(alloc: Global, config: Config, text: &str) -> Option<usize> {
     match parse(alloc, text, &config) {
         Err(Error::Syntax { at }) => Some(at),
         _ => None,
@@ -66,7 +60,7 @@ fn refused_at(alloc: Global, config: FullConfig, text: &str) -> Option<usize> {
 }
 
 /// The bounds of the repetition that is the whole pattern, and whether it is greedy.
-fn bounds(alloc: Global, config: FullConfig, text: &str) -> Option<(u32, Option<u32>, bool)> {
+fn bounds(alloc: Global, config: Config, text: &str) -> Option<(u32, Option<u32>, bool)> {
     let Ok(hir) = parse(alloc, text, &config) else {
         return None;
     };
@@ -193,15 +187,9 @@ fn lists_and_folding(rt: HostRuntime) {
 #[test]
 fn literals_and_counts(rt: HostRuntime) {
     let alloc = rt.alloc();
-    let octal = FullConfig {
-        octal: true,
-        ..full()
-    };
-    let verbose = FullConfig {
-        ignore_whitespace: true,
-        ..full()
-    };
-    let literals: [(FullConfig, &str, &[u8]); 9] = [
+    let octal = full().octal(true);
+    let verbose = full().ignore_whitespace(true);
+    let literals: [(Config, &str, &[u8]); 9] = [
         (full(), "(?i)5", b"5"),
         (full(), "(?x) a b # c\n d", b"abd"),
         (verbose, " a b # c\n d", b"abd"),
@@ -215,10 +203,7 @@ fn literals_and_counts(rt: HostRuntime) {
     for (config, text, wanted) in literals {
         assert!(rt; is_literal(alloc, config, text, wanted), "{text}");
     }
-    let wide = FullConfig {
-        empty_min: true,
-        ..full()
-    };
+    let wide = full().empty_min(true);
     assert!(rt; bounds(alloc, full(), "a{ 2 , 3 }") == Some((2, Some(3), true)));
     assert!(rt; bounds(alloc, full(), "a{2 }?") == Some((2, Some(2), false)));
     assert!(rt; bounds(alloc, full(), "(?x)a *") == Some((0, None, true)));
@@ -268,7 +253,7 @@ fn refusals(rt: HostRuntime) {
     for (text, at) in rows {
         assert!(rt; refused_at(alloc, full(), text) == Some(at), "{text}");
     }
-    let shallow = FullConfig::new(Config::new().nest_limit(2));
+    let shallow = full().nest_limit(2);
     assert!(rt; refused_at(alloc, shallow, "((a))") == None);
     assert!(rt; refused_at(alloc, shallow, "[[a]b]") == None);
     assert!(rt; refused_at(alloc, shallow, "(((a)))") == Some(2));

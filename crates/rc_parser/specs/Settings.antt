@@ -1,9 +1,12 @@
 -- The settings of a reader of patterns.
 use Rattle.std.specs.Prelude.{ℕ, Bool, true, false}
 use Rattle.rc_parser.specs.declared.config.Config.{Config}
+use Rattle.rc_parser.specs.declared.config.Grammar.{Grammar}
+use Rattle.rc_parser.specs.declared.config.Grammar.TheVariants.{Stated}
 use Rattle.rc_parser.specs.declared.flags.Flags.{Flags}
 
 pub record Settings : Type 0 where
+  pub grammar : Grammar
   pub unicode : Bool
   pub utf8 : Bool
   pub case_insensitive : Bool
@@ -14,9 +17,14 @@ pub record Settings : Type 0 where
   pub line_terminator : ℕ
   pub swap_greed : Bool
   pub nest_limit : ℕ
+  -- what only the full grammar heeds: the flag x at the start, octal escapes, and `{,n}` for `{0,n}`
+  pub ignore_whitespace : Bool
+  pub octal : Bool
+  pub empty_min : Bool
 
 abbrev pub default_settings : Settings
 default_settings = record {
+  grammar = Stated;
   unicode = true;
   utf8 = true;
   case_insensitive = false;
@@ -26,11 +34,15 @@ default_settings = record {
   line_terminator = 10;
   swap_greed = false;
   nest_limit = 250;
+  ignore_whitespace = false;
+  octal = false;
+  empty_min = false;
 }
 
 -- the settings that a `Config` holds
 abbrev pub settings_of : Config → Settings
 settings_of c = record {
+  grammar = c.grammar;
   unicode = c.unicode;
   utf8 = c.utf8;
   case_insensitive = c.case_insensitive;
@@ -40,6 +52,9 @@ settings_of c = record {
   line_terminator = c.line_terminator;
   swap_greed = c.swap_greed;
   nest_limit = c.nest_limit;
+  ignore_whitespace = c.ignore_whitespace;
+  octal = c.octal;
+  empty_min = c.empty_min;
 }
 
 -- the flags with which a pattern begins

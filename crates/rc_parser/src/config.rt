@@ -6,9 +6,19 @@ ghost use Rattle.rc_parser.specs.Pieces.{depth_limit};
 
 use crate::flags::Flags;
 
+/// A grammar of patterns.
+#[derive(Clone, Copy, Debug, PartialEq, Eq)]
+pub enum Grammar {
+    /// The stated grammar: classes of ASCII, and of characters that a pattern lists.
+    Stated,
+    /// The full grammar: properties of Unicode, case folding, set operations and the flag `x`, too.
+    Full,
+}
+
 /// The settings of the parser.
 #[derive(Clone, Copy, Debug, PartialEq, Eq)]
 pub struct Config {
+    grammar: Grammar,
     unicode: bool,
     utf8: bool,
     case_insensitive: bool,
@@ -18,15 +28,19 @@ pub struct Config {
     line_terminator: u8,
     swap_greed: bool,
     nest_limit: u32,
+    ignore_whitespace: bool,
+    octal: bool,
+    empty_min: bool,
 }
 
 impl Config {
-    /// Returns the default settings: `unicode` and `utf8` are on, all other flags are off, the line
-    /// terminator is LF, and the nest limit is 250.
+    /// Returns the default settings: the stated grammar, `unicode` and `utf8` on, all other flags
+    /// off, LF as the line terminator, and a nest limit of 250.
     pub fn new() -> Config
         ensures { settings_of result ≡ default_settings }
     {
         Config {
+            grammar: Grammar::Stated,
             unicode: true,
             utf8: true,
             case_insensitive: false,
@@ -36,7 +50,17 @@ impl Config {
             line_terminator: 10,
             swap_greed: false,
             nest_limit: 250,
+            ignore_whitespace: false,
+            octal: false,
+            empty_min: false,
         }
+    }
+
+    /// Sets the grammar.
+    pub fn grammar(self, grammar: Grammar) -> Config
+        ensures { settings_of result ≡ record (settings_of self) { grammar = grammar } }
+    {
+        Config { grammar, ..self }
     }
 
     /// Sets the flag `u` at the start: whether classes and dots match characters or bytes, and
@@ -115,6 +139,39 @@ impl Config {
         Config { nest_limit, ..self }
     }
 
+    /// Sets the flag `x` at the start, which only the full grammar has: white space and comments are
+    /// ignored.
+    pub fn ignore_whitespace(self, ignore_whitespace: bool) -> Config
+        ensures { settings_of result ≡ record
+            (settings_of self) { ignore_whitespace = ignore_whitespace } }
+    {
+        Config {
+            ignore_whitespace,
+            ..self
+        }
+    }
+
+    /// Sets whether the full grammar has octal escapes, such as `\141`.
+    pub fn octal(self, octal: bool) -> Config
+        ensures { settings_of result ≡ record (settings_of self) { octal = octal } }
+    {
+        Config { octal, ..self }
+    }
+
+    /// Sets whether the full grammar has `{,n}`, which is `{0,n}`.
+    pub fn empty_min(self, empty_min: bool) -> Config
+        ensures { settings_of result ≡ record (settings_of self) { empty_min = empty_min } }
+    {
+        Config { empty_min, ..self }
+    }
+
+    /// The setting `grammar`.
+    pub fn get_grammar(&self) -> Grammar
+        ensures { result ≡ (settings_of self.now).grammar }
+    {
+        self.grammar
+    }
+
     /// The setting `unicode`.
     pub fn get_unicode(&self) -> bool
         ensures { result ≡ (settings_of self.now).unicode }
@@ -176,6 +233,27 @@ impl Config {
         ensures { result ≡ (settings_of self.now).nest_limit }
     {
         self.nest_limit
+    }
+
+    /// The setting `ignore_whitespace`.
+    pub fn get_ignore_whitespace(&self) -> bool
+        ensures { result ≡ (settings_of self.now).ignore_whitespace }
+    {
+        self.ignore_whitespace
+    }
+
+    /// The setting `octal`.
+    pub fn get_octal(&self) -> bool
+        ensures { result ≡ (settings_of self.now).octal }
+    {
+        self.octal
+    }
+
+    /// The setting `empty_min`.
+    pub fn get_empty_min(&self) -> bool
+        ensures { result ≡ (settings_of self.now).empty_min }
+    {
+        self.empty_min
     }
 
     /// The flags with which a pattern begins.

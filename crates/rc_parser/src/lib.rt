@@ -11,6 +11,6 @@ pub mod parts;
 pub mod pieces;
 pub mod reader;
 
-pub use config::Config;
+pub use config::{Config, Grammar};
 pub use error::Error;
 pub use reader::{parse, reads_as_one, reads_plain, reads_well_formed};

@@ -1,10 +1,10 @@
 use Rattle.std.proofs.Common.{◌≡◌, ◌≤◌, length, None, Some, arith, ap, sym, ◌∙◌, subst}
 use Rattle.std.proofs.lemmas.Bool.{eqb-true}
+use Rattle.rc_parser.specs.Settings.{settings_of}
 use Rattle.rc_parser.specs.Machine.{settled, finish}
 use Rattle.rc_parser.specs.View.{part}
 use Rattle.rc_full_lists.specs.Read.{passed}
 use Rattle.rc_full_lists.proofs.OpeningLemmas.{passed_shorter}
-use Rattle.rc_full_parser.specs.Settings.{full_settings_of}
 use Rattle.rc_full_parser.specs.Machine.{Steps, Refuses}
 use Rattle.rc_full_parser.specs.View.{settings_at, state_of}
 use Rattle.rc_full_parser.proofs.ReadLemmas.{not_memory, passed_again, Same, same_start, same_step, same_end, same_none, same_refuses}
@@ -13,11 +13,11 @@ use Rattle.rc_full_parser.proofs.reader.read.Goals as goal
 
 pub loop-rest-init : goal.loop-rest-init
 loop-rest-init c =
-    let s = full_settings_of c.args.config in
+    let s = settings_of c.args.config in
     let x = c.args.config.ignore_whitespace in
     let text = c.args.text.now in
     let t = c.passed-rest.result.now in
-    let e = c.passed-rest.ensures in
+    let e : t ≡ passed x text = c.passed-rest.ensures ∙ ap (λ y. passed y text) c.get_ignore_whitespace.ensures in
     let groups = c.new-reader.ensures.groups in
     let shorter : length t ≤ length text = subst (λ y. length y ≤ length text) (sym e) (passed_shorter x text) in (
       c.new-reader.ensures.settings,
@@ -28,7 +28,7 @@ loop-rest-init c =
 
 pub returns-in-Err-Syntax-clause-reads : goal.returns-in-Err-Syntax-clause-reads
 returns-in-Err-Syntax-clause-reads c =
-    let s = full_settings_of c.args.config in
+    let s = settings_of c.args.config in
     let m = state_of c.loop-rest.reader in
     let t = c.loop-rest.rest.now in
     same_refuses s c.args.text.now m t c.loop-rest.invariant.3
@@ -40,7 +40,7 @@ loop-rest-smaller c =
 
 pub loop-rest-preserved : goal.loop-rest-preserved
 loop-rest-preserved c =
-    let s = full_settings_of c.args.config in
+    let s = settings_of c.args.config in
     let m = state_of c.loop-rest.reader in
     let n = state_of c.step.new.self in
     let t = c.loop-rest.rest.now in
@@ -57,16 +57,16 @@ loop-rest-preserved c =
 
 pub returns-in-Ok-finish-clause-reads : goal.returns-in-Ok-finish-clause-reads
 returns-in-Ok-finish-clause-reads c =
-    let s = full_settings_of c.args.config in
+    let s = settings_of c.args.config in
     let m = state_of c.loop-rest.reader in
     let p = part c.in-Ok-finish.whole in
     same_end s c.args.text.now m c.loop-rest.rest.now p c.loop-rest.invariant.3 (eqb-true (length c.loop-rest.rest.now) 0 (sym c.loop-rest-test.ensures))
-    (subst (λ s. finish s.stated (settled m.work.last m.work.level) m.work.outer ≡ Some p) c.loop-rest.invariant.0 c.in-Ok-finish.ensures)
+    (subst (λ s. finish s (settled m.work.last m.work.level) m.work.outer ≡ Some p) c.loop-rest.invariant.0 c.in-Ok-finish.ensures)
 
 pub returns-clause-reads : goal.returns-clause-reads
 returns-clause-reads c =
-    let s = full_settings_of c.args.config in
+    let s = settings_of c.args.config in
     let m = state_of c.loop-rest.reader in
     same_none s c.args.text.now m c.loop-rest.rest.now c.loop-rest.invariant.3 (eqb-true (length c.loop-rest.rest.now) 0 (sym c.loop-rest-test.ensures))
-    (subst (λ s. finish s.stated (settled m.work.last m.work.level) m.work.outer ≡ None) c.loop-rest.invariant.0
+    (subst (λ s. finish s (settled m.work.last m.work.level) m.work.outer ≡ None) c.loop-rest.invariant.0
     (not_memory c.in-Err-Syntax-finish.field-0 c.in-Err-Syntax-finish.ensures c.in-Err-Syntax-finish.field-0-is))

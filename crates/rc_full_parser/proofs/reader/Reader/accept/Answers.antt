@@ -13,7 +13,7 @@ returns-in_err-put-in-Stands-clause-value c =
     let s = settings_at c.args.self.now in
     let m = state_of c.args.self.now in
     refused c.from_residual-in_err-put-in-Stands.result c.in_err-put-in-Stands.field-0.0 (λ (r : State × Characters). Moves s (mark_of c.args.mark) m c.args.text.now r.0 r.1) _
-    ((n : State) → (q : Subpattern) × IsPiece s.stated c.args.self.now.work.level.flags c.in-Stands.kind q × (appended q m ≡ n) → ⊥)
+    ((n : State) → (q : Subpattern) × IsPiece s c.args.self.now.work.level.flags c.in-Stands.kind q × (appended q m ≡ n) → ⊥)
     c.from_residual-in_err-put-in-Stands.ensures.1 c.in_err-put-in-Stands.ensures.value
     (λ never r moves. let (q, is, same, e) = subst (λ k. Moves s (mark_of k) m c.args.text.now r.0 r.1) c.in-Stands.is moves in never r.0 (q, is, same))
 

@@ -44,9 +44,9 @@ returns-then-is_too_deep-clause-value c =
     let k = mark_of c.in_ok-mark.mark in
     let front = is_front s m text c.in_ok-mark.behind.now k c.requires.front
     (subst (λ x. read_mark x text ≡ Some (k, c.in_ok-mark.behind.now)) c.mark_settings.ensures c.in_ok-mark.ensures) in
-    let deep : nat_lt (depth_limit s.stated) (least_depth n.work) ≡ true =
-    ap (λ x. nat_lt (depth_limit x.stated) (least_depth n.work)) (sym c.in_ok-rest.ensures.settings) ∙ sym c.is_too_deep.ensures ∙ c.if-is_too_deep.true in
-    inr (too_deep s m n text c.in_ok-mark.behind.now c.in_ok-rest.rest.now k front c.in_ok-rest.ensures.value (ltb-true (depth_limit s.stated) (least_depth n.work) deep))
+    let deep : nat_lt (depth_limit s) (least_depth n.work) ≡ true =
+    ap (λ x. nat_lt (depth_limit x) (least_depth n.work)) (sym c.in_ok-rest.ensures.settings) ∙ sym c.is_too_deep.ensures ∙ c.if-is_too_deep.true in
+    inr (too_deep s m n text c.in_ok-mark.behind.now c.in_ok-rest.rest.now k front c.in_ok-rest.ensures.value (ltb-true (depth_limit s) (least_depth n.work) deep))
 
 pub returns-clause-value : goal.returns-clause-value
 returns-clause-value c =
