@@ -1,0 +1,7 @@
+//! Syntax: parses the text of a pattern by the grammar that is set.
+#![tactic(auto)]
+
+pub mod laws;
+mod parser;
+
+pub use parser::parse;
