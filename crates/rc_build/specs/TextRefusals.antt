@@ -6,7 +6,7 @@ use Rattle.rc_pattern.specs.Re.{Re}
 use Rattle.rc_pattern.specs.declared.syntax.Error.{Error}
 use Rattle.rc_pattern.specs.declared.syntax.Error.TheVariants.{Syntax as FaultAt}
 use Rattle.rc_parser.specs.Settings.{Settings}
-use Rattle.rc_parser.specs.Grammar.{Reads}
+use Rattle.rc_syntax.specs.Reads.{Reads}
 use Rattle.rc_build.specs.Refusals.{IsRefusal}
 use Rattle.rc_settings.specs.declared.error.BuildError.{BuildError}
 use Rattle.rc_settings.specs.declared.error.BuildError.TheVariants.{Syntax, IllFormed, SizeLimit, PlaceLimit, Memory, DfaSizeLimit, CacheTooSmall}

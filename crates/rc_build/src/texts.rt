@@ -5,10 +5,11 @@ ghost use Rattle.rc_pattern.specs.Meaning.{meaning};
 ghost use Rattle.rc_parser.specs.Settings.{settings_of};
 ghost use Rattle.rc_build.specs.TextRefusals.{AllRead, IsReadingRefusal, texts_of};
 
-use rc_parser::{Config, parse};
+use rc_parser::Config;
 use rc_pattern::hir::Hir;
 use rc_pattern::syntax;
 use rc_settings::error::BuildError;
+use rc_syntax::parse;
 use rc_text::types::PatternID;
 use std::alloc::Global;
 

@@ -4,4 +4,5 @@
 pub use rc_build::oversize::Oversize;
 pub use rc_build::weighing::explain_size;
 pub use rc_explain::{Explained, Fault, FaultKind, explain};
-pub use rc_parser::{Config, Error, parse};
+pub use rc_parser::{Config, Error, Grammar};
+pub use rc_syntax::parse;
