@@ -1,0 +1,5 @@
+pub mod LinkLemmas
+pub mod ClosureLemmas
+pub mod WayLemmas
+pub mod StepLemmas
+pub mod RunLemmas

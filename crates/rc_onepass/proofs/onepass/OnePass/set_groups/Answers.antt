@@ -1,0 +1,15 @@
+use Rattle.std.proofs.Common.{◌∙◌, arith, subst, sym}
+use Rattle.rc_onepass.specs.Rows.{Names}
+use Rattle.rc_onepass.specs.Walked.{Stands}
+use Rattle.rc_onepass.proofs.RunLemmas.{stands_first, stands_last, walk_end}
+use Rattle.rc_onepass.proofs.onepass.OnePass.set_groups.Goals as goal
+
+pub returns-clause-slots : goal.returns-clause-slots
+returns-clause-slots g c done s c' sound content over =
+    let a = c.start.ensures.value in let b = c.end.ensures.value in let o = c.end.ensures.ordered in
+    stands_last c.args.self.now s c'.walk c.args.slots.now sound c.end.result c.in-Some.place c.cross.new.slots c.set_slots.new.slots c.in-Some-row.row.now
+    c.in-Some-end.number c.in-Some-row.ensures c.in-Some-end.is (b ∙ walk_end s c' c.args.found over)
+    (c.in-Some.ensures.stands s c'.walk c.args.slots.now sound content (b ∙ walk_end s c' c.args.found over)
+    (subst (λ x. Stands s c'.walk c.args.slots.now x 0 c.args.slots.now) (sym a) (stands_first s c' c.args.found c.args.slots.now over))
+    (omega (arith, a, b, o)))
+    (λ ks names. c.set_slots.ensures.marks ks (subst (λ xs. Names xs c.in-Some-end.number ks) (sym c.deref.ensures.value) names))

@@ -1,0 +1,3 @@
+pub mod OnePass
+pub mod Rows
+pub mod Walked
