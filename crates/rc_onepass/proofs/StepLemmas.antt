@@ -51,7 +51,7 @@ module _ (s : Search) where
   abbrev E : Pair → Type 0
   E n = IsTrue (ends s n)
 
-  -- The walk reads a byte: behind an epsilon path from q, at the place m, to the place n. The rest leads on from there.
+  -- The walk reads a byte behind an epsilon path from q. The rest leads on from the next place.
   pub record Reading (ks : List ℕ) (q at b : ℕ) (v : List Pair) (first : List ℕ) : Type 0 where
     pub slots : List ℕ
     pub place : ℕ

@@ -21,13 +21,14 @@ pub record Marks (ks : List ℕ) (at : ℕ) (before after : List (Option ℕ)) :
   pub long : length after ≡ length before
   pub marked : (k : ℕ) → k < length before → slice_index_or after k None ≡ (if has ks k then Some at else slice_index_or before k None)
 
--- The slots are those before, but for the ones that the walk names: these have the position of their last visit.
+-- The slots are those before, but for the ones that the walk names: these have the position of
+-- their last visit.
 abbrev pub HasVisits : Search → List Pair → List (Option ℕ) → List (Option ℕ) → Type 0
 HasVisits s w before after =
     (k : ℕ) → k < length before → slice_index_or after k None ≡ option_or (last_visit s.places k w) (slice_index_or before k None)
 
--- The run has come to the place q at the position: the rest of the walk leads on from there, and the
--- slots have what the walk named so far.
+-- The run has come to the place q at the position: the rest of the walk leads on from there, and
+-- the slots have what the walk named so far.
 pub record Stands (s : Search) (w : List Pair) (before : List (Option ℕ)) (at q : ℕ) (slots : List (Option ℕ)) : Type 0 where
   pub passed : List Pair
   pub rest : List Pair
