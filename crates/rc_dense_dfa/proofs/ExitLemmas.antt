@@ -1,18 +1,17 @@
 -- Bytes over which a run stays in its row.
-use Rattle.std.proofs.Common.{◌≡◌, ℕ, true, zero, suc, ◌+◌, ◌*◌, ◌/◌, ◌<◌, ◌≤◌, false, List, [], ◌∷◌, ◌++◌, length, slice_index_or, inl, inr, sym, subst, ap, ◌∙◌, arith}
+use Rattle.std.proofs.Common.{◌≡◌, ℕ, true, zero, suc, ◌+◌, ◌*◌, ◌<◌, ◌≤◌, false, List, [], ◌∷◌, ◌++◌, length, slice_index_or, inl, inr, sym, subst, ap, ◌∙◌, arith}
 use Rattle.std.proofs.lemmas.Bool.{cases_lt}
 use Rattle.std.proofs.lemmas.List.{get_or_append_left, get_or_past, length_push}
 use Rattle.std.proofs.Math.Seq.{get_or-append_seam}
 use Rattle.rc_dense_dfa.specs.Cells.{met, dead, row_of, IsMarkedAs, AreMarked}
 use Rattle.rc_dense_dfa.specs.Exits.{AreExitsOf, Stays, is_exit}
 use Rattle.rc_dense_dfa.specs.Tables.{cell_at, class_at}
-use Rattle.rc_dense_dfa.specs.Searches.{InRow, Request, Stands}
+use Rattle.rc_dense_dfa.specs.Searches.{InRow}
 use Rattle.rc_dense_dfa.specs.declared.exits.Exits.{Exits}
 use Rattle.rc_dense_dfa.specs.declared.exits.Exits.TheVariants.{Many}
 use Rattle.rc_dense_dfa.specs.declared.table.Table.{Table}
 use Rattle.rc_table_search.specs.Walks.{Reaches, Walk, begun, byte_at, cell_of, left_of, leapt, next_of}
-use Rattle.rc_dense_dfa.proofs.MarkLemmas.{here_is, row_number, row_within}
-use Rattle.rc_dense_dfa.proofs.SearchLemmas.{IsWalk, over}
+use Rattle.rc_dense_dfa.proofs.MarkLemmas.{here_is}
 
 -- EXITS OF ROWS
 
@@ -66,15 +65,7 @@ module _ (d : Table) (w : Walk) (forwards : w.backwards ≡ false) (leaps : w.le
       (leapt n w.first w.first (stay n (omega (arith, le)) (λ k lt. h k (omega (arith, lt)))) (record { within = omega (arith, le); some = some }) leaps
       (subst (λ c. c < met) (sym is) s.0) (sym (ap row_of is ∙ s.1)))
 
--- all bytes before the first exit
-pub passed : (d : Table) (q : Request) (w : Walk) → IsWalk d q w → w.backwards ≡ false → w.leaps ≡ true → w.from ≡ 0 →
-    Stands d q (w.start + w.from) (record { row = w.first; noted = w.before }) → (e : Exits) (n : ℕ) →
-    AreExitsOf met d.classes.items d.cells.items (w.first / d.width * d.width) e → n ≤ length w.piece →
-    ((k : ℕ) → k < n → is_exit e (slice_index_or w.piece k 0) ≡ false) → Stands d q (w.start + n) (record { row = w.first; noted = w.before })
-passed d q w k forwards leaps begins x e n are le none m states terminator ok asked =
-    let y = x m states terminator ok asked in
-    let named = y.named in
-    let at : w.first / d.width * d.width ≡ w.first = ap (λ k. k * d.width) (row_number d w.first named.0 named.2) ∙ sym named.2 in
-    over d q w k m states terminator ok asked y n w.first w.before
-    (stay d w forwards leaps k.cells k.classes (row_within m states d w.first y.state ok named) begins k.bytes n le
-    (λ i lt. subst (λ r. Stays met d.classes.items d.cells.items r (slice_index_or w.piece i 0)) at (are _ (k.bytes i) (none i lt))))
+  -- all bytes before the first exit
+  pub passed : (e : Exits) (n : ℕ) → AreExitsOf met d.classes.items d.cells.items w.first e → n ≤ length w.piece →
+      ((k : ℕ) → k < n → is_exit e (slice_index_or w.piece k 0) ≡ false) → Reaches w n w.first w.before
+  passed e n are le none = stay n le (λ i lt. are _ (bytes i) (none i lt))

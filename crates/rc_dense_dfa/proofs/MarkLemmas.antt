@@ -1,14 +1,14 @@
 -- What the marks of a cell say.
-use Rattle.std.proofs.Common.{◌≡◌, ◌≢◌, ℕ, ◌+◌, ◌-◌, ◌*◌, ◌/◌, ◌<◌, ◌≤◌, Bool, true, false, is_some, nat_le, if◌then◌else◌, List, length, Option, Some, None, slice_index_or, sym, ap, subst, ◌∙◌, refl, arith, add-one, slice_get}
+use Rattle.std.proofs.Common.{◌≡◌, ◌≢◌, ℕ, ◌+◌, ◌-◌, ◌*◌, ◌/◌, ◌<◌, ◌≤◌, Bool, true, false, is_some, nat_le, if◌then◌else◌, List, length, Some, None, slice_index_or, sym, ap, subst, ◌∙◌, arith}
 use Rattle.std.proofs.Math.Nat.{mul-le-mul_right, mul-div_cancel}
-use Rattle.std.proofs.lemmas.Bool.{le-leb, lt-leb}
 use Rattle.std.proofs.lemmas.Bool.Decides.{nat_tests}
 use Rattle.std.proofs.lemmas.Option.{slice_get_within, slice_get-get_or, get_or_from_slice_get}
-use Rattle.rc_determinize.specs.States.{State, best_at}
-use Rattle.rc_dfa.specs.Machine.{Machine, is_dead, is_idle}
+use Rattle.rc_determinize.specs.States.{State}
+use Rattle.rc_dfa.specs.Machine.{Machine, Leads, is_dead, is_idle}
+use Rattle.rc_table_search.specs.Walks.{has_died}
 use Rattle.rc_dense_dfa.specs.Cells.{met, dead, skip, quit, row_of, IsNamed}
 use Rattle.rc_dense_dfa.specs.Tables.{IsRow, Names, marks, code_of, cell_at, class_at, IsTable}
-use Rattle.rc_dense_dfa.specs.Searches.{InRow, has_died, noted_by, met_by, told, IsNoted}
+use Rattle.rc_dense_dfa.specs.Searches.{InRow}
 use Rattle.rc_dense_dfa.specs.declared.table.Table.{Table}
 
 -- A CELL'S NUMBER
@@ -17,23 +17,13 @@ use Rattle.rc_dense_dfa.specs.declared.table.Table.{Table}
 pub plain_row : (cell : ℕ) → cell < skip → row_of cell ≡ cell
 plain_row cell h = omega (arith, h)
 
-pub plain_note : (cell i : ℕ) (noted : Option (ℕ × ℕ)) → cell < skip → noted_by cell i noted ≡ noted
-plain_note cell i noted h = rw (lt-leb met cell (omega arith)) refl
-
 -- with the mark `SKIP` alone
 pub skip_row : (cell : ℕ) → skip ≤ cell → cell < dead → row_of cell ≡ cell - skip
 skip_row cell h k = omega (arith, h, k)
 
-pub skip_note : (cell i : ℕ) (noted : Option (ℕ × ℕ)) → cell < dead → noted_by cell i noted ≡ noted
-skip_note cell i noted h = rw (lt-leb met cell (omega (arith, h))) refl
-
 -- with the mark of something met alone
 pub met_row : (cell : ℕ) → met ≤ cell → cell - met < skip → row_of cell ≡ cell - met
 met_row cell h k = omega (arith, h, k)
-
-pub met_note : (cell i : ℕ) (noted : Option (ℕ × ℕ)) → met ≤ cell → cell - met < skip → noted_by cell i noted ≡ Some (cell - met, i)
-met_note cell i noted h k =
-    ap (λ b. if b then Some (row_of cell, i) else noted) (le-leb met cell h) ∙ ap (λ r. Some (r, i)) (met_row cell h k)
 
 -- the row that is named lies within the cells
 pub named_row : (width len cell : ℕ) → IsNamed width len cell → cell ≢ quit → row_of cell + width ≤ len
@@ -152,21 +142,7 @@ module _ (m : Machine) (states : List State) (d : Table) (cell : ℕ) (s : State
   pub is_read : cell ≢ quit
   is_read = name_read (n.0 + hint) cell (is_some s.matched) (is_dead s) named
 
--- WHAT IS NOTED
-
-noted_on : (states : List State) (d : Table) (cell i : ℕ) (s : State) (matched : Option ℕ) (noted found : Option (ℕ × ℕ)) → s.matched ≡ matched →
-    nat_le met cell ≡ is_some matched → IsRow d states (row_of cell) s → IsNoted d states noted found →
-    IsNoted d states (noted_by cell i noted) (best_at i matched found)
-noted_on states d cell i s None noted found e t r h =
-    subst (λ b. IsNoted d states (if b then Some (row_of cell, i) else noted) found) (sym t) h
-noted_on states d cell i s (Some k) noted found e t r h =
-    subst (λ b. IsNoted d states (if b then Some (row_of cell, i) else noted) (Some (k, i))) (sym t) (s, k, r, e, refl)
-
--- after the cell
-pub noted_more : (m : Machine) (states : List State) (d : Table) (cell i : ℕ) (s : State) (noted found : Option (ℕ × ℕ)) → IsTable m states d →
-    Names d states cell s → IsNoted d states noted found → IsNoted d states (noted_by cell i noted) (best_at i s.matched found)
-noted_more m states d cell i s noted found ok n h =
-    noted_on states d cell i s s.matched noted found refl (was_met m states d cell s ok n) (named_state m states d cell s ok n) h
+-- THE STATE OF A ROW
 
 pub row_number : (d : Table) (row id : ℕ) → row ≡ id * d.width → row / d.width ≡ id
 row_number d row id e = let w = wide d in rw e (mul-div_cancel id w)
@@ -178,25 +154,19 @@ idle_row m states d row s ok r e =
     sym (get_or_from_slice_get d.idles.items r.0 (is_idle s) false (ok.idles r.0 s r.1))
     ∙ ap (λ n. slice_index_or d.idles.items n false) (sym (row_number d row r.0 r.2)) ∙ e
 
--- the table tells it
-pub told_is : (m : Machine) (states : List State) (d : Table) (noted found : Option (ℕ × ℕ)) → IsTable m states d → IsNoted d states noted found →
-    told d noted ≡ found
-told_is m states d None found ok h = sym h
-told_is m states d (Some n) found ok h =
-    let r = h.2 in
-    let here = row_number d n.0 r.0 r.2 in
-    let code = get_or_from_slice_get d.tells.items r.0 (code_of h.0.matched) 0 (ok.tells r.0 h.0 r.1) in
-    rw (here, code, h.3, add-one) (sym h.4)
+-- what was found before it
+pub tells_it : (m : Machine) (states : List State) (d : Table) (row : ℕ) (s : State) (k : ℕ) → IsTable m states d → IsRow d states row s → s.matched ≡ Some k →
+    slice_index_or d.tells.items (row / d.width) 0 ≡ k + 1
+tells_it m states d row s k ok r e =
+    ap (λ n. slice_index_or d.tells.items n 0) (row_number d row r.0 r.2)
+    ∙ get_or_from_slice_get d.tells.items r.0 (code_of s.matched) 0 (ok.tells r.0 s r.1) ∙ ap code_of e
 
-met_as_best : (at : ℕ) (matched : Option ℕ) (found : Option (ℕ × ℕ)) → met_by (code_of matched) at found ≡ best_at at matched found
-met_as_best at None found = refl
-met_as_best at (Some k) found = rw add-one refl
-
--- what is met at the end
-pub met_at_end : (m : Machine) (states : List State) (d : Table) (row id at : ℕ) (matched : Option ℕ) (noted found : Option (ℕ × ℕ)) → IsTable m states d →
-    row ≡ id * d.width → IsNoted d states noted found → slice_get d.ends.items id ≡ Some (code_of matched) →
-    met_by (slice_index_or d.ends.items (row / d.width) 0) at (told d noted) ≡ best_at at matched found
-met_at_end m states d row id at matched noted found ok e h is =
-    ap (λ n. met_by (slice_index_or d.ends.items n 0) at (told d noted)) (row_number d row id e)
-    ∙ ap (λ c. met_by c at (told d noted)) (get_or_from_slice_get d.ends.items id (code_of matched) 0 is)
-    ∙ ap (met_by (code_of matched) at) (told_is m states d noted found ok h) ∙ met_as_best at matched found
+-- what is found at the end
+pub ends_so : (m : Machine) (states : List State) (d : Table) (row : ℕ) (s : State) → IsTable m states d → IsRow d states row s →
+    (t : State) × Leads m s None t × (slice_index_or d.ends.items (row / d.width) 0 ≡ code_of t.matched)
+ends_so m states d row s ok r =
+    let e = ok.ends r.0 s r.1 in (
+      e.0,
+      e.1,
+      ap (λ n. slice_index_or d.ends.items n 0) (row_number d row r.0 r.2) ∙ get_or_from_slice_get d.ends.items r.0 (code_of e.0.matched) 0 e.2,
+    )

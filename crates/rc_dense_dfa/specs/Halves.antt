@@ -1,20 +1,15 @@
 -- DFA: two tables as the halves of a search.
-use Rattle.std.specs.Prelude.{◌≡◌, ℕ, ◌+◌, ◌*◌, Bool, true, false, List, length, Option, slice_index_or}
+use Rattle.std.specs.Prelude.{◌≡◌, ℕ, ◌+◌, ◌*◌, List, length, Option, slice_index_or}
 use Rattle.rc_program.specs.Program.{place_at}
 use Rattle.rc_program.specs.Answer.{pattern_at}
-use Rattle.rc_program.specs.Text.{Text}
 use Rattle.rc_determinize.specs.States.{State}
 use Rattle.rc_dfa.specs.declared.automaton.Automaton.{Automaton}
 use Rattle.rc_dfa.specs.declared.automaton.Direction.TheVariants.{Forwards, Backwards}
-use Rattle.rc_dfa.specs.declared.ended.Ended as halves
 use Rattle.rc_dfa.specs.Machine.{Machine}
 use Rattle.rc_dfa.specs.Automata.{machine_of, samples_of}
-use Rattle.rc_table_search.specs.Ways.{Course, EndsBy, HasEndedBy}
 use Rattle.rc_dense_dfa.specs.Tables.{IsTable}
 use Rattle.rc_dense_dfa.specs.Makes.{IsMade}
-use Rattle.rc_dense_dfa.specs.Searches.{MayEnd, run_end}
 use Rattle.rc_dense_dfa.specs.declared.table.Table.{Table}
-use Rattle.rc_dense_dfa.specs.declared.run.Outcome.{Outcome}
 use Rattle.rc_dense_dfa.specs.declared.dense.Dense.{Dense}
 
 -- For each place of the program, the pattern whose match place it is; 0 if it is none.
@@ -35,11 +30,6 @@ pub record AreTablesOf (a : Automaton) (limit : Option ℕ) (d : Dense) : Type 0
   pub forward : IsMade (machine_of a Forwards) (length (samples_of a)) limit d.forward
   pub reverse : IsMade (machine_of a Backwards) (length (samples_of a)) limit d.reverse
   pub patterns : ArePatterns (machine_of a Forwards) d.patterns.items
-
--- If the search by a table ended so, the halves return this.
-pub record Says (backwards : Bool) (patterns : List ℕ) (ended : Outcome) (said : halves.Ended) : Type 0 where
-  pub says : (m : Machine) (t : Text) (c : Course) (may_rest : Bool) → (backwards ≡ false → ArePatterns m patterns) → MayEnd t.content may_rest ended → (may_rest ≡ true → backwards ≡ false) →
-      (r : ℕ) → EndsBy backwards m t c r (run_end ended) → HasEndedBy backwards m t c may_rest r said
 
 -- How many bytes the parts of a table take.
 abbrev pub bytes_of : Table → ℕ

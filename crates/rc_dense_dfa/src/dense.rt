@@ -1,21 +1,19 @@
 //! DFA: a table for each direction, and the searches by them.
-ghost use Rattle.std.specs.Prelude.{◌≡◌, ◌⊎◌, ◌+◌, ◌*◌, ℕ, None, min, length, IfOk, IfErr};
+ghost use Rattle.std.specs.Prelude.{◌≡◌, ◌⊎◌, ◌+◌, ◌*◌, ℕ, min, length, IfOk, IfErr};
 ghost use Rattle.rc_dfa.specs.declared.automaton.Direction.TheVariants.{Forwards, Backwards};
 ghost use Rattle.rc_dfa.specs.Automata.{machine_of, samples_of};
-ghost use Rattle.rc_dfa.specs.Ended.{gave_up};
 ghost use Rattle.rc_dense_dfa.specs.Makes.{IsRefused};
-ghost use Rattle.rc_dense_dfa.specs.Halves.{ArePatterns, AreHalves, AreTablesOf, Says, bytes_of};
+ghost use Rattle.rc_dense_dfa.specs.Halves.{ArePatterns, AreHalves, AreTablesOf, bytes_of};
 
 use crate::build::table_of;
 use crate::error::TableError;
-use crate::run;
-use crate::search::run_on;
 use crate::table::Table;
 use rc_dfa::automaton::{Automaton, Direction};
-use rc_dfa::ended::{Ended, Met, Reading};
+use rc_dfa::ended::{Ended, Reading};
 use rc_dfa::halves::Halves;
 use rc_table_search::run::Extent;
-use rc_table_search::way::{self, Way};
+use rc_table_search::search::{Request, search};
+use rc_table_search::way;
 use rc_text::cursor::Cursor;
 use rc_text::input::{Input, high};
 use rc_text::types::Anchored;
@@ -28,10 +26,10 @@ pub struct NoCache;
 /// A DFA: a table of all states that searches by an automaton can reach, for each direction.
 #[derive(Drop)]
 pub struct Dense {
-    forward: Table,
-    reverse: Table,
+    pub(crate) forward: Table,
+    pub(crate) reverse: Table,
     /// For each place of the byte program, the pattern whose match place it is; 0 if it is none.
-    patterns: Vec<usize>,
+    pub(crate) patterns: Vec<usize>,
 }
 
 /// Returns the pattern of each place. `Err` means out of memory.
@@ -44,30 +42,6 @@ fn patterns_of(alloc: Global, automaton: &Automaton) -> Result<Vec<usize>, Alloc
         patterns.push(automaton.pattern_at(place))?;
     }
     Ok(patterns)
-}
-
-/// Returns how a search ended, forwards with the pattern instead of its match place.
-#[inline(always)]
-fn said<W: Way>(patterns: &[usize], ended: run::Outcome) -> Ended
-    ensures says { Says W.BACKWARDS patterns.now ended result }
-    ensures done { gave_up result ≡ None }
-{
-    match ended {
-        run::Outcome::Met(None) => Ended::Found(None),
-        run::Outcome::Met(Some((code, at))) => {
-            let pattern = if W::BACKWARDS {
-                code
-            } else {
-                match patterns.get(code) {
-                    Some(pattern) => *pattern,
-                    None => 0,
-                }
-            };
-            Ended::Found(Some(Met { pattern, at }))
-        }
-        run::Outcome::Idle(at) => Ended::Idle(at),
-        run::Outcome::Quit(byte, at) => Ended::Quit(byte, at),
-    }
 }
 
 /// Returns how many bytes the table takes.
@@ -138,7 +112,7 @@ impl Halves for Dense {
     #[inline(always)]
     fn run_forwards<C: Cursor>(
         &self,
-        _cache: &mut NoCache,
+        cache: &mut NoCache,
         input: &mut Input<C>,
         anchored: Anchored,
         from: usize,
@@ -146,36 +120,40 @@ impl Halves for Dense {
         may_rest: bool,
         rest_from: usize,
     ) -> Reading {
-        let extent = Extent {
-            earliest,
-            may_rest,
-            rest_from,
+        let request = Request {
+            anchored,
+            from,
+            end: high(input),
+            extent: Extent {
+                earliest,
+                may_rest,
+                rest_from,
+            },
         };
-        let end = high(input);
-        let run = run_on::<way::Forwards, C>(&self.forward, input, anchored, from, end, extent);
-        Reading {
-            ended: said::<way::Forwards>(&self.patterns, run.outcome),
-            read: run.read,
-        }
+        search::<way::Forwards, Dense, C>(self, cache, input, &request)
     }
 
     #[inline(always)]
     fn run_backwards<C: Cursor>(
         &self,
-        _cache: &mut NoCache,
+        cache: &mut NoCache,
         input: &mut Input<C>,
         anchored: Anchored,
         from: usize,
         end: usize,
         earliest: bool,
     ) -> Ended {
-        let extent = Extent {
-            earliest,
-            may_rest: false,
-            rest_from: 0,
+        let request = Request {
+            anchored,
+            from: end,
+            end: from,
+            extent: Extent {
+                earliest,
+                may_rest: false,
+                rest_from: 0,
+            },
         };
-        let run = run_on::<way::Backwards, C>(&self.reverse, input, anchored, end, from, extent);
-        said::<way::Backwards>(&self.patterns, run.outcome)
+        search::<way::Backwards, Dense, C>(self, cache, input, &request).ended
     }
 
     ghost spends_nothing = { λ h a n. tt };

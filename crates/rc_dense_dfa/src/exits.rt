@@ -4,10 +4,9 @@ ghost use Rattle.rc_dense_dfa.specs.Cells.{dead, met, skip};
 ghost use Rattle.rc_dense_dfa.specs.Exits.{AreExitsOf, Stays, is_exit};
 ghost use Rattle.rc_dense_dfa.specs.declared.exits.Exits.TheVariants as few;
 
-use crate::look::row_of;
-use crate::table::DEAD;
 use memchr::{memchr, memchr2, memchr3};
 use rc_dfa::automaton::Direction;
+use rc_table_search::cells::{DEAD, row_of};
 use rc_text::frequency::is_common;
 use std::alloc::{AllocError, Global};
 

@@ -5,8 +5,7 @@ ghost use Rattle.rc_dense_dfa.specs.Cells.{dead, met, row_of, skip};
 ghost use Rattle.rc_dense_dfa.specs.Exits.{AllStay, AreLeaps, AreStays, StaysAmong, cell_by};
 
 use crate::exits::{Exits, are_few};
-use crate::look::row_of;
-use crate::table::{DEAD, QUIT};
+use rc_table_search::cells::{DEAD, QUIT, row_of};
 use rc_text::frequency::{MOST_COMMON, per_thousand};
 use std::alloc::{AllocError, Global};
 

@@ -21,7 +21,6 @@ mod maker;
 mod marks;
 mod names;
 mod rows;
-pub mod run;
-pub mod search;
+mod search;
 mod start;
 pub mod table;

@@ -1,30 +1,14 @@
 //! Transitions: what the cells of a table say.
-ghost use Rattle.std.specs.Prelude.{◌≡◌, ◌+◌, ◌/◌, ◌<◌, ◌≤◌, ◌^◌, ◌⊎◌, IfSome, false, length, slice_index_or};
-ghost use Rattle.rc_dense_dfa.specs.Cells.{IsNamed, met, row_of};
+ghost use Rattle.std.specs.Prelude.{◌≡◌, ◌+◌, ◌/◌, ◌<◌, ◌≤◌, ◌^◌, ◌⊎◌, ℕ, Option, IfSome, false, length, slice_index_or};
+ghost use Rattle.rc_dense_dfa.specs.Cells.{IsNamed, met};
 ghost use Rattle.rc_dense_dfa.specs.Exits.{AreStays};
-ghost use Rattle.rc_dense_dfa.specs.Tables.{cell_at, class_at};
+ghost use Rattle.rc_dense_dfa.specs.Tables.{cell_at, class_at, code_of};
 ghost use Rattle.rc_dense_dfa.specs.declared.exits.Exits.TheVariants.{Many};
-ghost use Rattle.rc_dense_dfa.specs.Searches.{InRow, has_died, met_by, noted_by, told};
+ghost use Rattle.rc_dense_dfa.specs.Searches.{InRow};
 
 use crate::exits::Exits;
 use crate::leaps::Leap;
-use crate::table::{DEAD, MET, SKIP, Table};
-
-/// Returns the row to which a cell leads, without its marks.
-#[inline(always)]
-pub(crate) fn row_of(cell: usize) -> usize
-    ensures { result ≡ row_of cell }
-{
-    cell % SKIP
-}
-
-/// Whether the row to which a cell leads is dead.
-#[inline(always)]
-pub(crate) fn has_died(cell: usize) -> bool
-    ensures { result ≡ has_died cell }
-{
-    cell % MET >= DEAD
-}
+use crate::table::Table;
 
 /// Returns the cell of a row and a byte.
 #[inline(always)]
@@ -34,22 +18,6 @@ pub(crate) fn cell_of(table: &Table, row: usize, byte: u8) -> usize
     ensures named { IsNamed table.now.width (length table.now.cells.items) result }
 {
     table.cells[row + table.classes[byte as usize] as usize]
-}
-
-/// Returns the note of a run after a cell: its row and the position if the cell has `MET`, else the
-/// earlier note.
-#[inline(always)]
-pub(crate) fn noted_by(
-    cell: usize,
-    at: usize,
-    noted: Option<(usize, usize)>,
-) -> Option<(usize, usize)>
-    ensures { result ≡ noted_by cell at noted }
-{
-    if cell >= MET {
-        return Some((row_of(cell), at));
-    }
-    noted
 }
 
 /// Whether the only walks in the state of the row are those that begin there or later.
@@ -101,47 +69,16 @@ fn code_of(codes: &[usize], row: usize, width: usize) -> usize
     }
 }
 
-/// Decodes what was found, with the position. Returns the other if the code is 0.
+/// Returns what was found, by the code of the row in a list of codes.
 #[inline(always)]
-pub(crate) fn met_by(
-    code: usize,
-    at: usize,
-    other: Option<(usize, usize)>,
-) -> Option<(usize, usize)>
-    ensures { result ≡ met_by code at other }
+pub(crate) fn find_in(codes: &[usize], row: usize, width: usize) -> Option<usize>
+    requires { 0 < width }
+    ensures { (found : Option ℕ) → slice_index_or codes.now (row / width) 0 ≡ code_of found
+        → result ≡ found }
 {
+    let code = code_of(codes, row, width);
     if code > 0 {
-        return Some((code - 1, at));
+        return Some(code - 1);
     }
-    other
-}
-
-/// Returns what was found last, with its position, by a run's note.
-#[inline(always)]
-pub(crate) fn told(table: &Table, noted: Option<(usize, usize)>) -> Option<(usize, usize)>
-    ensures { result ≡ told table.now noted }
-{
-    match noted {
-        Some((row, at)) => met_by(code_of(table.tells.as_slice(), row, table.width), at, None),
-        None => None,
-    }
-}
-
-/// Returns what is found at the end of what the search sees, from this row, or else what was found
-/// last.
-#[inline(always)]
-pub(crate) fn met_at_end(
-    table: &Table,
-    row: usize,
-    at: usize,
-    noted: Option<(usize, usize)>,
-) -> Option<(usize, usize)>
-    ensures { result ≡ met_by (slice_index_or table.now.ends.items (row / table.now.width) 0) at
-        (told table.now noted) }
-{
-    met_by(
-        code_of(table.ends.as_slice(), row, table.width),
-        at,
-        told(table, noted),
-    )
+    None
 }

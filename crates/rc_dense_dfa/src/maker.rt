@@ -11,10 +11,10 @@ ghost use Rattle.rc_dense_dfa.specs.Rows.{IsMaker, Grows, IsCell, AreRows, AreSt
 
 use crate::error::TableError;
 use crate::names::Names;
-use crate::table::QUIT;
 use rc_determinize::scratch::Scratch;
 use rc_determinize::state::State;
 use rc_dfa::automaton::{Automaton, Direction};
+use rc_table_search::cells::QUIT;
 use rc_text::types::Anchored;
 use std::alloc::AllocError;
 

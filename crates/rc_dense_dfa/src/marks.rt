@@ -3,8 +3,7 @@
 ghost use Rattle.std.specs.Prelude.{◌<◌};
 ghost use Rattle.rc_dense_dfa.specs.Cells.{AreMarked, IsMarkedAs};
 
-use crate::look::row_of;
-use crate::table::{QUIT, SKIP};
+use rc_table_search::cells::{QUIT, SKIP, row_of};
 
 /// Returns the cell, with the mark `SKIP` if its row has the hint.
 fn marked(cell: usize, width: usize, hints: &[bool]) -> usize

@@ -8,10 +8,10 @@ ghost use Rattle.rc_dense_dfa.specs.Makes.{IsRefused, weight_by};
 ghost use Rattle.rc_dense_dfa.specs.Rows.{AreNamed, Grows, NamesBy};
 
 use crate::error::TableError;
-use crate::table::{DEAD, MET, SKIP};
 use rc_determinize::sides::Seen;
 use rc_determinize::state::State;
 use rc_dfa::states::States;
+use rc_table_search::cells::{DEAD, MET, SKIP};
 use std::alloc::{AllocError, Global};
 
 /// The states of a table that is being built. Each has a row, and rows come one after another.

@@ -1,7 +1,8 @@
 //! Rows: the cells of a table, as runs read them, and leaps over bytes.
 use crate::leaps::{first_leaving, leap_end};
-use crate::look::{cell_of, leap_at, row_of};
+use crate::look::{cell_of, leap_at};
 use crate::table::Table;
+use rc_table_search::cells::row_of;
 use rc_table_search::rows::Rows;
 
 impl Rows for Table {

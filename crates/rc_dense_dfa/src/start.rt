@@ -3,7 +3,8 @@ ghost use Rattle.std.specs.Prelude.{◌≡◌, ◌+◌, ◌*◌, ◌<◌, ◌≤
 ghost use Rattle.rc_dense_dfa.specs.Cells.{IsNamed};
 ghost use Rattle.rc_dense_dfa.specs.Tables.{column, mode_of, start_at};
 
-use crate::table::{QUIT, Table};
+use crate::table::Table;
+use rc_table_search::cells::QUIT;
 use rc_text::types::Anchored;
 
 /// Returns the number of a kind of anchoring.

@@ -9,7 +9,8 @@ use crate::leaps::Leap;
 
 /// A table of states, in one direction. Each state has a row of cells, one for each byte class. A
 /// row is named by the index of its first cell. A cell is the name of the row to which a byte
-/// leads. If that row needs a look, `MET`, `DEAD` or `SKIP`, or more of them, are added to it.
+/// leads. If that row needs a look, `MET`, `DEAD` or `SKIP`, or more of them, are added to it. At a
+/// row with `SKIP`, a search may have more to do than to read on; one that ignores it is only slower.
 #[derive(Drop)]
 pub struct Table {
     /// The class of each byte.
@@ -48,16 +49,3 @@ pub struct Table {
     ghost leaped: { AreLeaps met classes.items cells.items leaps.items },
     ghost small: { length cells.items < skip },
 }
-
-/// Added to the name of a row if something was found on the way to it.
-pub const MET: usize = 1 << 63;
-
-/// Added to the name of a dead row.
-pub const DEAD: usize = 1 << 62;
-
-/// Added to the name of a row at which a search may have more to do than to read on. It is a hint:
-/// a search that ignores it is only slower.
-pub const SKIP: usize = 1 << 61;
-
-/// The cell of a byte that isn't read, instead of a row.
-pub const QUIT: usize = usize::MAX;

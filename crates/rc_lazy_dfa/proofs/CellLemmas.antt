@@ -31,14 +31,14 @@ pub leads_to : (f : Frame) (states : List State) (beside : Option ℕ) (To : Sta
 leads_to f states beside To cell (inl h) ne = absurd (ne h.0)
 leads_to f states beside To cell (inr h) ne = h
 
+pub none_met : (f : Frame) (s : Store) (h : Held f s) (cell : ℕ) (t : State) → Names f.width s.states cell t → cell < met → t.matched ≡ None
+none_met f s h cell t n lt = none_of t.matched (sym (met_or_not f s h cell t n) ∙ lt-leb met cell lt)
+
 pub plain : (f : Frame) (s : Store) (h : Held f s) (cell : ℕ) (t : State) → Names f.width s.states cell t → cell < unknown →
     IsRow f.width s.states cell t × (t.matched ≡ None)
 plain f s h cell t n lt =
     let row : row_of cell ≡ cell = omega (arith, lt) in
-    let short : cell < met = omega (arith, lt) in (
-      subst (λ r. IsRow f.width s.states r t) row (named_row f s h cell t n (λ e. omega (arith, e, lt))),
-      none_of t.matched (sym (met_or_not f s h cell t n) ∙ lt-leb met cell short),
-    )
+    (subst (λ r. IsRow f.width s.states r t) row (named_row f s h cell t n (λ e. omega (arith, e, lt))), none_met f s h cell t n (omega (arith, lt)))
 
 pub marked : (f : Frame) (s : Store) (h : Held f s) (cell : ℕ) (t : State) → Names f.width s.states cell t → met ≤ cell → cell - met < unknown →
     IsRow f.width s.states (cell - met) t × ((k : ℕ) × (t.matched ≡ Some k))

@@ -2,7 +2,6 @@ pub mod RowLemmas
 pub mod WriteLemmas
 pub mod NameLemmas
 pub mod StepLemmas
-pub mod SpendLemmas
 pub mod CellLemmas
 pub mod TableLemmas
 pub mod SearchLemmas

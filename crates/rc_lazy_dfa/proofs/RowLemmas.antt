@@ -23,6 +23,9 @@ same_row n r q c d lt lt2 e =
 pub same_column : (n r q c d : ℕ) → r ≡ q → r * n + c ≡ q * n + d → c ≡ d
 same_column n r q c d rows e = let p = ap (λ k. k * n) rows in omega (arith, e, p)
 
+pub wide : (f : Frame) (s : Store) → Held f s → 0 < s.width
+wide f s h = let w = h.frame.wide in let e = h.width in omega (arith, w, e)
+
 -- all rows stay below the numbers with a meaning of their own
 pub few_rows : (f : Frame) (s : Store) → Held f s → (length s.states + 3) * f.width < unknown
 few_rows f s h =

@@ -6,6 +6,5 @@ pub mod Courses
 pub mod SpendLaws
 pub mod Caches
 pub mod CacheLaws
-pub mod Errors
 pub mod Rows
 pub mod Overlaps

@@ -4,7 +4,9 @@ use Rattle.std.proofs.Common.{◌≡◌, ℕ, ◌+◌, ◌*◌, ◌≤◌, Bool,
 use Rattle.std.proofs.Math.Nat.{mul-le-mul_right, add-mul}
 use Rattle.std.proofs.lemmas.Bool.{cases_lt}
 use Rattle.rc_lazy_dfa.specs.Stores.{Counts, Frame, IsShort, Spends, minimum_of}
-use Rattle.rc_lazy_dfa.specs.Courses.{MayGiveUp}
+use Rattle.rc_table_search.specs.Views.{IsLawful}
+use Rattle.rc_lazy_dfa.specs.Courses.{MayGiveUp, frame_in, view_of}
+use Rattle.rc_lazy_dfa.specs.declared.lazy.Lazy.{Lazy}
 use Rattle.rc_lazy_dfa.specs.declared.store.Store.{Store}
 
 counts_nothing : (a : Store) (n : ℕ) → Counts a a n
@@ -89,3 +91,12 @@ may_later f a b c n k false s h = (h.0, short_after f a b n k s h.1)
 pub may_within : (f : Frame) (a b : Store) (n k : ℕ) (memory : Bool) → n ≤ k → MayGiveUp f a b n memory → MayGiveUp f a b k memory
 may_within f a b n k true le h = tt
 may_within f a b n k false le h = (h.0, short_within f a n k le h.1)
+
+-- what a direction spends
+pub lawful : (l : Lazy) (backwards : Bool) → IsLawful (view_of l backwards)
+lawful l backwards = record {
+  spends_both = λ a b c. spends_both (frame_in l backwards) a.store b.store c.store;
+  spends_within = λ a b. spends_within (frame_in l backwards) a.store b.store;
+  gives_up_later = λ a b c. may_later (frame_in l backwards) a.store b.store c.store;
+  gives_up_within = λ a b. may_within (frame_in l backwards) a.store b.store;
+}

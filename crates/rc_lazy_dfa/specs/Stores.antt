@@ -11,8 +11,8 @@ use Rattle.rc_dfa.specs.Laws.{IsWithin}
 use Rattle.rc_dfa.specs.Runs.{MayRead}
 use Rattle.rc_lazy_dfa.specs.Cells.{unknown, dead, quit, marks}
 use Rattle.rc_lazy_dfa.specs.declared.store.Store.{Store}
-use Rattle.rc_lazy_dfa.specs.declared.error.Refusal.{Refusal}
-use Rattle.rc_lazy_dfa.specs.declared.error.Refusal.TheVariants.{Memory, Short}
+use Rattle.rc_table_search.specs.declared.refusal.Refusal.{Refusal}
+use Rattle.rc_table_search.specs.declared.refusal.Refusal.TheVariants.{Memory, Short}
 
 -- The frame of the rows: a machine, the class of each byte, and how many cells a row has, one for
 -- each class and one for the end.

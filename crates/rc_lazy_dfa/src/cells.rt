@@ -3,43 +3,17 @@
 //! look.
 ghost use Rattle.std.specs.Prelude.{◌≡◌, ◌≤◌, ◌<◌, length};
 ghost use Rattle.rc_determinize.specs.Places.{state_of};
-ghost use Rattle.rc_lazy_dfa.specs.Cells.{row_of, has_died, marks, column_of};
-ghost use Rattle.rc_lazy_dfa.specs.Stores.{mode_of};
+ghost use Rattle.rc_determinize.specs.States as states;
+ghost use Rattle.rc_lazy_dfa.specs.Cells.{marks, column_of};
+ghost use Rattle.rc_lazy_dfa.specs.Stores.{Frame, Held, Names, mode_of};
 
+use crate::store::Store;
 use rc_determinize::state::State;
+use rc_table_search::cells::{DEAD, MET, row_of};
 use rc_text::types::Anchored;
 
 /// The cell of a byte whose next state isn't known yet.
 pub(crate) const UNKNOWN: usize = 1 << 61;
-
-/// The mark of a dead state. It is added to the name of a row if something was found on the way to
-/// it, and is a cell of its own if nothing was.
-pub(crate) const DEAD: usize = 1 << 62;
-
-/// The mark of a state on the way to which something was found, added to the name of its row.
-pub(crate) const MET: usize = 1 << 63;
-
-/// The cell of a byte that can't be read.
-pub(crate) const QUIT: usize = usize::MAX;
-
-/// Returns the row to which a cell leads, without its marks.
-#[inline(always)]
-pub(crate) fn row_of(cell: usize) -> usize
-    ensures { result ≡ row_of cell }
-{
-    cell % UNKNOWN
-}
-
-/// Whether a cell leads to a dead state.
-#[inline(always)]
-pub(crate) fn has_died(cell: usize) -> bool
-    ensures { result ≡ has_died cell }
-{
-    if cell >= MET {
-        return cell - MET >= DEAD;
-    }
-    cell >= DEAD
-}
 
 /// Returns the marks of a state's name.
 pub(crate) fn marks(state: &State) -> usize
@@ -78,4 +52,17 @@ pub(crate) fn mode(anchored: Anchored) -> usize
         Anchored::Yes => 1,
         Anchored::Pattern(pattern) => pattern.as_usize() + 2,
     }
+}
+
+/// Returns what was found on the way to the row of the cell.
+#[inline(always)]
+pub(crate) fn stop_by(store: &Store, cell: usize) -> Option<usize>
+    requires { 0 < store.now.width }
+    ensures { (f : Frame) → Held f store.now → (t : states.State)
+        → Names f.width store.now.states cell t → result ≡ t.matched }
+{
+    if cell >= MET {
+        return store.stop_at(row_of(cell));
+    }
+    None
 }

@@ -9,26 +9,27 @@ ghost use Rattle.rc_dfa.specs.Laws.{IsWithin};
 ghost use Rattle.rc_dfa.specs.Runs.{IsByte};
 ghost use Rattle.rc_lazy_dfa.specs.Moves.{IsNamed};
 
-use crate::cells::{QUIT, UNKNOWN, column, mode};
-use crate::error::Refusal;
+use crate::cells::{UNKNOWN, column, mode};
 use crate::store::{Named, Store};
 use rc_determinize::scratch::Scratch;
 use rc_determinize::sides::Seen;
 use rc_determinize::state::State;
 use rc_dfa::automaton::{Automaton, Direction};
 use rc_dfa::states::States;
+use rc_table_search::cells::QUIT;
+use rc_table_search::refusal::Refusal;
 use rc_text::types::Anchored;
 use std::alloc::{AllocError, Global};
 
 /// One direction of a cache: its states, and what the steps need.
 #[derive(Drop)]
-pub(crate) struct Half {
-    pub store: Store,
-    pub scratch: Scratch,
+pub struct Half {
+    pub(crate) store: Store,
+    pub(crate) scratch: Scratch,
     /// The state that was built last.
-    pub to: State,
+    pub(crate) to: State,
     /// How many bytes were read since the cache was cleared last.
-    pub served: usize,
+    pub(crate) served: usize,
 }
 
 /// A state with no places.

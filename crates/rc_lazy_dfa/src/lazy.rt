@@ -7,21 +7,23 @@ ghost use Rattle.rc_lazy_dfa.specs.Stores.{frame_of, minimum_of};
 
 use crate::error::LazyError;
 use crate::half::{Half, starts_in};
-use crate::search;
 use crate::which::Ends;
 use rc_dfa::automaton::{Automaton, Direction};
 use rc_dfa::ended::{Ended, Reading};
 use rc_dfa::halves::Halves;
 use rc_pattern_set::sets::PatternSet;
+use rc_table_search::run::Extent;
+use rc_table_search::search::{Request, search};
+use rc_table_search::way::{Backwards, Forwards};
 use rc_text::cursor::Cursor;
-use rc_text::input::Input;
+use rc_text::input::{Input, high};
 use rc_text::types::Anchored;
 use std::alloc::{AllocError, Global};
 
 /// A lazy DFA: the determinizer, and the capacity of a cache. The states are in a `Cache`.
 #[derive(Drop)]
 pub struct Lazy {
-    automaton: Automaton,
+    pub(crate) automaton: Automaton,
     capacity: usize,
     minimum: usize,
     ghost least: { minimum ≡ minimum_of (frame_of automaton direction.Forwards) },
@@ -56,7 +58,7 @@ fn minimum(automaton: &Automaton) -> Option<usize>
 }
 
 /// Whether a search may be anchored so: the pattern that is asked for, if any, exists.
-fn is_asked(automaton: &Automaton, anchored: &Anchored) -> bool
+pub(crate) fn is_asked(automaton: &Automaton, anchored: &Anchored) -> bool
     ensures { (d : direction.the_data) → IsTrue result
         ↔ IsAsked (machine_of automaton.now d) anchored.now }
 {
@@ -240,23 +242,17 @@ impl Halves for Lazy {
         may_rest: bool,
         rest_from: usize,
     ) -> Reading {
-        let automaton = &self.automaton;
-        if !is_asked(automaton, &anchored) {
-            return Reading {
-                ended: Ended::Found(None),
-                read: from,
-            };
-        }
-        search::run_forwards(
-            automaton,
-            &mut cache.forward,
-            input,
-            &anchored,
+        let request = Request {
+            anchored,
             from,
-            earliest,
-            may_rest,
-            rest_from,
-        )
+            end: high(input),
+            extent: Extent {
+                earliest,
+                may_rest,
+                rest_from,
+            },
+        };
+        search::<Forwards, Lazy, C>(self, &mut cache.forward, input, &request)
     }
 
     #[inline(always)]
@@ -269,19 +265,17 @@ impl Halves for Lazy {
         end: usize,
         earliest: bool,
     ) -> Ended {
-        let automaton = &self.automaton;
-        if !is_asked(automaton, &anchored) {
-            return Ended::Found(None);
-        }
-        search::run_backwards(
-            automaton,
-            &mut cache.reverse,
-            input,
-            &anchored,
-            from,
-            end,
-            earliest,
-        )
+        let request = Request {
+            anchored,
+            from: end,
+            end: from,
+            extent: Extent {
+                earliest,
+                may_rest: false,
+                rest_from: 0,
+            },
+        };
+        search::<Backwards, Lazy, C>(self, &mut cache.reverse, input, &request).ended
     }
 
     ghost spends_nothing = { nothing_spent };

@@ -15,7 +15,6 @@ pub mod error;
 mod half;
 pub mod lazy;
 mod rows;
-mod run;
 mod search;
 mod store;
 mod which;

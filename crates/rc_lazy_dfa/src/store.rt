@@ -7,13 +7,14 @@ ghost use Rattle.rc_dfa.specs.Keys.{IsAbsent};
 ghost use Rattle.rc_dfa.specs.Machine.{is_idle, longest_in};
 ghost use Rattle.rc_dfa.specs.Laws.{IsWithin};
 ghost use Rattle.rc_lazy_dfa.specs.Stores.{Frame, Held, IsFutile, Spends, IsRefused, IsRow, weight_of};
-ghost use Rattle.rc_lazy_dfa.specs.declared.error.Refusal.TheVariants.{Short};
+ghost use Rattle.rc_table_search.specs.declared.refusal.Refusal.TheVariants.{Short};
 ghost use Rattle.rc_lazy_dfa.specs.Moves.{IsReset, HasRoom, Adds, IsNamed, HasCell, HasStart, Writes};
 
-use crate::cells::{DEAD, MET, UNKNOWN, marks, row_of};
-use crate::error::Refusal;
+use crate::cells::{UNKNOWN, marks};
 use rc_determinize::state::State;
 use rc_dfa::states::States;
+use rc_table_search::cells::DEAD;
+use rc_table_search::refusal::Refusal;
 use std::alloc::{AllocError, Global};
 
 /// States, each with a row of cells.
@@ -183,9 +184,9 @@ impl Store {
     /// Returns what was found on the way to the row.
     #[inline(always)]
     pub(crate) fn stop_at(&self, row: usize) -> Option<usize>
-        ghost f: { Frame }
-        requires held { Held f self.now }
-        ensures { (s : states.State) → IsRow f.width self.now.states row s → result ≡ s.matched }
+        requires { 0 < self.now.width }
+        ensures { (f : Frame) → Held f self.now → (s : states.State)
+            → IsRow f.width self.now.states row s → result ≡ s.matched }
     {
         let number = row / self.width;
         if number < self.states.len() {
@@ -197,9 +198,9 @@ impl Store {
     /// Whether the only walks in the state of the row are those that begin there or later.
     #[inline(always)]
     pub(crate) fn idles_at(&self, row: usize) -> bool
-        ghost f: { Frame }
-        requires held { Held f self.now }
-        ensures { (s : states.State) → IsRow f.width self.now.states row s → result ≡ is_idle s }
+        requires { 0 < self.now.width }
+        ensures { (f : Frame) → Held f self.now → (s : states.State)
+            → IsRow f.width self.now.states row s → result ≡ is_idle s }
     {
         let number = row / self.width;
         if number < self.states.len() {

@@ -12,10 +12,11 @@ ghost use Rattle.rc_dfa.specs.Automata.{machine_of};
 ghost use Rattle.rc_dfa.specs.declared.automaton.Direction.TheVariants.{Overlapping};
 ghost use Rattle.rc_lazy_dfa.specs.Overlaps.{AddsOnly, HasEach, IsAmong};
 
-use crate::cells::{MET, QUIT, UNKNOWN, column, has_died, row_of};
+use crate::cells::{UNKNOWN, column};
 use crate::half::Half;
 use rc_dfa::automaton::{Automaton, Direction};
 use rc_pattern_set::sets::PatternSet;
+use rc_table_search::cells::{MET, QUIT, has_died, row_of};
 use rc_table_search::sides::{byte_beside, piece_on};
 use rc_table_search::way::Forwards;
 use rc_text::cursor::Cursor;

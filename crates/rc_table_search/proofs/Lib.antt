@@ -1,3 +1,4 @@
 pub mod RunLemmas
 pub mod WayLemmas
 pub mod SpanLemmas
+mod SearchLemmas

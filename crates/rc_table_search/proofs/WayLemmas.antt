@@ -8,6 +8,7 @@ use Rattle.rc_dfa.specs.Runs.{MayRead, behind_at, Runs, RunsDown, met_last, stop
 use Rattle.rc_dfa.specs.Reads.{EndsBelow, SearchEndsBelow}
 use Rattle.rc_dfa.specs.declared.ended.Ended.TheVariants.{Found, Idle, Quit, GaveUp}
 use Rattle.rc_table_search.specs.Walks.{next_of}
+use Rattle.rc_table_search.specs.Views.{IsPatternOf}
 use Rattle.rc_table_search.specs.Ways.{Course, EndsBy, HasEndedBy, IsBeside, IsOn, IsStanding, RunsBy, beside_at, offset_of, span, swapped}
 
 pub none_of : {A : Type 0} (o : Option A) → is_some o ≡ false → o ≡ None
@@ -100,6 +101,11 @@ module _ (m : Machine) (t : Text) (c : Course) where
   pub none_so : (backwards may_rest : Bool) (r : ℕ) → EndsBy backwards m t c r (met_last None) → HasEndedBy backwards m t c may_rest r (Found None)
   none_so false may_rest r e = e
   none_so true may_rest r e = e
+
+  pub met_so : (backwards may_rest : Bool) (place at pattern r : ℕ) → IsPatternOf backwards m place pattern → EndsBy backwards m t c r (met_last (Some (place, at))) →
+      HasEndedBy backwards m t c may_rest r (Found (Some (record { pattern = pattern; at = at })))
+  met_so false may_rest place at pattern r is e = (place, is, e)
+  met_so true may_rest place at pattern r is e = subst (λ k. EndsBy true m t c r (met_last (Some (k, at)))) is e
 
   pub quit_so : (backwards may_rest : Bool) (b p r : ℕ) → slice_get t.content p ≡ Some b → EndsBy backwards m t c r (stopped_at p) → HasEndedBy backwards m t c may_rest r (Quit b p)
   quit_so false may_rest b p r there e = (there, e)

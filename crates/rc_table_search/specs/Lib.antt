@@ -1,2 +1,5 @@
 pub mod Walks
 pub mod Ways
+pub mod Views
+pub mod Refusals
+pub mod Searches

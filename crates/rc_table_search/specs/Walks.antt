@@ -1,6 +1,6 @@
 -- Only proofs use this file.
 -- Runs over a piece of a text, by the cells of a table.
-use Rattle.std.specs.Prelude.{◌≡◌, ℕ, ◌+◌, ◌-◌, ◌%◌, ◌<◌, ◌≤◌, Bool, true, false, List, length, Option, Some, slice_index_or}
+use Rattle.std.specs.Prelude.{◌≡◌, ℕ, ◌+◌, ◌-◌, ◌%◌, ◌<◌, ◌≤◌, Bool, true, false, List, length, Option, Some, nat_le, slice_index_or, if◌then◌else◌}
 
 -- Mark: a match was found on the way to the row.
 abbrev pub met : ℕ
@@ -13,6 +13,10 @@ dead = 4611686018427387904
 -- The least mark.
 abbrev pub skip : ℕ
 skip = 2305843009213693952
+
+-- No row: the byte may not be read.
+abbrev pub quit : ℕ
+quit = 18446744073709551615
 
 -- How many bytes of a piece of this length are left to read at the place, backwards or forwards.
 abbrev pub left_of : Bool → ℕ → ℕ → ℕ
@@ -36,6 +40,10 @@ cell_by cells classes row b = slice_index_or cells (row + slice_index_or classes
 -- The row that a cell names.
 abbrev pub row_of : ℕ → ℕ
 row_of cell = cell % skip
+
+-- Nothing goes on where the cell leads.
+abbrev pub has_died : ℕ → Bool
+has_died cell = if nat_le met cell then nat_le dead (cell - met) else nat_le dead cell
 
 -- A run over a piece: by which cells and classes, over which bytes, at which position the first of
 -- them stands, and in which direction. It goes from a place and a row on, and something may have been

@@ -1,8 +1,11 @@
-//! Table search: the loop over the cells of a table, forwards or backwards.
+//! Table search: searches by the cells of a table, forwards or backwards.
 #![tactic(auto)]
 
 pub mod cells;
+pub mod refusal;
 pub mod rows;
 pub mod run;
+pub mod search;
 pub mod sides;
+pub mod transitions;
 pub mod way;

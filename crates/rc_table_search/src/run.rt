@@ -35,6 +35,21 @@ pub struct Stops {
     pub looks: usize,
 }
 
+/// Returns where a run stops for a look.
+#[inline(always)]
+pub fn stops_of(extent: Extent) -> Stops
+    ensures { result.limit ≤ SKIP }
+{
+    Stops {
+        limit: if extent.earliest { 0 } else { SKIP },
+        looks: if extent.may_rest {
+            extent.rest_from
+        } else {
+            usize::MAX
+        },
+    }
+}
+
 /// Returns the cell to which the byte leads that is read next. If it has no mark, it is the row of
 /// the run after that byte.
 #[inline(always)]

@@ -1,19 +1,25 @@
-use Rattle.std.proofs.Common.{◌∙◌, true≢false, sym, subst}
-use Rattle.rc_program.specs.Sought.{text_of}
-use Rattle.rc_dfa.specs.declared.automaton.Direction.TheVariants.{Backwards}
-use Rattle.rc_dfa.specs.Machine.{Machine, IsAsked}
-use Rattle.rc_dfa.specs.Ended.{HasEndedDown}
+use Rattle.std.proofs.Common.{◌≤◌, ◌+◌, ◌-◌, false, true, inr, arith}
+use Rattle.rc_text.specs.Text.{high}
+use Rattle.rc_lazy_dfa.specs.Courses.{frame_in}
+use Rattle.rc_lazy_dfa.specs.SpendLaws.{may_within, spends_nothing, spends_within}
 use Rattle.rc_lazy_dfa.proofs.lazy.LazyHalves.run_backwards.Goals as goal
-
-pub returns-then-not-is_asked-clause-ended : goal.returns-then-not-is_asked-clause-ended
-returns-then-not-is_asked-clause-ended g c = λ m n same asked.
-    let yes_it_is = (c.is_asked.ensures Backwards).1 (subst (λ (k : Machine). IsAsked k c.args.anchored) (sym same.1) asked) in
-    absurd (true≢false (sym yes_it_is ∙ c.if-not-is_asked.true))
-
-pub run_backwards-requires-clause-asked : goal.run_backwards-requires-clause-asked
-run_backwards-requires-clause-asked g c = (c.is_asked.ensures Backwards).0 c.if-not-is_asked.false
+use Rattle.rc_lazy_dfa.proofs.lazy.LazyHalves.run_backwards.Goals.{After-search}
 
 pub returns-clause-ended : goal.returns-clause-ended
-returns-clause-ended g c = λ m n same asked.
-    subst (λ (k : Machine). HasEndedDown k (text_of k.setting.terminator c.args.input.now) c.args.from c.args.end c.args.anchored c.args.earliest
-    c.run_backwards.result) same.1 c.run_backwards.ensures.ended
+returns-clause-ended g c = λ m n same asked. c.search.ensures.over.ended n same.1 asked
+
+few : (g : _) (c : After-search g) → c.args.end - c.args.from + 2 ≤ high c.args.input.now - c.args.from + 2
+few g c = let le = c.requires.high in omega (arith, le)
+
+pub returns-clause-spends : goal.returns-clause-spends
+returns-clause-spends g c = record {
+  ahead = spends_nothing (frame_in c.args.self.now false) c.args.cache.now.forward.store _;
+  behind = spends_within (frame_in c.args.self.now true) c.args.cache.now.reverse.store c.search.new.cache.store _ _
+      (few g (goal.at.returns-clause-spends g c).After-search) c.search.ensures.over.spends;
+}
+
+pub returns-clause-gives_up : goal.returns-clause-gives_up
+returns-clause-gives_up g c = λ memory e.
+    inr
+    (may_within (frame_in c.args.self.now true) c.args.cache.now.reverse.store c.search.new.cache.store _ _ memory
+    (few g (goal.at.returns-clause-gives_up g c).After-search) (c.search.ensures.over.gives_up memory e))

@@ -5,11 +5,11 @@ use Rattle.rc_lazy_dfa.proofs.RowLemmas.{row_state, row_there}
 use Rattle.rc_lazy_dfa.proofs.store.Store.stop_at.Goals as goal
 
 pub returns-then-number-len : goal.returns-then-number-len
-returns-then-number-len g c = λ s r.
-    ap (λ (u : states.State). u.matched) (row_state g.f c.args.self.now c.requires c.args.row s r (state_of c.get.result.now) c.get.ensures)
+returns-then-number-len c = λ f h s r.
+    ap (λ (u : states.State). u.matched) (row_state f c.args.self.now h c.args.row s r (state_of c.get.result.now) c.get.ensures)
 
 pub returns : goal.returns
-returns g c = λ s r.
+returns c = λ f h s r.
     let past = c.if-number-len.false in
     let len = c.len.ensures in
-    absurd (row_there g.f c.args.self.now c.requires c.args.row s r (omega (arith, past, len)))
+    absurd (row_there f c.args.self.now h c.args.row s r (omega (arith, past, len)))

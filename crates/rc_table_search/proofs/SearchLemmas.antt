@@ -1,0 +1,438 @@
+-- What cells mean to a search.
+use Rattle.std.proofs.Common.{◌≡◌, ◌≢◌, ◌⊎◌, ℕ, ◌+◌, ◌-◌, ◌<◌, ◌≤◌, Bool, true, false, true≢false, not, is_some, List, length, Option, Some, None, slice_range, slice_index_or, inl, inr, refl, sym, subst, ap, ◌∙◌, arith}
+use Rattle.std.proofs.lemmas.Bool.{le-leb, lt-leb}
+use Rattle.std.proofs.lemmas.Option.{none-some, same_Some}
+use Rattle.rc_program.specs.Sought.{text_of}
+use Rattle.rc_determinize.specs.States.{State, best_at}
+use Rattle.rc_dfa.specs.Machine.{Machine, Leads, Begins, IsAsked, is_idle}
+use Rattle.rc_dfa.specs.Runs.{MayRead, RunEnd, met_last, stopped_at}
+use Rattle.rc_dfa.specs.Ended.{gave_up}
+use Rattle.rc_dfa.specs.declared.ended.Ended.{Ended}
+use Rattle.rc_dfa.specs.declared.ended.Ended.TheVariants.{Found, Idle, Quit, GaveUp}
+use Rattle.rc_table_search.specs.Walks.{HasByte, Reaches, Walk, byte_at, cell_by, cell_of, dead, first_of, has_died, left_of, met, next_of, quit, row_of, skip, begun, plain, leapt, found}
+use Rattle.rc_table_search.specs.Ways.{EndsBy, HasEndedBy, IsBeside, IsBounded, IsOn, IsStanding, LiesWithin, beside_at, offset_of, span}
+use Rattle.rc_table_search.specs.Views.{View, IsEnd, IsFound, IsLawful, IsNoted, IsRun, IsSame, IsStart, IsStep, Knows, LeadsTo}
+use Rattle.rc_table_search.specs.Searches.{IsAt, IsOver, Origin, Says, all_spent, course_of, text_in}
+use Rattle.rc_table_search.specs.declared.run.Stand.{Stand}
+use Rattle.rc_table_search.specs.declared.search.Request.{Request}
+use Rattle.rc_table_search.proofs.SpanLemmas.{beside_same, next_here, on_both, on_first, on_here, place_next, span_here, span_next, span_within}
+use Rattle.rc_table_search.proofs.WayLemmas as ways
+
+-- where a cell leads, if the byte may be read
+pub leads_to : (C : Type 0) (v : View C) (c : C) (m : Machine) (beside : Option ℕ) (To : State → Type 0) (cell : ℕ) → Knows v c m beside To cell → cell ≢ quit →
+    MayRead m beside × ((t : State) × To t × LeadsTo (v.HasState c m) v.leaps cell t)
+leads_to C v c m beside To cell (inl h) ne = absurd (ne h.0)
+leads_to C v c m beside To cell (inr h) ne = h
+
+pub unread : (C : Type 0) (v : View C) (c : C) (m : Machine) (beside : Option ℕ) (To : State → Type 0) (cell : ℕ) → Knows v c m beside To cell → cell ≡ quit →
+    ¬ MayRead m beside
+unread C v c m beside To cell (inl h) e = h.1
+unread C v c m beside To cell (inr h) e = absurd (h.1.2.is_read e)
+
+some_of : (o : Option ℕ) → is_some o ≡ true → (k : ℕ) × (o ≡ Some k)
+some_of None e = cc e
+some_of (Some n) e = (n, refl)
+
+module _ (HasRow : ℕ → State → Type 0) (leaps : Bool) (cell : ℕ) (t : State) (x : LeadsTo HasRow leaps cell t) where
+  pub row_going : has_died cell ≡ false → HasRow (row_of cell) t
+  row_going alive = x.in_row (inr (λ is. true≢false (sym (ap has_died is) ∙ alive)))
+
+  pub row_found : met ≤ cell → HasRow (row_of cell) t × ((k : ℕ) × (t.matched ≡ Some k))
+  row_found le = (x.in_row (inr (λ is. omega (arith, is, le))), some_of t.matched (sym x.found ∙ le-leb met cell le))
+
+  pub none_found : cell < met → t.matched ≡ None
+  none_found lt = ways.none_of t.matched (sym x.found ∙ lt-leb met cell lt)
+
+-- a note of what was found there
+pub noted_on : (C : Type 0) (v : View C) (c : C) (m : Machine) (cell at note : ℕ) (t : State) (found : Option (ℕ × ℕ)) → LeadsTo (v.HasState c m) v.leaps cell t → met ≤ cell →
+    ((s : State) (k : ℕ) → v.HasState c m (row_of cell) s → s.matched ≡ Some k → v.IsNote m note k) → IsNoted v m (Some (note, at)) (best_at at t.matched found)
+noted_on C v c m cell at note t last x le is =
+    let r = row_found (v.HasState c m) v.leaps cell t x le in
+    (r.1.0, is t r.1.0 r.0 r.1.1, ap (λ o. best_at at o last) r.1.1)
+
+module _ (C : Type 0) (v : View C) (laws : IsLawful v) (backwards : Bool) (o : Origin C) (q : Request) where
+  -- HOW A SEARCH ENDS
+
+  pub over_done : (c : C) (n r : ℕ) (e : Ended) → v.IsCache c → v.Spends o.begun c n → n ≤ all_spent backwards q →
+      ((m : Machine) → v.IsOf m → IsAsked m q.anchored → HasEndedBy backwards m (text_in m o.seen) (course_of q) q.extent.may_rest r e) → gave_up e ≡ None →
+      IsOver v backwards o q c r e
+  over_done c n r e cache spends le ended done = record {
+    cache = cache;
+    spends = laws.spends_within o.begun c n (all_spent backwards q) le spends;
+    ended = ended;
+    gives_up = λ memory k. absurd (none-some memory (sym done ∙ k));
+  }
+
+  pub over_refused : (b c : C) (n at r : ℕ) (memory : Bool) → v.IsCache c → v.Spends o.begun b n → v.Spends b c 1 → v.GivesUp b c 1 memory →
+      n + 1 ≤ all_spent backwards q → IsOn backwards q.from at → IsOn backwards at q.end → IsOver v backwards o q c r (GaveUp at memory)
+  over_refused b c n at r memory cache before spends refused le low high = record {
+    cache = cache;
+    spends = laws.spends_within o.begun c (n + 1) (all_spent backwards q) le (laws.spends_both o.begun b c n 1 before spends);
+    ended = λ m of asked. ways.gave_so m (text_in m o.seen) (course_of q) backwards q.extent.may_rest at r memory low high;
+    gives_up = λ k e.
+        laws.gives_up_within o.begun c (n + 1) (all_spent backwards q) k le
+        (laws.gives_up_later o.begun b c n 1 k before (subst (λ x. v.GivesUp b c 1 x) (same_Some memory k e) refused));
+  }
+
+  abbrev Ends : Machine → ℕ → RunEnd → Type 0
+  Ends m = EndsBy backwards m (text_in m o.seen) (course_of q)
+
+  -- at a byte that may not be read
+  pub over_quit : (c : C) (n i b p r : ℕ) (side : Bool) → v.IsCache c → v.Spends o.begun c n → n ≤ all_spent backwards q → p ≡ offset_of side i →
+      IsBeside side o.seen.content i b → ((m : Machine) → v.IsOf m → IsAsked m q.anchored → Ends m r (stopped_at (offset_of side i))) →
+      IsOver v backwards o q c r (Quit b p)
+  over_quit c n i b p r side cache spends le is there ends =
+      over_done c n r (Quit b p) cache spends le
+      (λ m of asked. subst (λ k. HasEndedBy backwards m (text_in m o.seen) (course_of q) q.extent.may_rest r (Quit b k)) (sym is)
+      (ways.quit_so m (text_in m o.seen) (course_of q) backwards q.extent.may_rest b (offset_of side i) r (ways.there_of side o.seen.content i b there) (ends m of asked))) refl
+
+  -- with what was found last
+  pub over_says : (IsLast : Machine → Option (ℕ × ℕ) → Type 0) (c : C) (n r : ℕ) (e : Ended) → Says v backwards IsLast e → v.IsCache c → v.Spends o.begun c n →
+      n ≤ all_spent backwards q →
+      ((m : Machine) → v.IsOf m → IsAsked m q.anchored → (last : Option (ℕ × ℕ)) × IsLast m last × Ends m r (met_last last)) → IsOver v backwards o q c r e
+  over_says IsLast c n r e said cache spends le ends =
+      over_done c n r e cache spends le
+      (λ m of asked. let x = ends m of asked in said.says m of x.0 x.1 (text_in m o.seen) (course_of q) q.extent.may_rest r x.2) said.done
+
+  pub over_none : (c : C) (n r : ℕ) → v.IsCache c → v.Spends o.begun c n → n ≤ all_spent backwards q →
+      ((m : Machine) → v.IsOf m → IsAsked m q.anchored → Ends m r (met_last None)) → IsOver v backwards o q c r (Found None)
+  over_none c n r cache spends le ends =
+      over_done c n r (Found None) cache spends le
+      (λ m of asked. ways.none_so m (text_in m o.seen) (course_of q) backwards q.extent.may_rest r (ends m of asked)) refl
+
+  pub few_spent : (i : ℕ) → IsOn backwards q.from i → IsOn backwards i q.end → span backwards q.from i + 1 + 1 ≤ all_spent backwards q
+  few_spent i on within = let le = span_within backwards q.from i q.end on within in omega (arith, le)
+
+  -- where it stands nothing was found, and nothing is under way
+  pub rests_here : (c : C) (i : ℕ) (stand : Stand) → IsAt v backwards o q c i stand → IsOn backwards i q.end → backwards ≡ false → q.extent.may_rest ≡ true →
+      is_some stand.noted ≡ false → ((m : Machine) (s : State) → v.HasState c m stand.row s → is_idle s ≡ true) → IsOver v backwards o q c i (Idle i)
+  rests_here c i stand here within forwards may none idle =
+      let few = few_spent i here.on within in
+      over_done c (span backwards q.from i + 1) i (Idle i) here.cache here.spends (omega (arith, few))
+      (λ m of asked.
+      let x = here.stands m of asked in
+      let nothing = subst (λ n. IsNoted v m n x.found) (ways.none_of stand.noted none) x.tells in
+      ways.idle_so m (text_in m o.seen) (course_of q) backwards q.extent.may_rest i forwards may
+      (ways.rests m (text_in m o.seen) (course_of q) backwards forwards i x.state x.found x.standing within (ap is_some nothing) (idle m x.state x.in_row))) refl
+
+  -- ONE STEP, WHATEVER ITS CELL
+
+  module _ (c0 c : C) (i : ℕ) (stand : Stand) (b cell : ℕ) (here : IsAt v backwards o q c0 i stand) (cache : v.IsCache c) (spends : v.Spends c0 c 1)
+      (step : IsStep v c0 c stand.row b cell) (beside : beside_at backwards (text_of 0 o.seen) i ≡ Some b) (within : IsOn backwards i q.end) where
+    pub spent : v.Spends o.begun c (span backwards q.from i + 1 + 1)
+    spent = laws.spends_both o.begun c0 c (span backwards q.from i + 1) 1 here.spends spends
+
+    pub few : span backwards q.from i + 1 + 1 ≤ all_spent backwards q
+    few = few_spent i here.on within
+
+    is : (m : Machine) → beside_at backwards (text_in m o.seen) i ≡ Some b
+    is m = beside_same backwards m.setting.terminator 0 o.seen i ∙ beside
+
+    pub step_quits : (r p : ℕ) → (backwards ≡ false → r ≡ i + 1) → cell ≡ quit → IsBeside backwards o.seen.content i b → p ≡ offset_of backwards i →
+        IsOver v backwards o q c r (Quit b p)
+    step_quits r p far e there at =
+        over_quit c (span backwards q.from i + 1 + 1) i b p r backwards cache spent few at there
+        (λ m of asked.
+        let x = here.stands m of asked in
+        ways.quits m (text_in m o.seen) (course_of q) backwards i r far x.state x.found x.standing within (ways.some_before backwards o.seen.content i b there)
+        (subst (λ k. ¬ MayRead m k) (sym (is m)) (unread C v c m (Some b) (Leads m x.state (Some b)) cell (step.leads m x.state x.in_row) e)))
+
+    -- what was found last, by the way to the next state
+    module _ (ne : cell ≢ quit) (noted : Option (ℕ × ℕ))
+        (notes : (m : Machine) (t : State) (found : Option (ℕ × ℕ)) → LeadsTo (v.HasState c m) v.leaps cell t → IsNoted v m stand.noted found →
+        IsNoted v m noted (best_at i t.matched found)) where
+      -- the next state, to which the byte leads
+      record IsNextState (m : Machine) : Type 0 where
+        state : State
+        there : LeadsTo (v.HasState c m) v.leaps cell state
+        before : State
+        found : Option (ℕ × ℕ)
+        standing : IsStanding backwards m (text_in m o.seen) (course_of q) i before found
+        tells : IsNoted v m noted (best_at i state.matched found)
+        read : MayRead m (beside_at backwards (text_in m o.seen) i)
+        leads : Leads m before (beside_at backwards (text_in m o.seen) i) state
+
+      next_state : (m : Machine) → v.IsOf m → IsAsked m q.anchored → IsNextState m
+      next_state m of asked =
+          let x = here.stands m of asked in
+          let l = leads_to C v c m (Some b) (Leads m x.state (Some b)) cell (step.leads m x.state x.in_row) ne in record {
+            state = l.1.0;
+            there = l.1.2;
+            before = x.state;
+            found = x.found;
+            standing = x.standing;
+            tells = notes m l.1.0 x.found l.1.2 x.tells;
+            read = subst (λ k. MayRead m k) (sym (is m)) l.0;
+            leads = subst (λ k. Leads m x.state k l.1.0) (sym (is m)) l.1.1;
+          }
+
+      -- at the bound
+      pub step_bounded : (e : Ended) → i ≡ q.end → Says v backwards (λ m last. IsNoted v m noted last) e → IsOver v backwards o q c (q.end + 1) e
+      step_bounded e at said =
+          over_says (λ m last. IsNoted v m noted last) c (span backwards q.from i + 1 + 1) (q.end + 1) e said cache spent few
+          (λ m of asked.
+          let n = next_state m of asked in
+          let B : ℕ → Type 0 = λ k. IsStanding backwards m (text_in m o.seen) (course_of q) k n.before n.found → MayRead m (beside_at backwards (text_in m o.seen) k) →
+          Leads m n.before (beside_at backwards (text_in m o.seen) k) n.state → Ends m (q.end + 1) (met_last (best_at k n.state.matched n.found)) in (
+            best_at i n.state.matched n.found,
+            n.tells,
+            subst B (sym at) (ways.bounded m (text_in m o.seen) (course_of q) backwards n.before n.state n.found) n.standing n.read n.leads,
+          ))
+
+      module _ (left : 0 < span backwards i q.end) where
+        stands_on : (m : Machine) (n : IsNextState m) →
+            IsStanding backwards m (text_in m o.seen) (course_of q) (next_of backwards i) n.state (best_at i n.state.matched n.found)
+        stands_on m n = ways.stands_on m (text_in m o.seen) (course_of q) backwards i n.before n.state n.found n.standing left n.read n.leads
+
+        pub step_dies : (e : Ended) → has_died cell ≡ true → Says v backwards (λ m last. IsNoted v m noted last) e → IsOver v backwards o q c (next_of backwards i) e
+        step_dies e died said =
+            over_says (λ m last. IsNoted v m noted last) c (span backwards q.from i + 1 + 1) (next_of backwards i) e said cache spent few
+            (λ m of asked.
+            let n = next_state m of asked in (
+              best_at i n.state.matched n.found,
+              n.tells,
+              ways.dies m (text_in m o.seen) (course_of q) backwards (next_of backwards i) n.state (best_at i n.state.matched n.found) (stands_on m n)
+                  (sym n.there.died ∙ died),
+            ))
+
+        pub step_early : (e : Ended) → q.extent.earliest ≡ true → is_some noted ≡ true → Says v backwards (λ m last. IsNoted v m noted last) e →
+            IsOver v backwards o q c (next_of backwards i) e
+        step_early e early some said =
+            over_says (λ m last. IsNoted v m noted last) c (span backwards q.from i + 1 + 1) (next_of backwards i) e said cache spent few
+            (λ m of asked.
+            let n = next_state m of asked in (
+              best_at i n.state.matched n.found,
+              n.tells,
+              ways.stops_early m (text_in m o.seen) (course_of q) backwards (next_of backwards i) n.state (best_at i n.state.matched n.found) (stands_on m n) early
+                  (some_noted m noted (best_at i n.state.matched n.found) n.tells some),
+            ))
+          where
+            some_noted : (m : Machine) (noted last : Option (ℕ × ℕ)) → IsNoted v m noted last → is_some noted ≡ true → is_some last ≡ true
+            some_noted m None last x never = cc never
+            some_noted m (Some n) last x some = ap is_some x.2
+
+        pub step_goes : has_died cell ≡ false → IsAt v backwards o q c (next_of backwards i) (record { row = row_of cell; noted = noted })
+        step_goes alive =
+            let n = span_next backwards q.from i q.end here.on left in record {
+              cache = cache;
+              is_row = step.is_row alive;
+              on = n.0;
+              spends = subst (λ k. v.Spends o.begun c k) (ap (λ k. k + 1) (sym n.2)) spent;
+              stands = λ m of asked. let x = next_state m of asked in record {
+                state = x.state;
+                in_row = row_going (v.HasState c m) v.leaps cell x.state x.there alive;
+                found = best_at i x.state.matched x.found;
+                tells = x.tells;
+                standing = stands_on m x;
+              };
+            }
+
+        pub step_rests : backwards ≡ false → q.extent.may_rest ≡ true → has_died cell ≡ false → is_some noted ≡ false →
+            ((m : Machine) (s : State) → v.HasState c m (row_of cell) s → is_idle s ≡ true) → IsOver v backwards o q c (next_of backwards i) (Idle (next_of backwards i))
+        step_rests forwards may alive none idle =
+            rests_here c (next_of backwards i) (record { row = row_of cell; noted = noted }) (step_goes alive) (span_next backwards q.from i q.end here.on left).1 forwards may none idle
+
+  -- at the end of what the search sees
+  module _ (c0 c : C) (stand : Stand) (here : IsAt v backwards o q c0 q.end stand) (cache : v.IsCache c) (spends : v.Spends c0 c 1)
+      (beside : beside_at backwards (text_of 0 o.seen) q.end ≡ None) (last : Option ℕ) (end : IsEnd v c0 stand.row last) where
+    end_says : (IsLast : Machine → Option (ℕ × ℕ) → Type 0) (e : Ended) → Says v backwards IsLast e →
+        ((m : Machine) (found : Option (ℕ × ℕ)) → IsNoted v m stand.noted found → IsLast m (best_at q.end last found)) → IsOver v backwards o q c (q.end + 1) e
+    end_says IsLast e said is =
+        over_says IsLast c (span backwards q.from q.end + 1 + 1) (q.end + 1) e said cache
+        (laws.spends_both o.begun c0 c (span backwards q.from q.end + 1) 1 here.spends spends) (few_spent q.end here.on (on_here backwards q.end))
+        (λ m of asked.
+        let x = here.stands m of asked in
+        let l = end m x.state x.in_row in
+        let none = beside_same backwards m.setting.terminator 0 o.seen q.end ∙ beside in (
+          best_at q.end last x.found,
+          is m x.found x.tells,
+          subst (λ k. Ends m (q.end + 1) (met_last (best_at q.end k x.found))) (sym l.2)
+              (ways.bounded m (text_in m o.seen) (course_of q) backwards x.state l.0 x.found x.standing (subst (λ k. MayRead m k) (sym none) tt)
+              (subst (λ k. Leads m x.state k l.0) (sym none) l.1)),
+        ))
+
+    pub end_met : (found : ℕ) (e : Ended) → last ≡ Some found → Says v backwards (λ m k. k ≡ Some (found, q.end)) e → IsOver v backwards o q c (q.end + 1) e
+    end_met place e is said =
+        end_says (λ m k. k ≡ Some (place, q.end)) e said (λ m before tells. ap (λ k. best_at q.end k before) is)
+
+    pub end_told : (e : Ended) → last ≡ None → Says v backwards (λ m k. IsNoted v m stand.noted k) e → IsOver v backwards o q c (q.end + 1) e
+    end_told e is said =
+        end_says (λ m k. IsNoted v m stand.noted k) e said (λ m before tells. subst (λ k. IsNoted v m stand.noted (best_at q.end k before)) (sym is) tells)
+
+  -- WHERE A SEARCH BEGINS
+
+  module _ (c : C) (beside : Option ℕ) (cell : ℕ) (cache : v.IsCache c) (spends : v.Spends o.begun c 1) (start : IsStart v c q.anchored beside cell)
+      (same : beside ≡ beside_at (not backwards) (text_of 0 o.seen) q.from) where
+    begin_is : (m : Machine) → beside ≡ beside_at (not backwards) (text_in m o.seen) q.from
+    begin_is m = same ∙ beside_same (not backwards) 0 m.setting.terminator o.seen q.from
+
+    unread_here : cell ≡ quit → (m : Machine) → v.IsOf m → IsAsked m q.anchored → ¬ MayRead m beside
+    unread_here e m of asked = unread C v c m beside (Begins m q.anchored beside) cell (start.begins m of asked) e
+
+    pub begin_quits : (b p : ℕ) → cell ≡ quit → beside ≡ Some b → IsBeside (not backwards) o.seen.content q.from b → p ≡ offset_of (not backwards) q.from →
+        IsOver v backwards o q c q.from (Quit b p)
+    begin_quits b p e is there at =
+        over_quit c 1 q.from b p q.from (not backwards) cache spends (omega arith) at there
+        (λ m of asked.
+        ways.never_begins m (text_in m o.seen) (course_of q) backwards (λ k. ways.some_before (not backwards) o.seen.content q.from b there (ap not k))
+        (subst (λ k. ¬ MayRead m k) (begin_is m) (unread_here e m of asked)))
+
+    -- the end is always read
+    pub begin_at_edge : cell ≡ quit → beside ≡ None → IsOver v backwards o q c q.from (Found None)
+    begin_at_edge e none =
+        over_none c 1 q.from cache spends (omega arith)
+        (λ m of asked. absurd (subst (λ k. ¬ MayRead m k) none (unread_here e m of asked) tt))
+
+    module _ (ne : cell ≢ quit) where
+      first_state : (m : Machine) → v.IsOf m → IsAsked m q.anchored → (s : State) × LeadsTo (v.HasState c m) v.leaps cell s
+          × IsStanding backwards m (text_in m o.seen) (course_of q) q.from s None
+      first_state m of asked =
+          let l = leads_to C v c m beside (Begins m q.anchored beside) cell (start.begins m of asked) ne in (
+            l.1.0,
+            l.1.2,
+            ways.begins m (text_in m o.seen) (course_of q) backwards l.1.0 (subst (λ k. MayRead m k) (begin_is m) l.0)
+                (subst (λ k. Begins m q.anchored k l.1.0) (begin_is m) l.1.1),
+          )
+
+      pub begin_dies : has_died cell ≡ true → IsOver v backwards o q c q.from (Found None)
+      begin_dies e =
+          over_none c 1 q.from cache spends (omega arith)
+          (λ m of asked.
+          let s = first_state m of asked in
+          ways.dies m (text_in m o.seen) (course_of q) backwards q.from s.0 None s.2 (sym s.1.died ∙ e))
+
+      pub begin_goes : has_died cell ≡ false → IsAt v backwards o q c q.from (record { row = row_of cell; noted = None })
+      begin_goes alive = record {
+        cache = cache;
+        is_row = start.is_row alive;
+        on = on_here backwards q.from;
+        spends = subst (λ n. v.Spends o.begun c n) (ap (λ n. n + 1) (sym (span_here backwards q.from))) spends;
+        stands = λ m of asked. let s = first_state m of asked in record {
+          state = s.0;
+          in_row = row_going (v.HasState c m) v.leaps cell s.0 s.1 alive;
+          found = None;
+          tells = refl;
+          standing = s.2;
+        };
+      }
+
+  -- OVER A PIECE
+
+  -- the cells and classes of a walk over a piece of what is searched
+  module _ (c : C) (w : Walk) (way : w.backwards ≡ backwards) (leaping : w.leaps ≡ v.leaps) (inside : IsBounded backwards o.seen q.end)
+      (piece : w.piece ≡ slice_range o.seen.content w.start (w.start + length w.piece)) (lies : LiesWithin backwards w.start (length w.piece) q.end)
+      (bytes : (k : ℕ) → slice_index_or w.piece k 0 < 256) (m : Machine)
+      (told : (r b : ℕ) (s : State) → v.HasState c m r s → b < 256 → (v.leaps ≡ false → cell_by w.cells w.classes r b ≢ skip) →
+      Knows v c m (Some b) (Leads m s (Some b)) (cell_by w.cells w.classes r b)) (before : Option (ℕ × ℕ)) where
+    -- the run came to the state of the row
+    pub record ComesTo (i row : ℕ) (noted : Option (ℕ × ℕ)) : Type 0 where
+      pub state : State
+      pub in_row : v.HasState c m row state
+      pub found : Option (ℕ × ℕ)
+      pub tells : IsFound v c m noted before found
+      pub standing : IsStanding backwards m (text_in m o.seen) (course_of q) i state found
+
+    -- over the byte that is read next
+    module _ (place row : ℕ) (noted : Option (ℕ × ℕ)) (x : ComesTo (w.start + place) row noted) (byte : HasByte w place) where
+      abbrev here : ℕ
+      here = cell_of w place row
+
+      small : (way : Bool) → byte_at way w.piece place < 256
+      small false = bytes place
+      small true = bytes (place - 1)
+
+      on : (v.leaps ≡ false → here ≢ skip) → here ≢ quit → (t : State) × LeadsTo (v.HasState c m) v.leaps here t
+          × IsStanding backwards m (text_in m o.seen) (course_of q) (w.start + next_of w.backwards place) t (best_at (w.start + place) t.matched x.found)
+      on known ne =
+          let b = byte_at w.backwards w.piece place in
+          let some = subst (λ k. 0 < left_of k (length w.piece) place) way byte.some in
+          let next = next_here backwards o.seen q.end w.start place w.piece inside piece lies byte.within some in
+          let beside = next.beside m.setting.terminator ∙ ap (λ k. Some (byte_at k w.piece place)) (sym way) in
+          let l = leads_to C v c m (Some b) (Leads m x.state (Some b)) here (told row b x.state x.in_row (small w.backwards) known) ne in
+          let t = l.1.0 in
+          let to = place_next backwards (length w.piece) w.start place some ∙ ap (λ k. w.start + next_of k place) (sym way) in (
+            t,
+            l.1.2,
+            subst (λ i. IsStanding backwards m (text_in m o.seen) (course_of q) i t (best_at (w.start + place) t.matched x.found)) to
+                (ways.stands_on m (text_in m o.seen) (course_of q) backwards (w.start + place) x.state t x.found x.standing next.left
+                (subst (λ k. MayRead m k) (sym beside) l.0) (subst (λ k. Leads m x.state k t) (sym beside) l.1.1)),
+          )
+
+      -- to a row before which nothing was found
+      on_plain : (v.leaps ≡ false → here ≢ skip) → here < met → (v.leaps ≡ true) ⊎ (here ≢ dead) → (to : ℕ) → to ≡ row_of here →
+          ComesTo (w.start + next_of w.backwards place) to noted
+      on_plain known lt has to is =
+          let l = on known (λ e. omega (arith, e, lt)) in record {
+            state = l.0;
+            in_row = subst (λ r. v.HasState c m r l.0) (sym is) (l.1.in_row has);
+            found = x.found;
+            tells = x.tells;
+            standing = subst (λ k. IsStanding backwards m (text_in m o.seen) (course_of q) (w.start + next_of w.backwards place) l.0 (best_at (w.start + place) k x.found))
+                (none_found (v.HasState c m) v.leaps here l.0 l.1 lt) l.2;
+          }
+
+      on_found : met ≤ here → here - met < skip → ComesTo (w.start + next_of w.backwards place) (here - met) (Some (here - met, w.start + place))
+      on_found le lt =
+          let l = on (λ _ e. omega (arith, e, le)) (λ e. omega (arith, e, lt)) in
+          let f = row_found (v.HasState c m) v.leaps here l.0 l.1 le in
+          let is : row_of here ≡ here - met = omega (arith, le, lt) in
+          let in_row = subst (λ r. v.HasState c m r l.0) is f.0 in record {
+            state = l.0;
+            in_row = in_row;
+            found = Some (f.1.0, w.start + place);
+            tells = (l.0, f.1.0, in_row, f.1.1, refl);
+            standing = subst (λ k. IsStanding backwards m (text_in m o.seen) (course_of q) (w.start + next_of w.backwards place) l.0 (best_at (w.start + place) k x.found))
+                f.1.1 l.2;
+          }
+
+    -- and over all bytes of a walk
+    pub over : ComesTo (w.start + w.from) w.first w.before → (place row : ℕ) (noted : Option (ℕ × ℕ)) → Reaches w place row noted → ComesTo (w.start + place) row noted
+    over x place row noted begun = x
+    over x place row noted (plain p r y byte lt) =
+        on_plain p r noted (over x p r noted y) byte (λ _ e. omega (arith, e, lt)) (omega (arith, lt)) (inr (λ e. omega (arith, e, lt))) (cell_of w p r) (omega (arith, lt))
+    over x place row noted (leapt p r to y byte leaps lt is) =
+        let all : v.leaps ≡ true = sym leaping ∙ leaps in
+        on_plain p r noted (over x p r noted y) byte (λ never. absurd (true≢false (sym all ∙ never))) lt (inl all) to is
+    over x place row noted (found p r y byte le lt) = on_found p r _ (over x p r _ y) byte le lt
+
+  found_same : (c0 c : C) (m : Machine) (last before found : Option (ℕ × ℕ)) → IsSame v c0 c → IsFound v c0 m last before found → IsFound v c m last before found
+  found_same c0 c m None before last same x = x
+  found_same c0 c m (Some n) before last same x = (x.0, x.1, same.has_state m n.0 x.0 x.2, x.3, x.4)
+
+  -- bytes of a piece were read by cells that needed no look
+  pub at_moved : (c0 c : C) (piece : List ℕ) (start place to : ℕ) (stand : Stand) (last noted : Option (ℕ × ℕ)) →
+      IsAt v backwards o q c0 (start + first_of backwards (length piece)) stand → IsBounded backwards o.seen q.end →
+      piece ≡ slice_range o.seen.content start (start + length piece) → LiesWithin backwards start (length piece) q.end →
+      ((k : ℕ) → slice_index_or piece k 0 < 256) → place ≤ length piece → IsSame v c0 c → v.IsRow c to → IsRun v backwards c0 piece start stand.row place to last →
+      ((m : Machine) (before found : Option (ℕ × ℕ)) → IsFound v c m last before found → IsNoted v m stand.noted before → IsNoted v m noted found) →
+      IsAt v backwards o q c (start + place) (record { row = to; noted = noted })
+  at_moved c0 c piece start place to stand last noted here inside is lies bytes le same row run notes =
+      let further = on_first backwards (length piece) start place le in
+      let more = span_within backwards q.from (start + first_of backwards (length piece)) (start + place) here.on further in record {
+        cache = same.cache here.cache;
+        is_row = row;
+        on = on_both backwards q.from (start + first_of backwards (length piece)) (start + place) here.on further;
+        spends = laws.spends_within o.begun c (span backwards q.from (start + first_of backwards (length piece)) + 1) (span backwards q.from (start + place) + 1)
+            (omega (arith, more)) (same.spends o.begun (span backwards q.from (start + first_of backwards (length piece)) + 1) here.spends);
+        stands = λ m of asked.
+            let x = here.stands m of asked in
+            let w : Walk = record {
+              backwards = backwards;
+              leaps = v.leaps;
+              cells = run.cells;
+              classes = run.classes;
+              piece = piece;
+              start = start;
+              from = first_of backwards (length piece);
+              first = stand.row;
+              before = None;
+            } in
+            let y = over c0 w refl refl inside is lies bytes m (run.told m) x.found
+            (record { state = x.state; in_row = x.in_row; found = x.found; tells = refl; standing = x.standing }) place to last (run.reaches m x.state x.in_row) in record {
+              state = y.state;
+              in_row = same.has_state m to y.state y.in_row;
+              found = y.found;
+              tells = notes m x.found y.found (found_same c0 c m last x.found y.found same y.tells) x.tells;
+              standing = y.standing;
+            };
+      }

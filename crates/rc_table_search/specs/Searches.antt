@@ -1,0 +1,67 @@
+-- Searches by a table: what their runs keep, and how they end.
+use Rattle.std.specs.Prelude.{◌≡◌, ℕ, ◌+◌, Bool, Option, Some, None}
+use Rattle.rc_text.specs.Text.{Searched}
+use Rattle.rc_program.specs.Text.{Text}
+use Rattle.rc_program.specs.Sought.{text_of}
+use Rattle.rc_determinize.specs.States.{State}
+use Rattle.rc_dfa.specs.Machine.{Machine, IsAsked}
+use Rattle.rc_dfa.specs.Runs.{met_last}
+use Rattle.rc_dfa.specs.Ended.{gave_up}
+use Rattle.rc_dfa.specs.declared.ended.Ended.{Ended}
+use Rattle.rc_table_search.specs.Ways.{Course, EndsBy, HasEndedBy, IsOn, IsStanding, span}
+use Rattle.rc_table_search.specs.Views.{View, IsNoted}
+use Rattle.rc_table_search.specs.declared.run.Stand.{Stand}
+use Rattle.rc_table_search.specs.declared.search.Request.{Request}
+use Rattle.rc_table_search.specs.declared.search.Progress.{Progress}
+use Rattle.rc_table_search.specs.declared.search.Progress.TheVariants.{Through, Over}
+
+-- What a search began with: the text, and the cache.
+pub record Origin (Cache : Type 0) : Type 0 where
+  pub seen : Searched
+  pub begun : Cache
+
+abbrev pub text_in : Machine → Searched → Text
+text_in m seen = text_of m.setting.terminator seen
+
+abbrev pub course_of : Request → Course
+course_of q = record { from = q.from; bound = q.end; anchored = q.anchored; earliest = q.extent.earliest }
+
+-- The states that a search adds: at most one where it begins, one for each byte, and one at the
+-- end.
+abbrev pub all_spent : Bool → Request → ℕ
+all_spent backwards q = span backwards q.from q.end + 2
+
+-- The bytes up to the position lead to the state of the row, and the note stands for what was found
+-- last.
+pub record IsHere {C : Type 0} (v : View C) (backwards : Bool) (seen : Searched) (q : Request) (c : C) (m : Machine) (i : ℕ) (stand : Stand) : Type 0 where
+  pub state : State
+  pub in_row : v.HasState c m stand.row state
+  pub found : Option (ℕ × ℕ)
+  pub tells : IsNoted v m stand.noted found
+  pub standing : IsStanding backwards m (text_in m seen) (course_of q) i state found
+
+-- The search stands at the position, whatever machine the table is of.
+pub record IsAt {C : Type 0} (v : View C) (backwards : Bool) (o : Origin C) (q : Request) (c : C) (i : ℕ) (stand : Stand) : Type 0 where
+  pub cache : v.IsCache c
+  pub is_row : v.IsRow c stand.row
+  pub on : IsOn backwards q.from i
+  pub spends : v.Spends o.begun c (span backwards q.from i + 1)
+  pub stands : (m : Machine) → v.IsOf m → IsAsked m q.anchored → IsHere v backwards o.seen q c m i stand
+
+-- The search ended so. Forwards it looked at the bytes before r alone, unless it gave up.
+pub record IsOver {C : Type 0} (v : View C) (backwards : Bool) (o : Origin C) (q : Request) (c : C) (r : ℕ) (e : Ended) : Type 0 where
+  pub cache : v.IsCache c
+  pub spends : v.Spends o.begun c (all_spent backwards q)
+  pub ended : (m : Machine) → v.IsOf m → IsAsked m q.anchored → HasEndedBy backwards m (text_in m o.seen) (course_of q) q.extent.may_rest r e
+  pub gives_up : (memory : Bool) → gave_up e ≡ Some memory → v.GivesUp o.begun c (all_spent backwards q) memory
+
+-- The run goes on at the position, or the search has ended.
+abbrev pub IsLeg : {C : Type 0} → View C → Bool → Origin C → Request → C → ℕ → Progress → Type 0
+IsLeg v backwards o q c i (Through s) = IsAt v backwards o q c i s
+IsLeg v backwards o q c i (Over reading) = IsOver v backwards o q c reading.read reading.ended
+
+-- The result of a search that found this last.
+pub record Says {C : Type 0} (v : View C) (backwards : Bool) (IsLast : Machine → Option (ℕ × ℕ) → Type 0) (e : Ended) : Type 0 where
+  pub done : gave_up e ≡ None
+  pub says : (m : Machine) → v.IsOf m → (found : Option (ℕ × ℕ)) → IsLast m found → (t : Text) (c : Course) (may_rest : Bool) (r : ℕ) →
+      EndsBy backwards m t c r (met_last found) → HasEndedBy backwards m t c may_rest r e

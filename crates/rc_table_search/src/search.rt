@@ -1,0 +1,374 @@
+//! Search: runs a DFA by its table over a text, forwards to the end of a match or backwards to its
+//! start.
+ghost use Rattle.std.specs.Prelude.{◌≡◌, ◌+◌, ◌≤◌, ◌<◌, ℕ, Option, Some, true, false, not, IfSome, length, slice_range};
+ghost use Rattle.rc_text.specs.Text.{Keeps, slice_end};
+ghost use Rattle.rc_program.specs.Sought.{text_of};
+ghost use Rattle.rc_determinize.specs.States.{State, best_at};
+ghost use Rattle.rc_dfa.specs.Machine.{Machine};
+ghost use Rattle.rc_dfa.specs.Runs.{IsByte};
+ghost use Rattle.rc_table_search.specs.Walks.{first_of, next_of};
+ghost use Rattle.rc_table_search.specs.Ways.{IsBeside, IsBounded, IsNext, IsOn, LiesWithin, beside_at, span};
+ghost use Rattle.rc_table_search.specs.Views.{IsFound, IsNoted, LeadsTo};
+ghost use Rattle.rc_table_search.specs.Searches.{IsAt, IsLeg, IsOver, Origin, Says};
+
+use crate::cells::{MET, QUIT, has_died, row_of};
+use crate::run::{Extent, Stand};
+use crate::sides::{byte_beside, offset, piece_on};
+use crate::transitions::Transitions;
+use crate::way::{Way, byte, left, start, step_on};
+use rc_dfa::ended::{Ended, Met, Reading};
+use rc_text::cursor::Cursor;
+use rc_text::input::{Input, content_fits};
+use rc_text::types::Anchored;
+
+/// What is asked of a search.
+#[derive(Clone, Copy)]
+pub struct Request {
+    pub anchored: Anchored,
+    /// The position at which it begins.
+    pub from: usize,
+    /// The position up to which it reads, or down to which.
+    pub end: usize,
+    pub extent: Extent,
+}
+
+/// The outcome of a search over some bytes.
+#[derive(Clone, Copy)]
+pub enum Progress {
+    /// It goes on after them.
+    Through(Stand),
+    /// It ended among them.
+    Over(Reading),
+}
+
+/// Returns the result of a search that found this, at this position, last.
+#[inline(always)]
+fn met_at<W: Way, T: Transitions>(table: &T, found: usize, at: usize) -> Ended
+    ensures { Says (T.view table.now W.BACKWARDS) W.BACKWARDS (λ m last. last ≡ Some (found, at))
+        result }
+{
+    let pattern = table.pattern::<W>(found);
+    Ended::Found(Some(Met { pattern, at }))
+}
+
+/// Returns the result of a search, by the note of what it found last.
+#[inline(always)]
+fn told<W: Way, T: Transitions>(table: &T, noted: Option<(usize, usize)>) -> Ended
+    ensures { Says (T.view table.now W.BACKWARDS) W.BACKWARDS
+        (λ m last. IsNoted (T.view table.now W.BACKWARDS) m noted last) result }
+{
+    match noted {
+        Some((note, at)) => met_at::<W, T>(table, table.find::<W>(note), at),
+        None => Ended::Found(None),
+    }
+}
+
+/// Returns the note of a run after a cell that was read at the position.
+#[inline(always)]
+fn noted_by<W: Way, T: Transitions>(
+    table: &T,
+    cache: &T::Cache,
+    cell: usize,
+    at: usize,
+    noted: Option<(usize, usize)>,
+) -> Option<(usize, usize)>
+    requires cache { (T.view table.now W.BACKWARDS).IsCache cache.now }
+    ensures { (m : Machine) (t : State) (found : Option (ℕ × ℕ))
+        → LeadsTo ((T.view table.now W.BACKWARDS).HasState cache.now m)
+        (T.view table.now W.BACKWARDS).leaps cell t
+        → IsNoted (T.view table.now W.BACKWARDS) m noted found
+        → IsNoted (T.view table.now W.BACKWARDS) m result (best_at at t.matched found) }
+{
+    if cell >= MET {
+        return Some((table.note::<W>(cache, row_of(cell)), at));
+    }
+    noted
+}
+
+/// Returns the note of a run over a piece: by the row that it noted last, or else the earlier note.
+#[inline(always)]
+fn note_of<W: Way, T: Transitions>(
+    table: &T,
+    cache: &T::Cache,
+    last: Option<(usize, usize)>,
+    noted: Option<(usize, usize)>,
+) -> Option<(usize, usize)>
+    requires cache { (T.view table.now W.BACKWARDS).IsCache cache.now }
+    ensures { (m : Machine) (before found : Option (ℕ × ℕ))
+        → IsFound (T.view table.now W.BACKWARDS) cache.now m last before found
+        → IsNoted (T.view table.now W.BACKWARDS) m noted before
+        → IsNoted (T.view table.now W.BACKWARDS) m result found }
+{
+    match last {
+        Some((row, at)) => Some((table.note::<W>(cache, row), at)),
+        None => noted,
+    }
+}
+
+/// Returns the position up to which a search reads before it looks whether it rests.
+#[inline(always)]
+fn reach<W: Way, T: Transitions>(table: &T, at: usize, request: &Request) -> usize
+    requires left { 0 < span W.BACKWARDS at request.now.end }
+    requires rests { request.now.extent.may_rest ≡ true → W.BACKWARDS ≡ false }
+    ensures left { 0 < span W.BACKWARDS at result }
+    ensures on { IsOn W.BACKWARDS result request.now.end }
+{
+    if !request.extent.may_rest {
+        return request.end;
+    }
+    let look = table.next_look(at, request.extent.rest_from);
+    look.max(at.saturating_add(1)).min(request.end)
+}
+
+/// Runs over a piece up to a byte whose cell needs a look. The piece begins at the position
+/// `start`. Returns the place of that byte, and how the search stands there.
+#[inline(always)]
+fn read<W: Way, T: Transitions>(
+    table: &T,
+    cache: &mut T::Cache,
+    request: &Request,
+    piece: &[u8],
+    start: usize,
+    stand: Stand,
+) -> (usize, Stand)
+    ghost origin: { Origin T.Cache }
+    requires at { IsAt (T.view table.now W.BACKWARDS) W.BACKWARDS origin request.now cache.old
+        (start + first_of W.BACKWARDS (length piece.now)) stand }
+    requires bound { IsBounded W.BACKWARDS origin.seen request.now.end }
+    requires piece { piece.now ≡ slice_range origin.seen.content start (start + length piece.now) }
+    requires within { LiesWithin W.BACKWARDS start (length piece.now) request.now.end }
+    requires fits { start + length piece.now ≤ usize.MAX }
+    ensures read { result.0 ≤ length piece.now }
+    ensures at { IsAt (T.view table.now W.BACKWARDS) W.BACKWARDS origin request.now cache.new
+        (start + result.0) result.1 }
+{
+    let (place, there) = table.run::<W>(cache, piece, start, stand.row, request.extent);
+    let row = there.row;
+    let noted = note_of::<W, T>(table, cache, there.noted, stand.noted);
+    (place, Stand { row, noted })
+}
+
+/// Reads the byte next to the position, whatever its cell. If it may rest, the search does so after
+/// that byte.
+#[inline(always)]
+fn step<W: Way, T: Transitions>(
+    table: &T,
+    cache: &mut T::Cache,
+    request: &Request,
+    byte: u8,
+    at: usize,
+    stand: Stand,
+) -> Progress
+    ghost origin: { Origin T.Cache }
+    requires at { IsAt (T.view table.now W.BACKWARDS) W.BACKWARDS origin request.now cache.old at stand }
+    requires next { IsNext W.BACKWARDS origin.seen request.now.end at byte }
+    requires rests { request.now.extent.may_rest ≡ true → W.BACKWARDS ≡ false }
+    requires fits { W.BACKWARDS ≡ false → at < usize.MAX }
+    ensures { IsLeg (T.view table.now W.BACKWARDS) W.BACKWARDS origin request.now cache.new
+        (next_of W.BACKWARDS at) result }
+{
+    let read = step_on::<W>(at);
+    let cell = match table.next::<W>(cache, stand.row, byte) {
+        Ok(cell) => cell,
+        Err(refusal) => {
+            let ended = Ended::GaveUp(at, refusal.is_memory());
+            return Progress::Over(Reading { ended, read: at });
+        }
+    };
+    if cell == QUIT {
+        let ended = Ended::Quit(byte, offset(at, W::BACKWARDS));
+        return Progress::Over(Reading { ended, read });
+    }
+    let noted = noted_by::<W, T>(table, cache, cell, at, stand.noted);
+    if has_died(cell) {
+        let ended = told::<W, T>(table, noted);
+        return Progress::Over(Reading { ended, read });
+    }
+    let extent = request.extent;
+    if extent.earliest && noted.is_some() {
+        let ended = told::<W, T>(table, noted);
+        return Progress::Over(Reading { ended, read });
+    }
+    let row = row_of(cell);
+    if extent.may_rest
+        && at >= extent.rest_from
+        && noted.is_none()
+        && table.is_idle::<W>(cache, row)
+    {
+        let ended = Ended::Idle(read);
+        return Progress::Over(Reading { ended, read });
+    }
+    Progress::Through(Stand { row, noted })
+}
+
+/// Runs over the chunks from where the search begins to where it ends.
+#[inline(always)]
+fn cross<W: Way, T: Transitions, C: Cursor>(
+    table: &T,
+    cache: &mut T::Cache,
+    input: &mut Input<C>,
+    request: &Request,
+    begin: Stand,
+) -> Progress
+    ghost origin: { Origin T.Cache }
+    requires at { IsAt (T.view table.now W.BACKWARDS) W.BACKWARDS origin request.now cache.old
+        request.now.from begin }
+    requires seen { Keeps origin.seen input.old }
+    requires bound { IsBounded W.BACKWARDS origin.seen request.now.end }
+    requires ordered { IsOn W.BACKWARDS request.now.from request.now.end }
+    requires within { (request.now.from ≤ length origin.seen.content)
+        × (request.now.end ≤ length origin.seen.content) }
+    requires fits { length origin.seen.content ≤ usize.MAX }
+    requires rests { request.now.extent.may_rest ≡ true → W.BACKWARDS ≡ false }
+    ensures keeps { Keeps input.old input.new }
+    ensures leg { IsLeg (T.view table.now W.BACKWARDS) W.BACKWARDS origin request.now cache.new
+        request.now.end result }
+{
+    let mut stand = begin;
+    let mut at = request.from;
+    while at != request.end {
+        let until = reach::<W, T>(table, at, request);
+        let piece = piece_on::<W, C>(input, at, until);
+        let start = start::<W>(piece, at);
+        let (place, next) = read::<W, T>(table, cache, request, piece, start, stand);
+        stand = next;
+        at = start + place;
+        if left::<W>(piece, place) > 0 {
+            let byte = byte::<W>(piece, place);
+            match step::<W, T>(table, cache, request, byte, at, stand) {
+                Progress::Through(next) => {
+                    stand = next;
+                    at = step_on::<W>(at);
+                }
+                Progress::Over(reading) => return Progress::Over(reading),
+            }
+        } else if request.extent.may_rest
+            && at >= request.extent.rest_from
+            && stand.noted.is_none()
+            && table.is_idle::<W>(cache, stand.row)
+        {
+            let ended = Ended::Idle(at);
+            return Progress::Over(Reading { ended, read: at });
+        }
+    }
+    Progress::Through(stand)
+}
+
+/// Begins a search: the byte on the side that it does not read decides the start state.
+#[inline(always)]
+fn begin<W: Way, T: Transitions>(
+    table: &T,
+    cache: &mut T::Cache,
+    request: &Request,
+    beside: Option<u8>,
+) -> Progress
+    ghost origin: { Origin T.Cache }
+    requires cache { (T.view table.now W.BACKWARDS).IsCache cache.old }
+    requires begun { origin.begun ≡ cache.old }
+    requires ordered { IsOn W.BACKWARDS request.now.from request.now.end }
+    requires beside { beside ≡ beside_at (not W.BACKWARDS) (text_of 0 origin.seen) request.now.from }
+    requires small { IsByte beside }
+    requires there { IfSome beside (IsBeside (not W.BACKWARDS) origin.seen.content request.now.from) }
+    ensures { IsLeg (T.view table.now W.BACKWARDS) W.BACKWARDS origin request.now cache.new
+        request.now.from result }
+{
+    let read = request.from;
+    let cell = match table.start::<W>(cache, request.anchored, beside) {
+        Ok(cell) => cell,
+        Err(refusal) => {
+            let ended = Ended::GaveUp(read, refusal.is_memory());
+            return Progress::Over(Reading { ended, read });
+        }
+    };
+    if cell == QUIT {
+        let ended = match beside {
+            Some(byte) => Ended::Quit(byte, offset(read, !W::BACKWARDS)),
+            None => Ended::Found(None),
+        };
+        return Progress::Over(Reading { ended, read });
+    }
+    if has_died(cell) {
+        let ended = Ended::Found(None);
+        return Progress::Over(Reading { ended, read });
+    }
+    let row = row_of(cell);
+    Progress::Through(Stand { row, noted: None })
+}
+
+/// Ends a search that came to its bound. The byte beyond, or the end of what the search sees,
+/// decides whether something is found there.
+#[inline(always)]
+fn finish<W: Way, T: Transitions, C: Cursor>(
+    table: &T,
+    cache: &mut T::Cache,
+    input: &mut Input<C>,
+    request: &Request,
+    stand: Stand,
+) -> Ended
+    ghost origin: { Origin T.Cache }
+    requires at { IsAt (T.view table.now W.BACKWARDS) W.BACKWARDS origin request.now cache.old
+        request.now.end stand }
+    requires seen { Keeps origin.seen input.old }
+    requires low { origin.seen.slice.start ≤ request.now.end }
+    requires high { request.now.end ≤ slice_end origin.seen }
+    ensures keeps { Keeps input.old input.new }
+    ensures over { IsOver (T.view table.now W.BACKWARDS) W.BACKWARDS origin request.now cache.new
+        (request.now.end + 1) result }
+{
+    let end = request.end;
+    let Some(byte) = byte_beside(input, end, W::BACKWARDS) else {
+        return match table.at_end::<W>(cache, stand.row) {
+            Ok(Some(found)) => met_at::<W, T>(table, found, end),
+            Ok(None) => told::<W, T>(table, stand.noted),
+            Err(refusal) => Ended::GaveUp(end, refusal.is_memory()),
+        };
+    };
+    let cell = match table.next::<W>(cache, stand.row, byte) {
+        Ok(cell) => cell,
+        Err(refusal) => return Ended::GaveUp(end, refusal.is_memory()),
+    };
+    if cell == QUIT {
+        return Ended::Quit(byte, offset(end, W::BACKWARDS));
+    }
+    told::<W, T>(
+        table,
+        noted_by::<W, T>(table, cache, cell, end, stand.noted),
+    )
+}
+
+/// Searches in bytes of the whole content, wherever chunks are cut. Returns what was found last,
+/// and how far the search looked. If a search forwards comes to its bound, it looks at the byte
+/// there, or sees that none is.
+#[inline(always)]
+pub fn search<W: Way, T: Transitions, C: Cursor>(
+    table: &T,
+    cache: &mut T::Cache,
+    input: &mut Input<C>,
+    request: &Request,
+) -> Reading
+    ghost origin: { Origin T.Cache }
+    requires origin { origin ≡ record { seen = input.old; begun = cache.old } }
+    requires cache { (T.view table.now W.BACKWARDS).IsCache cache.old }
+    requires low { (input.old.slice.start ≤ request.now.from) × (input.old.slice.start ≤ request.now.end) }
+    requires ordered { IsOn W.BACKWARDS request.now.from request.now.end }
+    requires high { (request.now.from ≤ slice_end input.old) × (request.now.end ≤ slice_end input.old) }
+    requires rests { request.now.extent.may_rest ≡ true → W.BACKWARDS ≡ false }
+    ensures keeps { Keeps input.old input.new }
+    ensures over { IsOver (T.view table.now W.BACKWARDS) W.BACKWARDS origin request.now cache.new
+        result.read result.ended }
+{
+    content_fits(input);
+    let beside = byte_beside(input, request.from, !W::BACKWARDS);
+    let stand = match begin::<W, T>(table, cache, request, beside) {
+        Progress::Through(stand) => stand,
+        Progress::Over(reading) => return reading,
+    };
+    match cross::<W, T, C>(table, cache, input, request, stand) {
+        Progress::Through(last) => {
+            let ended = finish::<W, T, C>(table, cache, input, request, last);
+            let read = request.end + 1;
+            Reading { ended, read }
+        }
+        Progress::Over(reading) => reading,
+    }
+}
