@@ -10,13 +10,12 @@ use crate::error::TableError;
 use crate::table::Table;
 use rc_dfa::automaton::{Automaton, Direction};
 use rc_dfa::ended::{Ended, Reading};
-use rc_dfa::halves::Halves;
+use rc_dfa::halves::{Halves, Run};
 use rc_table_search::run::Extent;
 use rc_table_search::search::{Request, search};
 use rc_table_search::way;
 use rc_text::cursor::Cursor;
-use rc_text::input::{Input, high};
-use rc_text::types::Anchored;
+use rc_text::input::Input;
 use std::alloc::{AllocError, Global};
 
 /// The cache of DFA searches: it has nothing, since a search changes nothing.
@@ -114,20 +113,17 @@ impl Halves for Dense {
         &self,
         cache: &mut NoCache,
         input: &mut Input<C>,
-        anchored: Anchored,
-        from: usize,
-        earliest: bool,
-        may_rest: bool,
-        rest_from: usize,
+        run: Run,
+        rest_from: Option<usize>,
     ) -> Reading {
         let request = Request {
-            anchored,
-            from,
-            end: high(input),
+            anchored: run.anchored,
+            from: run.low,
+            end: run.high,
             extent: Extent {
-                earliest,
-                may_rest,
-                rest_from,
+                earliest: run.earliest,
+                may_rest: rest_from.is_some(),
+                rest_from: rest_from.unwrap_or(0),
             },
         };
         search::<way::Forwards, Dense, C>(self, cache, input, &request)
@@ -138,17 +134,14 @@ impl Halves for Dense {
         &self,
         cache: &mut NoCache,
         input: &mut Input<C>,
-        anchored: Anchored,
-        from: usize,
-        end: usize,
-        earliest: bool,
+        run: Run,
     ) -> Ended {
         let request = Request {
-            anchored,
-            from: end,
-            end: from,
+            anchored: run.anchored,
+            from: run.high,
+            end: run.low,
             extent: Extent {
-                earliest,
+                earliest: run.earliest,
                 may_rest: false,
                 rest_from: 0,
             },

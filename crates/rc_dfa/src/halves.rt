@@ -1,5 +1,5 @@
 //! Forward and reverse search: the trait of the DFA and the lazy DFA.
-ghost use Rattle.std.specs.Prelude.{◌≡◌, ◌+◌, ◌-◌, ◌≤◌, ℕ, Bool, Some};
+ghost use Rattle.std.specs.Prelude.{◌≡◌, ◌+◌, ◌-◌, ◌≤◌, ℕ, Bool, Some, is_some};
 ghost use Rattle.rc_text.specs.Text.{Keeps, high, low, slice_end};
 ghost use Rattle.rc_program.specs.Sought.{text_of};
 ghost use Rattle.rc_dfa.specs.Machine.{Machine, IsAsked};
@@ -10,6 +10,19 @@ use crate::ended::{Ended, Reading};
 use rc_text::cursor::Cursor;
 use rc_text::input::Input;
 use rc_text::types::Anchored;
+
+/// What a run over a text is asked for. Positions are in bytes of the whole content.
+#[derive(Clone, Copy)]
+pub struct Run {
+    /// Whether the run is anchored where it begins, and for which pattern.
+    pub anchored: Anchored,
+    /// The least position: forwards the run begins there, and backwards it ends there.
+    pub low: usize,
+    /// The greatest position: forwards the run ends there, and backwards it begins there.
+    pub high: usize,
+    /// Whether the run returns what it finds first, and not what it finds last.
+    pub earliest: bool,
+}
 
 /// The two halves of a DFA search: forwards from a start to an end, and backwards from an end to a
 /// start. The DFA has all states, the lazy DFA those that were reached so far.
@@ -27,56 +40,49 @@ pub trait Halves {
     // may have given up, out of memory or not.
     ghost GivesUp: { Self → Self.Cache → Self.Cache → ℕ → Bool → Type 0 };
 
-    /// Searches forwards from the position `from` up to the end of the input's bounds, in bytes of
-    /// the whole content. Returns what was found last. With `earliest`, it returns what was found
-    /// first, and reads nothing beyond it. With `may_rest`, the search may return at a position
-    /// where nothing is under way. `rest_from` is a hint: before that position it should read on
-    /// all the same. How far it looked is told with how it ended.
+    /// Runs forwards, up to the end of the input's bounds. If it is to return what it finds first, it
+    /// reads nothing beyond that. If there is a `rest_from`, the run may also return at a position
+    /// where nothing is under way. That position is a hint: before it the run should read on all the
+    /// same. How far it looked is told with how it ended.
     fn run_forwards<C: Cursor>(
         &self,
         cache: &mut Self::Cache,
         input: &mut Input<C>,
-        anchored: Anchored,
-        from: usize,
-        earliest: bool,
-        may_rest: bool,
-        rest_from: usize,
+        run: Run,
+        rest_from: Option<usize>,
     ) -> Reading
         requires cache { IsCache self.now cache.old }
-        requires low { low input.old ≤ from }
-        requires high { from ≤ high input.old }
+        requires low { low input.old ≤ run.low }
+        requires ordered { run.low ≤ run.high }
+        requires high { run.high ≡ high input.old }
         ensures cache { IsCache self.now cache.new }
         ensures keeps { Keeps input.old input.new }
-        ensures ended { (m n : Machine) → AreOf self.now m n → IsAsked m anchored
-            → HasEndedBelow m (text_of m.setting.terminator input.old)
-            (high input.old) from anchored earliest may_rest result.ended result.read }
-        ensures spends { Spends self.now cache.old cache.new (high input.old - from + 2) }
+        ensures ended { (m n : Machine) → AreOf self.now m n → IsAsked m run.anchored
+            → HasEndedBelow m (text_of m.setting.terminator input.old) (high input.old) run.low
+            run.anchored run.earliest (is_some rest_from) result.ended result.read }
+        ensures spends { Spends self.now cache.old cache.new (high input.old - run.low + 2) }
         ensures gives_up { (memory : Bool) → gave_up result.ended ≡ Some memory
-            → GivesUp self.now cache.old cache.new (high input.old - from + 2) memory };
+            → GivesUp self.now cache.old cache.new (high input.old - run.low + 2) memory };
 
-    /// Searches backwards from the position `end` down to `from`, in bytes of the whole content.
-    /// Returns the least position at which something was found; with `earliest`, the first one.
+    /// Runs backwards. What it finds last is what it finds at the least position.
     fn run_backwards<C: Cursor>(
         &self,
         cache: &mut Self::Cache,
         input: &mut Input<C>,
-        anchored: Anchored,
-        from: usize,
-        end: usize,
-        earliest: bool,
+        run: Run,
     ) -> Ended
         requires cache { IsCache self.now cache.old }
-        requires low { low input.old ≤ from }
-        requires ordered { from ≤ end }
-        requires high { end ≤ high input.old }
+        requires low { low input.old ≤ run.low }
+        requires ordered { run.low ≤ run.high }
+        requires high { run.high ≤ high input.old }
         ensures cache { IsCache self.now cache.new }
         ensures keeps { Keeps input.old input.new }
-        ensures ended { (m n : Machine) → AreOf self.now m n → IsAsked n anchored
-            → HasEndedDown n (text_of n.setting.terminator input.old) from end anchored earliest
-            result }
-        ensures spends { Spends self.now cache.old cache.new (high input.old - from + 2) }
+        ensures ended { (m n : Machine) → AreOf self.now m n → IsAsked n run.anchored
+            → HasEndedDown n (text_of n.setting.terminator input.old) run.low run.high run.anchored
+            run.earliest result }
+        ensures spends { Spends self.now cache.old cache.new (high input.old - run.low + 2) }
         ensures gives_up { (memory : Bool) → gave_up result ≡ Some memory
-            → GivesUp self.now cache.old cache.new (high input.old - from + 2) memory };
+            → GivesUp self.now cache.old cache.new (high input.old - run.low + 2) memory };
 
     ghost spends_nothing: { (h : Self) (a : Self.Cache) (n : ℕ) → Spends h a a n };
 

@@ -35,7 +35,8 @@ use Rattle.rc_dfa_search.specs.Leftmost.{IsLeftmost}
 use Rattle.rc_dfa_search.specs.Machines.{IsCase}
 use Rattle.rc_dfa_search.proofs.LegLemmas.{free_case}
 use Rattle.rc_dfa_search.proofs.ToldLemmas.{kept_search}
-use Rattle.rc_dfa_search.specs.Firsts.{AsksFirst, starting_at}
+use Rattle.rc_dfa_search.specs.Firsts.{starting_at}
+use Rattle.rc_dfa_search.specs.Legs.{GoesByNeedles}
 
 -- WHERE NO NEEDLE BEGINS
 
@@ -168,7 +169,7 @@ module _ (places : List Place) (text : Text) (lo hi : ℕ) where
       ((longest_law.answer_none (Here from)).0 (sym e) from (omega arith, le, λ t. refl))
 
 -- in the terms of an input
-pub as_any : (aim : Aim) (hs : List Re) (terminator : ℕ) (s : Searched) → AsksFirst aim s.anchored →
+pub as_any : (aim : Aim) (hs : List Re) (terminator : ℕ) (s : Searched) → GoesByNeedles aim s.anchored →
     search_for aim hs terminator s ≡ Any (program hs) (text_of terminator s) (low s) (high s) (low s)
 as_any aim hs terminator s goes =
     ap₂ (λ (over : Bool) (a : Anchored). let q : Search = record {
@@ -183,7 +184,7 @@ as_any aim hs terminator s goes =
 -- ONE RUN
 
 module _ (AreOf : Machine → Machine → Type 0) (aim : Aim) (hs : List Re) (terminator : ℕ) (of : AreHalvesOf AreOf aim hs terminator) (s : Searched)
-    (goes : AsksFirst aim s.anchored) (from : ℕ) (above : low s ≤ from) (below : from ≤ high s) where
+    (goes : GoesByNeedles aim s.anchored) (from : ℕ) (above : low s ≤ from) (below : from ≤ high s) where
   abbrev S : Search
   S = search_for aim hs terminator s
 
@@ -234,7 +235,7 @@ none_on places terminator over s cur keeps from at to first beyond x low lt = el
   | inr h ↦ subst (λ (q : Search). HasNoWalkFrom q x) (over_kept places terminator over s cur keeps) (beyond x h lt)
 ]
 
-module _ (aim : Aim) (hs : List Re) (terminator : ℕ) (s t : Searched) (keeps : Keeps s t) (goes : AsksFirst aim s.anchored) (lo hi : ℕ)
+module _ (aim : Aim) (hs : List Re) (terminator : ℕ) (s t : Searched) (keeps : Keeps s t) (goes : GoesByNeedles aim s.anchored) (lo hi : ℕ)
     (is_lo : lo ≡ low s) (is_hi : hi ≡ high s) where
   abbrev T : ℕ → Search
   T x = Any (program hs) (text_of terminator s) (low s) (high s) x
@@ -278,9 +279,3 @@ module _ (aim : Aim) (hs : List Re) (terminator : ℕ) (s t : Searched) (keeps :
         where
           plain : (o : Option Found) (q : Search) → IsAnswerBy aim.kind aim.earliest q o → o ≡ answer_by aim.kind q
           plain o q h = subst (λ e. IsAnswerBy aim.kind e q o) goes.late h
-
--- what is told whether or not any match would do
-pub is_first_answer : (aim : Aim) (anchored : Anchored) (s : Search) (r : Result (Option Found) MatchError) → AsksFirst aim anchored →
-    IfOk r (λ o. o ≡ answer_by aim.kind s) → IfOk r (IsAnswerBy aim.kind aim.earliest s)
-is_first_answer aim anchored s (Ok o) goes h = subst (λ e. IsAnswerBy aim.kind e s o) (sym goes.late) h
-is_first_answer aim anchored s (Err e) goes h = tt

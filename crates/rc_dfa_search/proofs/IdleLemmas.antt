@@ -11,7 +11,7 @@ use Rattle.rc_walks.specs.Walks.{Pair, HasNoWalk}
 use Rattle.rc_walks.specs.Tries.{walk_by}
 use Rattle.rc_walks.proofs.TryLemmas.{walk_by_finds}
 use Rattle.rc_program.specs.Text.{Text}
-use Rattle.rc_program.specs.Program.{place_at, program, ways, is_match_place}
+use Rattle.rc_program.specs.Program.{place_at, ways, is_match_place}
 use Rattle.rc_program.specs.Answer.{Search, HasNoWalkFrom, next_of, ends}
 use Rattle.rc_program.specs.Laws.{IsClosed}
 use Rattle.rc_program.proofs.WayLemmas.{same_pair}
@@ -30,11 +30,11 @@ use Rattle.rc_dfa_reach.proofs.TableReachLemmas.{table_reach_law}
 use Rattle.rc_idle.specs.Idle.{LeadOn}
 use Rattle.rc_idle.proofs.IdleLemmas.{idle_law}
 use Rattle.rc_dfa_search.specs.declared.search.Aim.{Aim}
-use Rattle.rc_dfa_search.specs.declared.guarded.Leg.TheVariants as legs
+use Rattle.rc_dfa_search.specs.declared.needles.Leg.TheVariants as legs
 use Rattle.rc_dfa_search.specs.Aims.{AreHalvesOf, search_for}
-use Rattle.rc_dfa_search.specs.Firsts.{AsksFirst}
 use Rattle.rc_dfa_search.specs.Machines.{IsCase}
 use Rattle.rc_dfa_search.specs.Reaches.{HasRunBelow, NoneBeginBelow}
+use Rattle.rc_dfa_search.specs.Legs.{GoesByNeedles}
 use Rattle.rc_dfa_search.proofs.CaseLemmas.{ahead_direction, ahead_machine, ahead_places, ahead_terminator, case_closed, only_is}
 use Rattle.rc_dfa_search.proofs.FirstLemmas.{inside_from}
 use Rattle.rc_dfa_search.proofs.LegLemmas.{free_case}
@@ -91,14 +91,14 @@ module _ (hs : List Re) (kind : MatchKind) (m n : Machine) (t : Search) (c : IsC
 -- FROM REST TO REST
 
 module _ (AreOf : Machine → Machine → Type 0) (aim : Aim) (hs : List Re) (terminator : ℕ) (of : AreHalvesOf AreOf aim hs terminator) (s : Searched)
-    (goes : AsksFirst aim s.anchored) (preferred : aim.kind ≡ leftmost_first) (ordered : low s ≤ high s) where
+    (goes : GoesByNeedles aim s.anchored) (preferred : aim.kind ≡ leftmost_first) (ordered : low s ≤ high s) where
   abbrev Z : Search
   Z = search_for aim hs terminator s
 
   pub idle_first : NoneBeginBelow Z (low s) (low s)
   idle_first t in2 agrees z above lt = let lo = agrees.lo in absurd (omega (arith, above, lt, lo))
 
-  pub idle_next : (at i q : ℕ) → low s ≤ at → at ≤ high s → at ≤ i → i ≤ high s → NoneBeginBelow Z at at → HasRunBelow of.ahead Z.text Z.hi at q (legs.Rested i) →
+  pub idle_next : (at i q : ℕ) → low s ≤ at → at ≤ high s → at ≤ i → i ≤ high s → NoneBeginBelow Z at at → HasRunBelow of.ahead Z.text Z.hi at false q (legs.Rested i) →
       NoneBeginBelow Z i i
   idle_next at i q above below on high none h t in2 agrees z low lt =
       ⊎_elim

@@ -1,6 +1,5 @@
 -- From needle to needle, where any match is enough.
-use Rattle.std.proofs.Common.{◌≡◌, ◌∙◌, ℕ, ◌<◌, ◌≤◌, ◌&&◌, Bool, true, false, true≢false, List, Option, Some, None, Result, Ok, Err, IfOk, IsTrue, not, nat_lt, nat_le, if◌then◌else◌, inl, sym, subst, ap, ap₂, refl, arith}
-use Rattle.std.proofs.lemmas.Bool.{and_parts, ltb-true, leb-true}
+use Rattle.std.proofs.Common.{◌≡◌, ◌∙◌, ◌⊎◌, ℕ, ◌<◌, ◌≤◌, ◌&&◌, Bool, true, false, true≢false, List, Option, Some, None, Result, Ok, Err, IfOk, IsTrue, not, sym, subst, ap, ap₂, refl, arith}
 use Rattle.std.proofs.lemmas.Option.{none-some}
 use Rattle.rc_text.specs.Found.{Found}
 use Rattle.rc_text.specs.Text.{Searched, Keeps, low, high}
@@ -12,31 +11,25 @@ use Rattle.rc_program.specs.Text.{Text}
 use Rattle.rc_program.specs.Program.{place_at}
 use Rattle.rc_program.specs.Answer.{Search, HasNoWalkFrom, anywhere, ends, is_anchored, last_of, next_of, only, pattern_at}
 use Rattle.rc_program.specs.Greatest.{HasNoSpan, IsSpelledIn}
-use Rattle.rc_program.specs.Sought.{anchoring_of, text_of}
+use Rattle.rc_program.specs.Sought.{anchoring_of}
 use Rattle.rc_program.proofs.AnswerLemmas.{answer_law, match_place_is, walk_ends}
 use Rattle.rc_program.proofs.GreatestLemmas.{no_answer_no_span}
 use Rattle.rc_program.proofs.KindLemmas.{kinds_law, missing_by}
 use Rattle.rc_determinize.specs.States.{State}
 use Rattle.rc_program.specs.Kinds.{IsAnswerBy, IsAnswerWhere, answer_by, is_early}
 use Rattle.rc_text.specs.declared.types.MatchKind.{MatchKind}
-use Rattle.rc_dfa.specs.Machine.{Machine, IsAsked}
+use Rattle.rc_dfa.specs.Machine.{Machine}
 use Rattle.rc_dfa.specs.Runs.{RunEnd, met_last, stopped_at, idle_at, EndsSo, at_bound, dead, early, quit, rests, SearchEnds, ran, unread}
-use Rattle.rc_dfa.specs.Ended.{HasEnded}
-use Rattle.rc_dfa.specs.declared.ended.Ended.{Ended}
-use Rattle.rc_dfa.specs.declared.ended.Ended.TheVariants.{Found as Finds, Idle, Quit, GaveUp}
 use Rattle.rc_dfa_search.specs.declared.search.Aim.{Aim}
 use Rattle.rc_dfa_search.specs.Aims.{AreHalvesOf, search_for}
+use Rattle.rc_dfa_search.specs.Ends.{Asks}
 use Rattle.rc_dfa_search.specs.Legs.{GoesByNeedles}
-use Rattle.rc_dfa_search.specs.Leftmost.{IsLeftmost}
 use Rattle.rc_dfa_search.specs.Machines.{IsCase}
 use Rattle.rc_dfa_search.specs.Rests.{GivesToo, StartsGive}
 use Rattle.rc_dfa_search.proofs.LegLemmas.{free_case}
 use Rattle.rc_dfa_search.proofs.NeedleLemmas as needle
 use Rattle.rc_dfa_search.proofs.RestLemmas.{rest_law}
 use Rattle.rc_dfa_search.proofs.ToldLemmas.{kept_search}
-use Rattle.rc_dfa_search.specs.Jumps.{ComesOn, GoesEarly, Tells, idle_hint, hint_of}
-use Rattle.rc_dfa_search.specs.declared.early.Hint.{Hint}
-use Rattle.rc_dfa_search.specs.declared.early.Hint.TheVariants.{Here, Later}
 
 -- a span that is spelled is enough, where any is
 spelled_may : (kind : MatchKind) (earliest : Bool) (s : Search) (m : Found) → is_early earliest s ≡ true → IsSpelledIn s m → IsAnswerBy kind earliest s (Some m)
@@ -61,51 +54,11 @@ late : (m : Machine) (t : Text) (hi from : ℕ) (e : RunEnd) → last_met e ≡ 
 late m t hi from e none (ran first may begins so) = ran first may begins (late_so m t hi from first e none so)
 late m t hi from e none (unread p at may) = unread p at may
 
-module _ (hs : List Re) (kind : MatchKind) (left : IsLeftmost kind) (m n : Machine) (s : Search) (case : IsCase hs kind m n No s) (from : ℕ) (above : s.lo ≤ from) where
-  idle_tells : (i : ℕ) → SearchEnds m s.text s.hi from No true (idle_at i) → Tells kind m s from (idle_hint i from s.hi)
-  idle_tells i h = go (nat_lt from i && nat_le i s.hi)
-    where
-      go : (b : Bool) → Tells kind m s from (if b then Later i else Here)
-      go true = (rest_law.rests hs kind m n s from i true left case above h).2
-      go false = tt
-
-  ended_tells : (e : Ended) → HasEnded m s.text s.hi from No true true e → IfOk (hint_of e from s.hi) (Tells kind m s from)
-  ended_tells (Finds None) h = rest_law.met hs kind m n s from None left case above (late m s.text s.hi from (met_last None) refl h)
-  ended_tells (Finds (Some met)) h = tt
-  ended_tells (Idle i) h = idle_tells i h.1
-  ended_tells (Quit b p) h = tt
-  ended_tells (GaveUp p memory) h = tt
-
-ended_on : (e : Ended) (from hi : ℕ) → IfOk (hint_of e from hi) (ComesOn from hi)
-ended_on (Finds None) from hi = tt
-ended_on (Finds (Some met)) from hi = tt
-ended_on (Idle i) from hi = go (nat_lt from i && nat_le i hi) refl
-  where
-    go : (b : Bool) → (nat_lt from i && nat_le i hi) ≡ b → ComesOn from hi (if b then Later i else Here)
-    go true e = let p = and_parts (nat_lt from i) (nat_le i hi) e in (ltb-true from i p.0, leb-true i hi p.1)
-    go false e = tt
-ended_on (Quit b p) from hi = tt
-ended_on (GaveUp p memory) from hi = tt
-
--- in code
-module _ (e : Ended) (from bound : ℕ) (leg : Result Hint MatchError) (is : leg ≡ hint_of e from bound) where
-  pub leg_on : IfOk leg (ComesOn from bound)
-  leg_on = subst (λ r. IfOk r (ComesOn from bound)) (sym is) (ended_on e from bound)
-
-  module _ (AreOf : Machine → Machine → Type 0) (aim : Aim) (hs : List Re) (terminator : ℕ) (of : AreHalvesOf AreOf aim hs terminator) (s : Searched)
-      (at_bound : bound ≡ high s) (goes : GoesByNeedles aim s.anchored) (above : low s ≤ from) (below : from ≤ bound)
-      (ends : (m n : Machine) → AreOf m n → IsAsked m No → HasEnded m (text_of m.setting.terminator s) (high s) from No true true e) where
-    ended : HasEnded of.ahead (text_of terminator s) (high s) from No true true e
-    ended =
-        let ms = of.machines in
-        subst (λ x. HasEnded of.ahead (text_of x s) (high s) from No true true e) (ap (λ (m : Machine). m.setting.terminator) ms.ahead)
-        (ends of.ahead of.back of.are_of tt)
-
-    pub leg_tells : IfOk leg (Tells aim.kind of.ahead (search_for aim hs terminator s) from)
-    leg_tells =
-        let case = free_case AreOf aim hs terminator s of (omega (arith, above, below, at_bound)) goes.free in
-        subst (λ r. IfOk r (Tells aim.kind of.ahead (search_for aim hs terminator s) from)) (sym (is ∙ ap (hint_of e from) at_bound))
-        (ended_tells hs aim.kind goes.kind of.ahead of.back (search_for aim hs terminator s) case from above e ended)
+-- whether or not it was to end at the first match
+pub not_early : (m : Machine) (t : Text) (hi from : ℕ) (earliest : Bool) (e : RunEnd) → last_met e ≡ None → SearchEnds m t hi from No earliest e →
+    SearchEnds m t hi from No false e
+not_early m t hi from true e none h = late m t hi from e none h
+not_early m t hi from false e none h = h
 
 -- FROM WHERE ON
 
@@ -143,7 +96,7 @@ module _ (s : Search) (free : s.anchoring ≡ anywhere) (x : ℕ) (low : s.lo �
 -- THE MATCH
 
 module _ (AreOf : Machine → Machine → Type 0) (aim : Aim) (hs : List Re) (terminator : ℕ) (of : AreHalvesOf AreOf aim hs terminator) (s : Searched)
-    (goes : GoesEarly aim s.anchored) where
+    (early : aim.earliest ≡ true) (goes : GoesByNeedles (record aim { earliest = false }) s.anchored) where
   abbrev S : Search
   S = search_for aim hs terminator s
 
@@ -154,21 +107,18 @@ module _ (AreOf : Machine → Machine → Type 0) (aim : Aim) (hs : List Re) (te
   abbrev pub late_of : AreHalvesOf AreOf Late hs terminator
   late_of = record { ahead = of.ahead; back = of.back; are_of = of.are_of; machines = of.machines; counted = of.counted; few = of.few }
 
-  abbrev pub late_goes : GoesByNeedles Late s.anchored
-  late_goes = record { kind = goes.kind; late = refl; all = goes.all; free = goes.free }
-
   nothing_may : answer_by aim.kind S ≡ None → IsAnswerBy aim.kind aim.earliest S None
   nothing_may e = (missing_by aim.kind aim.earliest S).1 e
 
   -- a search without a position
-  pub void_may : high s < low s → IsAnswerBy aim.kind aim.earliest S None
-  void_may void = nothing_may (sym (needle.none_void AreOf Late hs terminator late_of s (inl void)))
+  pub void_may : (high s < low s) ⊎ (¬ Asks aim.patterns s.anchored) → IsAnswerBy aim.kind aim.earliest S None
+  void_may void = nothing_may (sym (needle.none_void AreOf Late hs terminator late_of s void))
 
   module _ (lo hi : ℕ) (is_lo : lo ≡ low s) (is_hi : hi ≡ high s) (ordered : lo ≤ hi) where
     -- no start gives anything
     pub none_may : StartsGive aim.kind of.ahead S lo None → IsAnswerBy aim.kind aim.earliest S None
     none_may given =
-        nothing_may (sym (needle.none_given AreOf Late hs terminator late_of s late_goes lo hi is_lo is_hi ordered (subst (λ x. StartsGive aim.kind of.ahead S x None) is_lo given)))
+        nothing_may (sym (needle.none_given AreOf Late hs terminator late_of s goes lo hi is_lo is_hi ordered (subst (λ x. StartsGive aim.kind of.ahead S x None) is_lo given)))
 
     module _ (from : ℕ) (above : lo ≤ from) (below : from ≤ hi) (given : GivesToo aim.kind of.ahead S from lo) where
       case : IsCase hs aim.kind of.ahead of.back No S
@@ -176,7 +126,7 @@ module _ (AreOf : Machine → Machine → Type 0) (aim : Aim) (hs : List Re) (te
 
       answers_on : (o : Option Found) → IsAnswerBy aim.kind aim.earliest (record S { lo = from }) o → IsAnswerBy aim.kind aim.earliest S o
       answers_on (Some m) h =
-          spelled_may aim.kind aim.earliest S m (ap₂ (λ a b. a && not b) goes.early goes.all)
+          spelled_may aim.kind aim.earliest S m (ap₂ (λ a b. a && not b) early goes.all)
           (spelled_before S (ap anchoring_of goes.free) from (omega (arith, above, is_lo)) m (kinds_law.spelled aim.kind aim.earliest (record S { lo = from }) m h))
       answers_on None h =
           let none = no_answer_no_span (record S { lo = from }) goes.all

@@ -14,7 +14,7 @@ use Rattle.rc_text.specs.declared.types.MatchKind.{MatchKind}
 use Rattle.rc_text.specs.declared.types.MatchError as error
 use Rattle.rc_pattern.specs.Re.{Re}
 use Rattle.rc_program.specs.Answer.{Search, Anchoring, HasNoWalkFrom}
-use Rattle.rc_program.specs.Kinds.{answer_by}
+use Rattle.rc_program.specs.Kinds.{IsAnswerBy, answer_by}
 use Rattle.rc_program.specs.Program.{Place, program}
 use Rattle.rc_program.specs.Sought.{anchoring_of, text_of}
 use Rattle.rc_program.specs.Spells.{Stands}
@@ -41,18 +41,19 @@ use Rattle.rc_dfa.specs.declared.ended.Met.{Met}
 use Rattle.rc_dfa_reach.proofs.RunReachLemmas.{run_reach_law}
 use Rattle.rc_dfa_reach.proofs.TableReachLemmas.{look_same, table_reach_law}
 use Rattle.rc_dfa_search.specs.declared.search.Aim.{Aim}
-use Rattle.rc_dfa_search.specs.declared.guarded.Leg.{Leg}
-use Rattle.rc_dfa_search.specs.declared.guarded.Leg.TheVariants as legs
+use Rattle.rc_dfa_search.specs.declared.needles.Leg.{Leg}
+use Rattle.rc_dfa_search.specs.declared.needles.Leg.TheVariants as legs
 use Rattle.rc_dfa_search.specs.Aims.{AreHalvesOf, is_early, search_for}
 use Rattle.rc_dfa_search.specs.Ends.{HasMetDown, told_of}
-use Rattle.rc_dfa_search.specs.Firsts.{AsksFirst, starting_at}
+use Rattle.rc_dfa_search.specs.Firsts.{starting_at}
 use Rattle.rc_dfa_search.specs.Leftmost.{IsRaisedBy}
-use Rattle.rc_dfa_search.specs.Legs.{HasRun, IsGiven, leg_of}
+use Rattle.rc_dfa_search.specs.Legs.{GoesByNeedles, HasRun, IsGiven, leg_of}
 use Rattle.rc_dfa_search.specs.Machines.{IsCase}
 use Rattle.rc_dfa_search.specs.Reaches.{GivesBelow, HasRunBelow, IsAnswerBelow, IsGivenBelow, NoneBeginBelow}
 use Rattle.rc_dfa_search.specs.Rests.{GivesToo, HasNoWalkBetween}
 use Rattle.rc_dfa_search.proofs.BeginLemmas.{case_here, found_here, may as may_here, none_first as none_first_near}
 use Rattle.rc_dfa_search.proofs.LeftmostLemmas.{leftmost_law}
+use Rattle.rc_dfa_search.proofs.JumpLemmas.{not_early}
 use Rattle.rc_dfa_search.proofs.LegLemmas.{free_case}
 use Rattle.rc_dfa_search.proofs.ReachLemmas.{itself, none_below, same_case, some_held}
 use Rattle.rc_dfa_search.proofs.RestLemmas.{given_law, rest_law, rests_between}
@@ -191,7 +192,7 @@ module _ (aim : Aim) (hs : List Re) (terminator : ℕ) (s : Searched) (t : Searc
     none_begin guards z above lt = subst (λ (q : Search). HasNoWalkFrom q z) is_other (none_by guard guards begins none_too z above lt)
 
   -- a match that begins where the first may
-  module _ (goes : AsksFirst aim s.anchored) (from : ℕ) (above : low s ≤ from) (none : HasNoWalkBetween t t.lo from) where
+  module _ (goes : GoesByNeedles aim s.anchored) (from : ℕ) (above : low s ≤ from) (none : HasNoWalkBetween t t.lo from) where
     pub found_too : (m : Found) → answer_by aim.kind (starting_at from t) ≡ Some m → answer_by aim.kind t ≡ Some m
     found_too m h =
         let keeps : Keeps other other = record { content = refl; span = refl; slice = refl; anchored = refl; earliest = refl } in
@@ -223,7 +224,7 @@ moved_agrees from s t r a = record {
 }
 
 -- the match that begins at the first start is the match
-pub first_settles : (aim : Aim) (hs : List Re) (terminator : ℕ) (s : Searched) (goes : AsksFirst aim s.anchored) (from : ℕ) → low s ≤ from →
+pub first_settles : (aim : Aim) (hs : List Re) (terminator : ℕ) (s : Searched) (goes : GoesByNeedles aim s.anchored) (from : ℕ) → low s ≤ from →
     (p q r : ℕ) → p ≤ r → q ≤ r → NoneBeginBelow (search_for aim hs terminator s) p from → (m : Found) →
     IsAnswerBelow aim.kind (starting_at from (search_for aim hs terminator s)) q (Some m) → IsAnswerBelow aim.kind (search_for aim hs terminator s) r (Some m)
 first_settles aim hs terminator s goes from above p q r le_p le_q none m here t in2 agrees =
@@ -231,7 +232,7 @@ first_settles aim hs terminator s goes from above p q r le_p le_q none m here t 
     found_too aim hs terminator s t in2 r agrees goes from above (none t in2 (agrees_less S t p r le_p agrees)) m
     (here (starting_at from t) (moved_inside from S t r (inside_of aim hs terminator s) above agrees in2) (moved_agrees from S t q (agrees_less S t q r le_q agrees)))
 
-pub first_settles_some : (aim : Aim) (hs : List Re) (terminator : ℕ) (s : Searched) (goes : AsksFirst aim s.anchored) (from : ℕ) → low s ≤ from →
+pub first_settles_some : (aim : Aim) (hs : List Re) (terminator : ℕ) (s : Searched) (goes : GoesByNeedles aim s.anchored) (from : ℕ) → low s ≤ from →
     (p q r : ℕ) → p ≤ r → q ≤ r → NoneBeginBelow (search_for aim hs terminator s) p from → (o : Option Found) → is_some o ≡ true →
     IsAnswerBelow aim.kind (starting_at from (search_for aim hs terminator s)) q o → IsAnswerBelow aim.kind (search_for aim hs terminator s) r o
 first_settles_some aim hs terminator s goes from above p q r le_p le_q none None so here = absurd (true≢false (sym so))
@@ -296,7 +297,7 @@ IsMetBelow kind s from r (Some met) = (from ≤ met.at) × (met.at ≤ s.hi)
     × IsAnswerBelow kind (starting_at from s) r (Some (let f : Found = record { pattern = met.pattern; start = from; end = met.at } in f))
 
 module _ (AreOf : Machine → Machine → Type 0) (aim : Aim) (hs : List Re) (terminator : ℕ) (of : AreHalvesOf AreOf aim hs terminator) (s : Searched)
-    (goes : AsksFirst aim s.anchored) (from : ℕ) (above : low s ≤ from) (below : from ≤ high s) where
+    (goes : GoesByNeedles aim s.anchored) (from : ℕ) (above : low s ≤ from) (below : from ≤ high s) where
   abbrev Q : Search
   Q = search_for aim hs terminator s
 
@@ -343,34 +344,35 @@ met_below_so kind s from r met pattern end h same is =
 
 -- ONE RUN
 
-leg_looks : (m : Machine) (t : Text) (hi from : ℕ) (e : Ended) (r : ℕ) → HasEndedBelow m t hi from No false true e r → IfOk (leg_of e from hi) (HasRunBelow m t hi from r)
-leg_looks m t hi from (found_last None) r h = h
-leg_looks m t hi from (found_last (Some met)) r h = h
-leg_looks m t hi from (Idle i) r h =
-    let b = rests_between m t hi from No false (idle_at i) i (run_reach_law.ends m t hi from No false (idle_at i) r h.1) refl in
+leg_looks : (m : Machine) (t : Text) (hi from : ℕ) (earliest : Bool) (e : Ended) (r : ℕ) → HasEndedBelow m t hi from No earliest true e r →
+    IfOk (leg_of e from hi) (HasRunBelow m t hi from earliest r)
+leg_looks m t hi from earliest (found_last None) r h = h
+leg_looks m t hi from earliest (found_last (Some met)) r h = h
+leg_looks m t hi from earliest (Idle i) r h =
+    let b = rests_between m t hi from No earliest (idle_at i) i (run_reach_law.ends m t hi from No earliest (idle_at i) r h.1) refl in
     let low = b.0 in
     let high = b.1 in
     let same : min (max i from) hi ≡ i = omega (arith, low, high) in
-    subst (λ k. SearchEndsBelow m t hi from No false (idle_at k) r) (sym same) h.1
-leg_looks m t hi from (Quit b p) r h = tt
-leg_looks m t hi from (GaveUp p memory) r h = tt
+    subst (λ k. SearchEndsBelow m t hi from No earliest (idle_at k) r) (sym same) h.1
+leg_looks m t hi from earliest (Quit b p) r h = tt
+leg_looks m t hi from earliest (GaveUp p memory) r h = tt
 
 -- in code
 pub leg_below : (AreOf : Machine → Machine → Type 0) (aim : Aim) (hs : List Re) (terminator : ℕ) (of : AreHalvesOf AreOf aim hs terminator) (s : Searched)
-    (e : Ended) (r from bound : ℕ) (leg : Result Leg error.MatchError) → leg ≡ leg_of e from bound → bound ≡ high s →
-    ((m n : Machine) → AreOf m n → IsAsked m No → HasEndedBelow m (text_of m.setting.terminator s) (high s) from No false true e r) →
-    IfOk leg (HasRunBelow of.ahead (text_of terminator s) (high s) from r)
-leg_below AreOf aim hs terminator of s e r from bound leg is at_bound ends =
+    (e : Ended) (r from bound : ℕ) (earliest : Bool) (leg : Result Leg error.MatchError) → leg ≡ leg_of e from bound → bound ≡ high s →
+    ((m n : Machine) → AreOf m n → IsAsked m No → HasEndedBelow m (text_of m.setting.terminator s) (high s) from No earliest true e r) →
+    IfOk leg (HasRunBelow of.ahead (text_of terminator s) (high s) from earliest r)
+leg_below AreOf aim hs terminator of s e r from bound earliest leg is at_bound ends =
     let ms = of.machines in
-    subst (λ o. IfOk o (HasRunBelow of.ahead (text_of terminator s) (high s) from r)) (sym (is ∙ ap (leg_of e from) at_bound))
-    (leg_looks of.ahead (text_of terminator s) (high s) from e r
-    (subst (λ x. HasEndedBelow of.ahead (text_of x s) (high s) from No false true e r) (ap (λ (m : Machine). m.setting.terminator) ms.ahead)
+    subst (λ o. IfOk o (HasRunBelow of.ahead (text_of terminator s) (high s) from earliest r)) (sym (is ∙ ap (leg_of e from) at_bound))
+    (leg_looks of.ahead (text_of terminator s) (high s) from earliest e r
+    (subst (λ x. HasEndedBelow of.ahead (text_of x s) (high s) from No earliest true e r) (ap (λ (m : Machine). m.setting.terminator) ms.ahead)
     (ends of.ahead of.back of.are_of tt)))
 
 -- FROM NEEDLE TO NEEDLE
 
 module _ (AreOf : Machine → Machine → Type 0) (aim : Aim) (hs : List Re) (terminator : ℕ) (of : AreHalvesOf AreOf aim hs terminator) (s : Searched)
-    (goes : AsksFirst aim s.anchored) (ordered : low s ≤ high s) where
+    (goes : GoesByNeedles aim s.anchored) (ordered : low s ≤ high s) where
   abbrev Z : Search
   Z = search_for aim hs terminator s
 
@@ -387,32 +389,37 @@ module _ (AreOf : Machine → Machine → Type 0) (aim : Aim) (hs : List Re) (te
     above_too : (x : ℕ) → low s ≤ x → t.lo ≤ x
     above_too x le = let lo = agrees.lo in omega (arith, lo, le)
 
-    run_too : (from q : ℕ) → from ≤ high s → q ≤ r → (leg : Leg) → HasRunBelow of.ahead Z.text Z.hi from q leg → HasRun of.ahead t.text t.hi from leg
-    run_too from q below le (legs.Ended None) h =
-        table_reach_law of.ahead Z t from No false (met_last None) q within in2 below h (agrees_less Z t q r le agrees)
-    run_too from q below le (legs.Ended (Some met)) h =
-        (h.0, h.1, table_reach_law of.ahead Z t from No false (met_last (Some (h.0, met.at))) q within in2 below h.2 (agrees_less Z t q r le agrees))
-    run_too from q below le (legs.Rested i) h =
-        table_reach_law of.ahead Z t from No false (idle_at i) q within in2 below h (agrees_less Z t q r le agrees)
+    run_too : (from q : ℕ) (earliest : Bool) → from ≤ high s → q ≤ r → (leg : Leg) → HasRunBelow of.ahead Z.text Z.hi from earliest q leg →
+        HasRun of.ahead t.text t.hi from earliest leg
+    run_too from q earliest below le (legs.Ended None) h =
+        table_reach_law of.ahead Z t from No earliest (met_last None) q within in2 below h (agrees_less Z t q r le agrees)
+    run_too from q earliest below le (legs.Ended (Some met)) h =
+        (h.0, h.1, table_reach_law of.ahead Z t from No earliest (met_last (Some (h.0, met.at))) q within in2 below h.2 (agrees_less Z t q r le agrees))
+    run_too from q earliest below le (legs.Rested i) h =
+        table_reach_law of.ahead Z t from No earliest (idle_at i) q within in2 below h (agrees_less Z t q r le agrees)
 
     jumped_too : (at from : ℕ) → GivesToo aim.kind of.ahead t at t.lo → at ≤ from → from ≤ t.hi → HasNoWalkBetween t at from → GivesToo aim.kind of.ahead t from t.lo
     jumped_too at from carried le high none o g = carried o (rest_law.jumps hs aim.kind of.ahead of.back t at from goes.kind case_too le high none o g)
 
-    rested_too : (from i q : ℕ) → low s ≤ from → from ≤ high s → q ≤ r → GivesToo aim.kind of.ahead t from t.lo → HasRunBelow of.ahead Z.text Z.hi from q (legs.Rested i) →
-        GivesToo aim.kind of.ahead t i t.lo
-    rested_too from i q above below le carried h o g =
-        carried o ((rest_law.rests hs aim.kind of.ahead of.back t from i false goes.kind case_too (above_too from above) (run_too from q below le (legs.Rested i) h)).2 o g)
+    rested_too : (from i q : ℕ) (earliest : Bool) → low s ≤ from → from ≤ high s → q ≤ r → GivesToo aim.kind of.ahead t from t.lo →
+        HasRunBelow of.ahead Z.text Z.hi from earliest q (legs.Rested i) → GivesToo aim.kind of.ahead t i t.lo
+    rested_too from i q earliest above below le carried h o g =
+        carried o ((rest_law.rests hs aim.kind of.ahead of.back t from i earliest goes.kind case_too (above_too from above) (run_too from q earliest below le (legs.Rested i) h)).2 o g)
 
-    given_too : (from q : ℕ) → low s ≤ from → from ≤ high s → q ≤ r → GivesToo aim.kind of.ahead t from t.lo → (met : Option Met) →
-        HasRunBelow of.ahead Z.text Z.hi from q (legs.Ended met) → IsGiven aim.kind of.ahead t met
+    nothing_too : (from q : ℕ) (earliest : Bool) → low s ≤ from → from ≤ high s → q ≤ r → GivesToo aim.kind of.ahead t from t.lo →
+        HasRunBelow of.ahead Z.text Z.hi from earliest q (legs.Ended None) → IsGiven aim.kind of.ahead t None
+    nothing_too from q earliest above below le carried h =
+        carried None (rest_law.met hs aim.kind of.ahead of.back t from None goes.kind case_too (above_too from above)
+        (not_early of.ahead t.text t.hi from earliest (met_last None) refl (run_too from q earliest below le (legs.Ended None) h)))
+
+    given_too : (from q : ℕ) → low s ≤ from → from ≤ high s → q ≤ r → GivesToo aim.kind of.ahead t from t.lo → (met : Met) →
+        HasRunBelow of.ahead Z.text Z.hi from false q (legs.Ended (Some met)) → IsGiven aim.kind of.ahead t (Some met)
     unfolding run_too
-    given_too from q above below le carried None h =
-        carried None (rest_law.met hs aim.kind of.ahead of.back t from None goes.kind case_too (above_too from above) (run_too from q below le (legs.Ended None) h))
-    given_too from q above below le carried (Some met) h = (
+    given_too from q above below le carried met h = (
       h.0,
       h.1,
       carried (Some (h.0, met.at)) (rest_law.met hs aim.kind of.ahead of.back t from (Some (h.0, met.at)) goes.kind case_too (above_too from above)
-          (run_too from q below le (legs.Ended (Some met)) h).2),
+          (run_too from q false below le (legs.Ended (Some met)) h).2),
     )
 
   -- at first
@@ -433,25 +440,29 @@ module _ (AreOf : Machine → Machine → Type 0) (aim : Aim) (hs : List Re) (te
         (within_too aim hs terminator s t in2 r agrees start.from (omega (arith, low_needle, high_needle)) (omega (arith, low_needle, high_needle, far)))
         (none_begin aim hs terminator s t in2 r agrees guard at start first begins low_from low_needle high_needle far guards)
 
-    module _ (q : ℕ) (read : q ≤ r) where
-      pub rested_below : (i : ℕ) → HasRunBelow of.ahead Z.text Z.hi start.from q (legs.Rested i) → GivesBelow aim.kind of.ahead Z r i
-      rested_below i h t in2 agrees =
-          rested_too t in2 r agrees (omega (arith, above, low_from, low_needle, high_needle, far)) start.from i q (omega (arith, above, low_from)) (omega (arith, low_needle, high_needle)) read
-          (after_jump t in2 agrees) h
+    -- all give what the starts from there on give
+    pub gives_from : GivesToo aim.kind of.ahead Z start.from Z.lo
+    gives_from = after_jump Z within (itself Z r)
 
-      pub given_below : (met : Met) → HasRunBelow of.ahead Z.text Z.hi start.from q (legs.Ended (Some met)) → (met.at < r) × IsGivenBelow aim.kind of.ahead Z r met
+    module _ (q : ℕ) (read : q ≤ r) where
+      pub rested_below : (earliest : Bool) (i : ℕ) → HasRunBelow of.ahead Z.text Z.hi start.from earliest q (legs.Rested i) → GivesBelow aim.kind of.ahead Z r i
+      rested_below earliest i h t in2 agrees =
+          rested_too t in2 r agrees (omega (arith, above, low_from, low_needle, high_needle, far)) start.from i q earliest (omega (arith, above, low_from))
+          (omega (arith, low_needle, high_needle)) read (after_jump t in2 agrees) h
+
+      pub given_below : (met : Met) → HasRunBelow of.ahead Z.text Z.hi start.from false q (legs.Ended (Some met)) → (met.at < r) × IsGivenBelow aim.kind of.ahead Z r met
       given_below met h =
           let before = run_reach_law.met_before of.ahead Z.text Z.hi start.from No false h.0 met.at q h.2 in (
             omega (arith, before, read),
             λ t in2 agrees.
                 given_too t in2 r agrees (omega (arith, above, low_from, low_needle, high_needle, far)) start.from q (omega (arith, above, low_from)) (omega (arith, low_needle, high_needle)) read
-                (after_jump t in2 agrees) (Some met) h,
+                (after_jump t in2 agrees) met h,
           )
 
-      pub none_given : HasRunBelow of.ahead Z.text Z.hi start.from q (legs.Ended None) → IsGiven aim.kind of.ahead Z None
-      none_given h =
-          given_too Z within r (itself Z r) (omega (arith, above, low_from, low_needle, high_needle, far)) start.from q (omega (arith, above, low_from)) (omega (arith, low_needle, high_needle)) read
-          (after_jump Z within (itself Z r)) None h
+      pub none_given : (earliest : Bool) → HasRunBelow of.ahead Z.text Z.hi start.from earliest q (legs.Ended None) → IsGiven aim.kind of.ahead Z None
+      none_given earliest h =
+          nothing_too Z within r (itself Z r) (omega (arith, above, low_from, low_needle, high_needle, far)) start.from q earliest (omega (arith, above, low_from))
+          (omega (arith, low_needle, high_needle)) read gives_from h
 
   -- THE MATCH
 
@@ -505,3 +516,14 @@ module _ (AreOf : Machine → Machine → Type 0) (aim : Aim) (hs : List Re) (te
         (subst (λ e. HasMetDown of.back Z.text (low s) e cur.anchored (is_early aim) o) is_end
         (subst (λ x. HasMetDown of.back Z.text x end cur.anchored (is_early aim) o) is_lo
         (subst (λ (x : Text). HasMetDown of.back x lo end cur.anchored (is_early aim) o) (kept_text terminator s cur keeps) h))))
+
+-- no match begins before the search does
+pub none_yet : (s : Search) (r at : ℕ) → at ≤ s.lo → NoneBeginBelow s r at
+none_yet s r at first t in2 agrees z above lt = let lo = agrees.lo in absurd (omega (arith, above, lt, lo, first))
+
+-- what these bytes settle is the answer
+pub settled_so : (aim : Aim) (hs : List Re) (terminator : ℕ) (s : Searched) → GoesByNeedles aim s.anchored → (r : ℕ) (found : Option Found) →
+    IsAnswerBelow aim.kind (search_for aim hs terminator s) r found → IsAnswerBy aim.kind aim.earliest (search_for aim hs terminator s) found
+settled_so aim hs terminator s goes r found h =
+    let q = search_for aim hs terminator s in
+    subst (λ e. IsAnswerBy aim.kind e q found) (sym goes.late) (sym (h q (inside_of aim hs terminator s) (itself q r)))

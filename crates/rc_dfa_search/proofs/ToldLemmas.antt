@@ -1,6 +1,5 @@
 -- What one run of a half tells.
 use Rattle.std.proofs.Common.{◌≡◌, ℕ, ◌+◌, ◌<◌, ◌≤◌, Bool, true, false, true≢false, IsTrue, List, length, Option, Some, None, Result, IfOk, IfErr, sym, subst, ap, ◌∙◌, refl, arith, slice_get}
-use Rattle.std.proofs.lemmas.Result.{IfErr-weaker}
 use Rattle.rc_text.specs.Text.{Searched, Keeps, low, high}
 use Rattle.rc_text.specs.declared.types.Anchored.{Anchored}
 use Rattle.rc_text.specs.declared.types.Anchored.TheVariants.{No, Yes, Pattern}
@@ -153,9 +152,6 @@ told_fault_down hs aim m n anchored s from end early G (GaveUp p memory) c low o
 pub weaker_fault : (hs : List Re) (s : Search) (G G2 : Bool → Type 0) → ((memory : Bool) → G memory → G2 memory) → (e : error.MatchError) → IsFault hs s G e → IsFault hs s G2 e
 weaker_fault hs s G G2 f (errors.Quit b p) h = h
 weaker_fault hs s G G2 f (errors.GaveUp p memory) h = (h.0, h.1, f memory h.2)
-
-pub fault_within : {T : Type 0} → (hs : List Re) (s : Search) (G G2 : Bool → Type 0) (r : Result T error.MatchError) → ((memory : Bool) → G memory → G2 memory) → IfErr r (IsFault hs s G) → IfErr r (IsFault hs s G2)
-fault_within hs s G G2 r f h = IfErr-weaker r (IsFault hs s G) (IsFault hs s G2) (weaker_fault hs s G G2 f) h
 
 -- IN CODE
 

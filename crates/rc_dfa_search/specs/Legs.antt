@@ -1,6 +1,6 @@
 -- Only proofs use this file.
 -- Prefilters: what the runs of a search find that goes from needle to needle.
-use Rattle.std.specs.Prelude.{◌≡◌, ℕ, ◌≤◌, false, Option, Some, None, Result, Ok, Err, min, max}
+use Rattle.std.specs.Prelude.{◌≡◌, ℕ, ◌≤◌, Bool, false, Option, Some, None, Result, Ok, Err, min, max}
 use Rattle.rc_text.specs.declared.types.Anchored.{Anchored}
 use Rattle.rc_text.specs.declared.types.Anchored.TheVariants.{No}
 use Rattle.rc_text.specs.declared.types.MatchKind.{MatchKind}
@@ -14,8 +14,8 @@ use Rattle.rc_dfa.specs.declared.ended.Ended.TheVariants as endings
 use Rattle.rc_text.specs.declared.types.MatchError as error
 use Rattle.rc_text.specs.declared.types.MatchError.TheVariants as errors
 use Rattle.rc_dfa_search.specs.declared.search.Aim.{Aim}
-use Rattle.rc_dfa_search.specs.declared.guarded.Leg.{Leg}
-use Rattle.rc_dfa_search.specs.declared.guarded.Leg.TheVariants.{Ended, Rested}
+use Rattle.rc_dfa_search.specs.declared.needles.Leg.{Leg}
+use Rattle.rc_dfa_search.specs.declared.needles.Leg.TheVariants.{Ended, Rested}
 use Rattle.rc_dfa_search.specs.Laws.{pattern_met}
 use Rattle.rc_dfa_search.specs.Leftmost.{IsLeftmost}
 use Rattle.rc_dfa_search.specs.Ends.{HasMet}
@@ -38,9 +38,9 @@ leg_of (endings.Quit b p) from hi = Err (errors.Quit b p)
 leg_of (endings.GaveUp p memory) from hi = Err (errors.GaveUp p memory)
 
 -- A run from this position on ended so, or rested here.
-abbrev pub HasRun : Machine → Text → ℕ → ℕ → Leg → Type 0
-HasRun m t hi from (Ended met) = HasMet m t hi from No false met
-HasRun m t hi from (Rested i) = SearchEnds m t hi from No false (idle_at i)
+abbrev pub HasRun : Machine → Text → ℕ → ℕ → Bool → Leg → Type 0
+HasRun m t hi from earliest (Ended met) = HasMet m t hi from No earliest met
+HasRun m t hi from earliest (Rested i) = SearchEnds m t hi from No earliest (idle_at i)
 
 -- If it rested, it came on, and not past the bound.
 abbrev pub ComesOn : ℕ → ℕ → Leg → Type 0

@@ -10,5 +10,4 @@ pub mod Ends
 pub mod Rests
 pub mod Legs
 pub mod Firsts
-pub mod Jumps
 pub mod Reaches

@@ -1,6 +1,6 @@
 -- Only proofs use this file.
 -- Reaches: how many bytes settle what a DFA search finds.
-use Rattle.std.specs.Prelude.{◌≡◌, ℕ, ◌<◌, true, false, Option, Some, None, MatchOption}
+use Rattle.std.specs.Prelude.{◌≡◌, ℕ, ◌<◌, ◌≤◌, Bool, true, false, Option, Some, None, MatchOption}
 use Rattle.rc_text.specs.Found.{Found}
 use Rattle.rc_text.specs.declared.types.Anchored.{Anchored}
 use Rattle.rc_text.specs.declared.types.Anchored.TheVariants.{No}
@@ -18,11 +18,11 @@ use Rattle.rc_dfa.specs.declared.ended.Met.{Met}
 use Rattle.rc_dfa_search.specs.Leftmost.{IsLeftmost}
 use Rattle.rc_dfa_search.specs.Legs.{IsGiven}
 use Rattle.rc_dfa_search.specs.Rests.{GivesToo, HasNoWalkBetween}
-use Rattle.rc_dfa_search.specs.declared.guarded.Leg.{Leg}
-use Rattle.rc_dfa_search.specs.declared.guarded.Leg.TheVariants.{Ended, Rested}
+use Rattle.rc_dfa_search.specs.declared.needles.Leg.{Leg}
+use Rattle.rc_dfa_search.specs.declared.needles.Leg.TheVariants.{Ended, Rested}
 use Rattle.rc_dfa_search.specs.declared.search.Aim.{Aim}
-use Rattle.rc_dfa_search.specs.declared.settled.Ending.{Ending}
-use Rattle.rc_dfa_search.specs.declared.settled.Ending.TheVariants.{Nowhere, Stuck, Ends}
+use Rattle.rc_dfa_search.specs.declared.needles.Ending.{Ending}
+use Rattle.rc_dfa_search.specs.declared.needles.Ending.TheVariants.{Nowhere, Stuck, Ends}
 
 -- Each search that is the same below r has this answer.
 abbrev pub IsAnswerBelow : MatchKind → Search → ℕ → Option Found → Type 0
@@ -48,9 +48,9 @@ BeginsBy n t from end anchored start =
     (λ x. (k : ℕ) × SearchEndsDown n t from end anchored false (met_last (Some (x, k)))))
 
 -- A run from this position on ended so, or rested here, and looked at the bytes before r alone.
-abbrev pub HasRunBelow : Machine → Text → ℕ → ℕ → ℕ → Leg → Type 0
-HasRunBelow m t hi from r (Ended met) = HasMetBelow m t hi from No r met
-HasRunBelow m t hi from r (Rested i) = SearchEndsBelow m t hi from No false (idle_at i) r
+abbrev pub HasRunBelow : Machine → Text → ℕ → ℕ → Bool → ℕ → Leg → Type 0
+HasRunBelow m t hi from earliest r (Ended met) = HasEndedBelow m t hi from No earliest false (found_last met) r
+HasRunBelow m t hi from earliest r (Rested i) = SearchEndsBelow m t hi from No earliest (idle_at i) r
 
 -- In no search that is the same below r a walk begins before this position.
 abbrev pub NoneBeginBelow : Search → ℕ → ℕ → Type 0
@@ -64,8 +64,16 @@ GivesBelow kind m s r from = (t : Search) → IsInside t → AgreesBelow r s t �
 abbrev pub IsGivenBelow : MatchKind → Machine → Search → ℕ → Met → Type 0
 IsGivenBelow kind m s r met = (t : Search) → IsInside t → AgreesBelow r s t → IsGiven kind m t (Some met)
 
--- What a search from needle to needle says of the search.
-abbrev pub IsEnding : MatchKind → Machine → Search → Ending → Type 0
-IsEnding kind m s Nowhere = IsGiven kind m s None
-IsEnding kind m s Stuck = Unit {0}
-IsEnding kind m s (Ends met r) = (met.at < r) × IsGivenBelow kind m s r met
+-- What a search from needle to needle says of the search. If its runs ended at the first match that
+-- they met, the last one only says that the starts from there on give what all give.
+abbrev pub IsEnding : MatchKind → Bool → Machine → Search → Ending → Type 0
+IsEnding kind earliest m s Nowhere = IsGiven kind m s None
+IsEnding kind earliest m s Stuck = Unit {0}
+IsEnding kind earliest m s (Ends from met r) =
+    GivesToo kind m s from s.lo × (earliest ≡ false → (met.at < r) × IsGivenBelow kind m s r met)
+
+-- The run that met a match began within the bounds.
+abbrev pub BeginsWithin : ℕ → ℕ → Ending → Type 0
+BeginsWithin lo hi Nowhere = Unit {0}
+BeginsWithin lo hi Stuck = Unit {0}
+BeginsWithin lo hi (Ends from met r) = (lo ≤ from) × (from ≤ hi)

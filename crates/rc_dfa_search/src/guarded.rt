@@ -1,152 +1,32 @@
 //! Prefilters: DFA searches that go from literal to literal, if each match begins with one or
 //! contains one. Positions are in bytes of the whole content.
-ghost use Rattle.std.specs.Prelude.{◌≡◌, ◌↔◌, ◌+◌, ◌-◌, ◌*◌, ◌<◌, ◌≤◌, ℕ, false, true, List, length, IsTrue, IfOk, IfErr, IfSome};
-ghost use Rattle.std.specs.Option.{option_map};
-ghost use Rattle.rc_text.specs.Found.{half_of};
+ghost use Rattle.std.specs.Prelude.{◌≡◌, ◌<◌, ◌≤◌, true, false, ℕ, List, IfOk, IfSome, Some, option_map};
 ghost use Rattle.rc_text.specs.Bounds.{IsWithinBounds};
 ghost use Rattle.rc_text.specs.Text.{Keeps, low, high};
-ghost use Rattle.rc_text.specs.declared.types.Anchored.TheVariants.{No};
 ghost use Rattle.rc_pattern.specs.Re.{Re};
-ghost use Rattle.rc_program.specs.Kinds.{answer_by, IsAnswerBy};
+ghost use Rattle.rc_program.specs.Kinds.{IsAnswerBy};
 ghost use Rattle.rc_program.specs.Program.{program};
-ghost use Rattle.rc_program.specs.Sought.{text_of};
-ghost use Rattle.rc_literals.specs.Guard.{IsGuard};
-ghost use Rattle.rc_dfa.specs.Machine.{Machine};
-ghost use Rattle.rc_dfa_search.specs.Aims.{AreHalvesOf, search_for, cost};
-ghost use Rattle.rc_dfa_search.specs.Ends.{cost_forwards};
-ghost use Rattle.rc_dfa_search.specs.Faults.{IsFault};
+ghost use Rattle.rc_needles.specs.Needles.{find_needle, longest};
+ghost use Rattle.rc_literals.specs.Guard.{BeginsFor, IsGuard, guard_needles};
+ghost use Rattle.rc_dfa_search.specs.Aims.{AreHalvesOf, search_for};
 ghost use Rattle.rc_dfa_search.specs.Halves.{IsForwardHalf};
-ghost use Rattle.rc_dfa_search.specs.Legs.{ComesOn, GoesByNeedles, HasRun, IsGiven, leg_of};
+ghost use Rattle.rc_dfa_search.specs.Legs.{GoesByNeedles};
+ghost use Rattle.rc_dfa_search.specs.Reaches.{IsAnswerBelow, TellsReach};
 
-use crate::search::{Aim, Bounds, bounds_of, find, find_end, id_of, run_backwards, run_forwards};
-use rc_dfa::ended::{Ended, Met};
+use crate::needles::{
+    Ending, Left, goes_by_needles, seek_by_needles, settle_back, settle_by_needles,
+};
+use crate::reach::{Settled, find_settled, settle_here};
+use crate::search::{Aim, bounds_of, find, find_end, find_later, id_of};
 use rc_dfa::halves::Halves;
-use rc_literals::guard::{Guard, next_start};
+use rc_literals::guard::{Guard, Start, next_start};
 use rc_text::cursor::Cursor;
-use rc_text::input::Input;
-use rc_text::types::{Anchored, HalfMatch, Match, MatchError, MatchKind, Span};
-
-/// How far a forward run came.
-#[derive(Clone, Copy)]
-pub(crate) enum Leg {
-    /// To its end, with what it found last, if anything.
-    Ended(Option<Met>),
-    /// To this position, at which it rests: nothing was found, and nothing is under way there.
-    Rested(usize),
-}
-
-/// Whether a search goes from needle to needle. It must not be anchored, its kind must be
-/// leftmost-first or leftmost-longest, the earliest flag must be off, and no match may be passed
-/// over.
-#[inline(always)]
-pub fn goes_by_needles(aim: Aim, anchored: Anchored) -> bool
-    ensures { IsTrue result ↔ GoesByNeedles aim anchored }
-{
-    match (aim.kind, anchored) {
-        (MatchKind::LeftmostFirst | MatchKind::LeftmostLongest, Anchored::No) => {
-            !aim.earliest && !aim.passes_over
-        }
-        _ => false,
-    }
-}
-
-/// Returns how far a forward run came that began at `from`, or why it has no answer. A run rests at
-/// a position from `from` to `bound`.
-#[inline(always)]
-pub(crate) fn leg_of(ended: Ended, from: usize, bound: usize) -> Result<Leg, MatchError>
-    ensures { result ≡ leg_of ended from bound }
-{
-    match ended {
-        Ended::Found(met) => Ok(Leg::Ended(met)),
-        Ended::Idle(i) => Ok(Leg::Rested(i.max(from).min(bound))),
-        Ended::Quit(byte, offset) => Err(MatchError::Quit { byte, offset }),
-        Ended::GaveUp(offset, memory) => Err(MatchError::GaveUp { offset, memory }),
-    }
-}
-
-/// Runs forwards from the position `from` up to `bound`, and returns how far it came. The run may
-/// rest, from `rest_from` on.
-#[inline(always)]
-fn run_leg<H: Halves, C: Cursor>(
-    halves: &H,
-    cache: &mut H::Cache,
-    input: &mut Input<C>,
-    from: usize,
-    bound: usize,
-    rest_from: usize,
-) -> Result<Leg, MatchError>
-    requires cache { H.IsCache halves.now cache.old }
-    requires low { low input.old ≤ from }
-    requires bound { bound ≡ high input.old }
-    requires within { from ≤ bound }
-    requires free { input.old.anchored ≡ No }
-    ensures cache { H.IsCache halves.now cache.new }
-    ensures keeps { Keeps input.old input.new }
-    ensures leg { (aim : Aim) (hs : List Re) (terminator : ℕ)
-        (of : AreHalvesOf (H.AreOf halves.now) aim hs terminator)
-        → IfOk result (HasRun of.ahead (text_of terminator input.old) (high input.old) from) }
-    ensures on { IfOk result (ComesOn from (high input.old)) }
-    ensures fault { (aim : Aim) (hs : List Re) (terminator : ℕ)
-        → AreHalvesOf (H.AreOf halves.now) aim hs terminator
-        → IfErr result (IsFault hs (search_for aim hs terminator input.old)
-        (H.GivesUp halves.now cache.old cache.new (high input.old - from + 2))) }
-    ensures spends { H.Spends halves.now cache.old cache.new (high input.old - from + 2) }
-{
-    let run = halves.run_forwards(cache, input, Anchored::No, from, false, true, rest_from);
-    leg_of(run.ended, from, bound)
-}
-
-/// Returns the end of the match of the least start. A run begins where a match with the next needle
-/// may begin. If it rests further on, the needle after that position is next.
-#[inline(always)]
-fn seek_by_needles<H: Halves, C: Cursor>(
-    halves: &H,
-    cache: &mut H::Cache,
-    input: &mut Input<C>,
-    aim: Aim,
-    guard: Guard,
-    bounds: Bounds,
-) -> Result<Option<Met>, MatchError>
-    requires cache { H.IsCache halves.now cache.old }
-    requires goes { GoesByNeedles aim input.old.anchored }
-    requires bounds { (bounds.low ≡ low input.old) × (bounds.high ≡ high input.old)
-        × (bounds.low ≤ bounds.high) }
-    ensures cache { H.IsCache halves.now cache.new }
-    ensures keeps { Keeps input.old input.new }
-    ensures given { (hs : List Re) (terminator : ℕ)
-        (of : AreHalvesOf (H.AreOf halves.now) aim hs terminator)
-        → IsGuard (program hs) terminator guard.entry
-        → IfOk result (IsGiven aim.kind of.ahead (search_for aim hs terminator input.old)) }
-    ensures numbered { (hs : List Re) (terminator : ℕ)
-        → AreHalvesOf (H.AreOf halves.now) aim hs terminator
-        → IfOk result (λ met. IfSome met (λ m. m.pattern < length hs)) }
-    ensures fault { (hs : List Re) (terminator : ℕ)
-        → AreHalvesOf (H.AreOf halves.now) aim hs terminator
-        → IfErr result (IsFault hs (search_for aim hs terminator input.old)
-        (H.GivesUp halves.now cache.old cache.new (cost_forwards input.old))) }
-    ensures spends { H.Spends halves.now cache.old cache.new (cost_forwards input.old) }
-{
-    let mut at = bounds.low;
-    'runs: loop {
-        let Some(start) = next_start(input, guard, at, bounds.high) else {
-            return Ok(None);
-        };
-        let from = start.from;
-        match run_leg(halves, cache, input, from, bounds.high, start.needle)? {
-            Leg::Ended(met) => return Ok(met),
-            Leg::Rested(i) => {
-                if i <= from {
-                    return run_forwards(halves, cache, input, aim, from);
-                }
-                at = i;
-            }
-        }
-    }
-}
+use rc_text::input::{Input, content_fits, high, low};
+use rc_text::types::{HalfMatch, Match, MatchError};
 
 /// Returns the match of the least start, from needle to needle.
-#[inline(always)]
-fn find_by_needles<H: Halves, C: Cursor>(
+#[inline(never)]
+pub(crate) fn find_by_needles<H: Halves, C: Cursor>(
     halves: &H,
     cache: &mut H::Cache,
     input: &mut Input<C>,
@@ -155,85 +35,6 @@ fn find_by_needles<H: Halves, C: Cursor>(
 ) -> Result<Option<Match>, MatchError>
     requires cache { H.IsCache halves.now cache.old }
     requires goes { GoesByNeedles aim input.old.anchored }
-    ensures cache { H.IsCache halves.now cache.new }
-    ensures keeps { Keeps input.old input.new }
-    ensures found { (hs : List Re) (terminator : ℕ)
-        → AreHalvesOf (H.AreOf halves.now) aim hs terminator
-        → IsGuard (program hs) terminator guard.entry
-        → IfOk result (λ found. found ≡ answer_by aim.kind
-        (search_for aim hs terminator input.old)) }
-    ensures within { IfOk result (λ found. IfSome found (IsWithinBounds input.old)) }
-    ensures fault { (hs : List Re) (terminator : ℕ)
-        → AreHalvesOf (H.AreOf halves.now) aim hs terminator
-        → IfErr result (IsFault hs (search_for aim hs terminator input.old)
-        (H.GivesUp halves.now cache.old cache.new (cost input.old))) }
-    ensures spends { H.Spends halves.now cache.old cache.new (cost input.old) }
-{
-    let Some(bounds) = bounds_of(input, aim) else {
-        return Ok(None);
-    };
-    let Some(met) = seek_by_needles(halves, cache, input, aim, guard, bounds)? else {
-        return Ok(None);
-    };
-    let end = met.at.max(bounds.low).min(bounds.high);
-    let Some(first) = run_backwards(halves, cache, input, aim, bounds.low, end)? else {
-        return Ok(None);
-    };
-    let pattern = id_of(met.pattern, end)?;
-    let start = first.at.max(bounds.low).min(end);
-    Ok(Some(Match::new(pattern, Span { start, end })))
-}
-
-/// Returns the end of the match of the least start, from needle to needle, and its pattern.
-fn find_end_by_needles<H: Halves, C: Cursor>(
-    halves: &H,
-    cache: &mut H::Cache,
-    input: &mut Input<C>,
-    aim: Aim,
-    guard: Guard,
-) -> Result<Option<HalfMatch>, MatchError>
-    requires cache { H.IsCache halves.now cache.old }
-    requires goes { GoesByNeedles aim input.old.anchored }
-    ensures cache { H.IsCache halves.now cache.new }
-    ensures keeps { Keeps input.old input.new }
-    ensures found { (hs : List Re) (terminator : ℕ)
-        → AreHalvesOf (H.AreOf halves.now) aim hs terminator
-        → IsGuard (program hs) terminator guard.entry
-        → IfOk result (λ found. found ≡ option_map half_of
-        (answer_by aim.kind (search_for aim hs terminator input.old))) }
-    ensures within { IfOk result (λ found. IfSome found
-        (λ half. (low input.old ≤ half.offset) × (half.offset ≤ high input.old))) }
-    ensures fault { (hs : List Re) (terminator : ℕ)
-        → AreHalvesOf (H.AreOf halves.now) aim hs terminator
-        → IfErr result (IsFault hs (search_for aim hs terminator input.old)
-        (H.GivesUp halves.now cache.old cache.new (cost input.old))) }
-    ensures spends { H.Spends halves.now cache.old cache.new (cost input.old) }
-{
-    let Some(bounds) = bounds_of(input, aim) else {
-        return Ok(None);
-    };
-    let Some(met) = seek_by_needles(halves, cache, input, aim, guard, bounds)? else {
-        return Ok(None);
-    };
-    let end = met.at.max(bounds.low).min(bounds.high);
-    let pattern = id_of(met.pattern, end)?;
-    Ok(Some(HalfMatch::new(pattern, end)))
-}
-
-/// Returns the match that `find` returns, by needles that guard the patterns: each match begins
-/// with one of them, or contains one. The search goes from needle to needle while nothing is under
-/// way, if it isn't anchored, is leftmost, has the earliest flag off, and passes no match over.
-/// Every other search is that of `find`.
-///
-/// It fails as `find` does.
-pub fn find_guarded<H: Halves, C: Cursor>(
-    halves: &H,
-    cache: &mut H::Cache,
-    input: &mut Input<C>,
-    aim: Aim,
-    guard: Guard,
-) -> Result<Option<Match>, MatchError>
-    requires cache { H.IsCache halves.now cache.old }
     ensures cache { H.IsCache halves.now cache.new }
     ensures keeps { Keeps input.old input.new }
     ensures found { (hs : List Re) (terminator : ℕ)
@@ -241,21 +42,68 @@ pub fn find_guarded<H: Halves, C: Cursor>(
         → IsGuard (program hs) terminator guard.entry
         → IfOk result (IsAnswerBy aim.kind aim.earliest (search_for aim hs terminator input.old)) }
     ensures within { IfOk result (λ found. IfSome found (IsWithinBounds input.old)) }
-    ensures fault { (hs : List Re) (terminator : ℕ)
-        → AreHalvesOf (H.AreOf halves.now) aim hs terminator
-        → IfErr result (IsFault hs (search_for aim hs terminator input.old)
-        (H.GivesUp halves.now cache.old cache.new (cost input.old))) }
-    ensures spends { H.Spends halves.now cache.old cache.new (cost input.old) }
 {
-    if goes_by_needles(aim, input.get_anchored()) {
-        return find_by_needles(halves, cache, input, aim, guard);
+    let Some(bounds) = bounds_of(input, aim) else {
+        return Ok(None);
+    };
+    let left = Left {
+        at: bounds.low,
+        reach: bounds.low,
+        high: bounds.high,
+    };
+    match seek_by_needles(halves, cache, input, guard, usize::MAX, left, false)? {
+        Ending::Ends {
+            from: _,
+            met,
+            reach,
+        } => {
+            let settled = settle_back(halves, cache, input, aim, met, reach, bounds.high)?;
+            Ok(settled.found)
+        }
+        Ending::Stuck => find(halves, cache, input, aim),
+        Ending::Nowhere => Ok(None),
     }
-    find(halves, cache, input, aim)
 }
 
-/// Returns the end of the match that `find_guarded` returns, and its pattern. With
-/// `MatchKind::All`, that is the number of some pattern with a match that ends there. It only
-/// searches forwards, and fails as `find` does.
+/// Returns some match, from needle to needle. The input's span stays as it is.
+pub(crate) fn find_early<H: Halves, C: Cursor>(
+    halves: &H,
+    cache: &mut H::Cache,
+    input: &mut Input<C>,
+    aim: Aim,
+    guard: Guard,
+) -> Result<Option<Match>, MatchError>
+    requires cache { H.IsCache halves.now cache.old }
+    requires early { aim.earliest ≡ true }
+    requires goes { GoesByNeedles (record aim { earliest = false }) input.old.anchored }
+    ensures cache { H.IsCache halves.now cache.new }
+    ensures keeps { Keeps input.old input.new }
+    ensures found { (hs : List Re) (terminator : ℕ)
+        → AreHalvesOf (H.AreOf halves.now) aim hs terminator
+        → IsGuard (program hs) terminator guard.entry
+        → IfOk result (IsAnswerBy aim.kind aim.earliest (search_for aim hs terminator input.old)) }
+    ensures within { IfOk result (λ found. IfSome found (IsWithinBounds input.old)) }
+{
+    let Some(bounds) = bounds_of(input, aim) else {
+        return Ok(None);
+    };
+    let left = Left {
+        at: bounds.low,
+        reach: bounds.low,
+        high: bounds.high,
+    };
+    match seek_by_needles(halves, cache, input, guard, usize::MAX, left, true)? {
+        Ending::Ends { from, .. } => find_later(halves, cache, input, aim, from),
+        Ending::Stuck => find(halves, cache, input, aim),
+        Ending::Nowhere => Ok(None),
+    }
+}
+
+/// Returns the end of the match that `find` returns, and its pattern, by needles that guard the
+/// patterns: each match begins with one of them, or contains one. With `MatchKind::All`, that is the
+/// number of some pattern with a match that ends there. It only searches forwards. The search goes
+/// from needle to needle while nothing is under way, if it isn't anchored, is leftmost, has the
+/// earliest flag off, and passes no match over. Every other search is that of `find_end`.
 pub fn find_end_guarded<H: Halves, C: Cursor>(
     halves: &H,
     cache: &mut H::Cache,
@@ -273,14 +121,118 @@ pub fn find_end_guarded<H: Halves, C: Cursor>(
         (search_for aim hs terminator input.old)) }
     ensures within { IfOk result (λ found. IfSome found
         (λ half. (low input.old ≤ half.offset) × (half.offset ≤ high input.old))) }
-    ensures fault { (hs : List Re) (terminator : ℕ)
-        → AreHalvesOf (H.AreOf halves.now) aim hs terminator
-        → IfErr result (IsFault hs (search_for aim hs terminator input.old)
-        (H.GivesUp halves.now cache.old cache.new (cost input.old))) }
-    ensures spends { H.Spends halves.now cache.old cache.new (cost input.old) }
 {
-    if goes_by_needles(aim, input.get_anchored()) {
-        return find_end_by_needles(halves, cache, input, aim, guard);
+    if !goes_by_needles(aim, input.get_anchored()) {
+        return find_end(halves, cache, input, aim);
     }
-    find_end(halves, cache, input, aim)
+    let Some(bounds) = bounds_of(input, aim) else {
+        return Ok(None);
+    };
+    let left = Left {
+        at: bounds.low,
+        reach: bounds.low,
+        high: bounds.high,
+    };
+    match seek_by_needles(halves, cache, input, guard, usize::MAX, left, false)? {
+        Ending::Ends { met, .. } => {
+            let end = met.at.max(bounds.low).min(bounds.high);
+            let pattern = id_of(met.pattern, end)?;
+            Ok(Some(HalfMatch::new(pattern, end)))
+        }
+        Ending::Stuck => find_end(halves, cache, input, aim),
+        Ending::Nowhere => Ok(None),
+    }
+}
+
+/// Returns the match, and how many bytes settle it, from the start for the first needle on. It first
+/// tries an anchored run there. If no match begins there, it goes on from needle to needle.
+#[inline(always)]
+fn settle_from<H: Halves, C: Cursor>(
+    halves: &H,
+    cache: &mut H::Cache,
+    input: &mut Input<C>,
+    aim: Aim,
+    guard: Guard,
+    longest_len: usize,
+    start: Start,
+) -> Result<Settled, MatchError>
+    requires cache { H.IsCache halves.now cache.old }
+    requires goes { GoesByNeedles aim input.old.anchored }
+    requires longest { longest_len ≡ longest (guard_needles guard) }
+    requires first { Some start.needle ≡ option_map (λ h. h.start) (find_needle
+        (guard_needles guard) input.old.content (low input.old) (high input.old)) }
+    requires begins { BeginsFor guard input.old.content (low input.old) start }
+    requires within { (low input.old ≤ start.from) × (start.from ≤ start.needle)
+        × (start.needle < high input.old) }
+    ensures cache { H.IsCache halves.now cache.new }
+    ensures keeps { Keeps input.old input.new }
+    ensures settled { (hs : List Re) (terminator : ℕ)
+        → AreHalvesOf (H.AreOf halves.now) aim hs terminator
+        → IsGuard (program hs) terminator guard.entry
+        → IfOk result (λ o. IsAnswerBelow aim.kind
+        (search_for aim hs terminator input.old) o.reach o.found) }
+    ensures bounded { IfOk result (λ o. IfSome o.found (IsWithinBounds input.old)) }
+{
+    content_fits(input);
+    let at = start.from;
+    let reach = start.needle.saturating_add(longest_len);
+    let high = high(input);
+    let here = settle_here(halves, cache, input, at, high)?;
+    if here.found.is_some() {
+        return Ok(Settled {
+            found: here.found,
+            reach: reach.max(here.reach),
+        });
+    }
+    let left = Left { at, reach, high };
+    settle_by_needles(halves, cache, input, aim, guard, longest_len, left)
+}
+
+/// Returns the match that `find` returns, and how many bytes settle it, by needles that guard the
+/// patterns: each match begins with one of them, or contains one. The longest has `longest_len`
+/// bytes. These are the bytes at which the runs forwards looked, and those up to the needle from
+/// which the last one began, with the longest needle from there on. Without a match the end of the
+/// slice may have been looked at. An `Err` says why the DFA has no answer.
+#[inline(always)]
+pub fn find_settled_guarded<H: Halves, C: Cursor>(
+    halves: &H,
+    cache: &mut H::Cache,
+    input: &mut Input<C>,
+    aim: Aim,
+    guard: Guard,
+    longest_len: usize,
+) -> Result<Settled, MatchError>
+    requires cache { H.IsCache halves.now cache.old }
+    requires tells { TellsReach aim }
+    requires longest { longest_len ≡ longest (guard_needles guard) }
+    ensures cache { H.IsCache halves.now cache.new }
+    ensures keeps { Keeps input.old input.new }
+    ensures settled { (hs : List Re) (terminator : ℕ)
+        → AreHalvesOf (H.AreOf halves.now) aim hs terminator
+        → IsGuard (program hs) terminator guard.entry
+        → IfOk result (λ o. IsAnswerBelow aim.kind
+        (search_for aim hs terminator input.old) o.reach o.found) }
+    ensures within { IfOk result (λ o. IfSome o.found (IsWithinBounds input.old)) }
+{
+    content_fits(input);
+    let high = high(input);
+    let from = low(input);
+    if from > high || input.get_anchored().is_anchored() {
+        return find_settled(halves, cache, input, aim);
+    }
+    if let Guard::Holds(_) = guard {
+        let left = Left {
+            at: from,
+            reach: from,
+            high,
+        };
+        return settle_by_needles(halves, cache, input, aim, guard, longest_len, left);
+    }
+    let Some(start) = next_start(input, guard, from, high) else {
+        return Ok(Settled {
+            found: None,
+            reach: usize::MAX,
+        });
+    };
+    settle_from(halves, cache, input, aim, guard, longest_len, start)
 }

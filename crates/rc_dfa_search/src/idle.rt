@@ -4,13 +4,12 @@ ghost use Rattle.std.specs.Prelude.{◌≡◌, ◌≤◌, ℕ, List, IfOk};
 ghost use Rattle.rc_text.specs.Text.{Keeps, low, high};
 ghost use Rattle.rc_pattern.specs.Re.{Re};
 ghost use Rattle.rc_dfa_search.specs.Aims.{AreHalvesOf, search_for};
-ghost use Rattle.rc_dfa_search.specs.Firsts.{AsksFirst};
+ghost use Rattle.rc_dfa_search.specs.Legs.{GoesByNeedles};
 ghost use Rattle.rc_dfa_search.specs.Reaches.{NoneBeginBelow};
 ghost use Rattle.rc_text.specs.declared.types.MatchKind.TheVariants.{LeftmostFirst};
 
-use crate::guarded::Leg;
-use crate::search::Aim;
-use crate::settled::read_leg;
+use crate::needles::{Leg, read_leg};
+use crate::search::{Aim, Bounds};
 use rc_dfa::halves::Halves;
 use rc_text::cursor::Cursor;
 use rc_text::input::{Input, content_fits, high, low};
@@ -30,7 +29,7 @@ pub fn last_idle<H: Halves, C: Cursor>(
     aim: Aim,
 ) -> Result<usize, MatchError>
     requires cache { H.IsCache halves.now cache.old }
-    requires goes { AsksFirst aim input.old.anchored }
+    requires goes { GoesByNeedles aim input.old.anchored }
     requires preferred { aim.kind ≡ LeftmostFirst }
     requires ordered { low input.old ≤ high input.old }
     ensures cache { H.IsCache halves.now cache.new }
@@ -46,7 +45,11 @@ pub fn last_idle<H: Halves, C: Cursor>(
     let mut stride = (bound - at + 1) / 2;
     'runs: loop {
         let rest_from = at.saturating_add(stride.saturating_sub(1));
-        let came = read_leg(halves, cache, input, at, bound, rest_from)?;
+        let left = Bounds {
+            low: at,
+            high: bound,
+        };
+        let came = read_leg(halves, cache, input, left, false, rest_from)?;
         match came.leg {
             Leg::Rested(i) if at < i => {
                 stride = stride.min((bound - i + 1) / 2);

@@ -2,12 +2,11 @@
 #![tactic(auto)]
 
 pub mod build;
-mod early;
 pub mod first;
 pub mod guarded;
 pub mod idle;
 pub mod laws;
 pub mod literals;
+mod needles;
 pub mod reach;
 pub mod search;
-pub mod settled;

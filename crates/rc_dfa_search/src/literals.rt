@@ -11,10 +11,10 @@ ghost use Rattle.rc_needles.specs.Prefilters.{needles_of};
 ghost use Rattle.rc_literals.specs.Guard.{IsGuard};
 ghost use Rattle.rc_dfa_search.specs.Aims.{AreHalvesOf, search_for};
 
-use crate::early::{find_early, goes_early};
-use crate::first::find_first;
-use crate::guarded::find_guarded;
-use crate::search::Aim;
+use crate::first::find_by_first;
+use crate::guarded::{find_by_needles, find_early};
+use crate::needles::goes_by_needles;
+use crate::search::{Aim, find};
 use rc_dfa::halves::Halves;
 use rc_literals::guard::Guard;
 use rc_needles::prefilter::Prefilter;
@@ -43,12 +43,19 @@ pub fn find_by_guard<H: Halves, C: Cursor>(
         → IfOk result (IsAnswerBy aim.kind aim.earliest (search_for aim hs terminator input.old)) }
     ensures within { IfOk result (λ found. IfSome found (IsWithinBounds input.old)) }
 {
-    if goes_early(aim, input.get_anchored()) {
+    let late = Aim {
+        earliest: false,
+        ..aim
+    };
+    if !goes_by_needles(late, input.get_anchored()) {
+        return find(halves, cache, input, aim);
+    }
+    if aim.earliest {
         return find_early(halves, cache, input, aim, guard);
     }
     match guard {
-        Guard::Begins(needles) => find_first(halves, cache, input, aim, needles, true),
-        Guard::Holds(_) => find_guarded(halves, cache, input, aim, guard),
+        Guard::Begins(needles) => find_by_first(halves, cache, input, aim, needles, true),
+        Guard::Holds(_) => find_by_needles(halves, cache, input, aim, guard),
     }
 }
 
@@ -73,9 +80,12 @@ pub fn find_past_quit<H: Halves, C: Cursor>(
         → IfOk result (IsAnswerBy aim.kind aim.earliest (search_for aim hs terminator input.old)) }
     ensures within { IfOk result (λ found. IfSome found (IsWithinBounds input.old)) }
 {
-    let found = find_first(halves, cache, input, aim, needles, false);
+    if !goes_by_needles(aim, input.get_anchored()) {
+        return find(halves, cache, input, aim);
+    }
+    let found = find_by_first(halves, cache, input, aim, needles, false);
     if let Err(MatchError::Quit { .. }) = found {
-        return find_guarded(halves, cache, input, aim, Guard::Begins(needles));
+        return find_by_needles(halves, cache, input, aim, Guard::Begins(needles));
     }
     found
 }

@@ -8,13 +8,15 @@ ghost use Rattle.rc_pattern.specs.Re.{Re};
 ghost use Rattle.rc_program.specs.Sought.{text_of};
 ghost use Rattle.rc_dfa_search.specs.Aims.{AreHalvesOf, search_for};
 ghost use Rattle.rc_dfa_search.specs.Ends.{Asks};
+ghost use Rattle.rc_dfa_search.specs.Firsts.{starting_at};
+ghost use Rattle.rc_dfa_search.specs.Legs.{GoesByNeedles};
 ghost use Rattle.rc_dfa_search.specs.Reaches.{BeginsBy, IsAnswerBelow, TellsReach};
 
 use crate::search::{Aim, Bounds, bounds_of, id_of, run_backwards, told};
-use rc_dfa::halves::Halves;
+use rc_dfa::halves::{Halves, Run};
 use rc_text::cursor::Cursor;
 use rc_text::input::{Input, content_fits};
-use rc_text::types::{Match, MatchError, MatchKind, Span};
+use rc_text::types::{Anchored, Match, MatchError, MatchKind, Span};
 
 /// The match of a search, if there is one, and how many bytes of the content settle it.
 #[derive(Clone, Copy)]
@@ -39,36 +41,81 @@ pub fn tells_reach(aim: Aim) -> bool
     }
 }
 
-/// Returns where the match with this end begins: where the search does, if it is anchored, else
-/// where a run backwards leads.
+/// Returns where the match begins that ends at the upper bound: at the lower one, if the search is
+/// anchored, else where a run backwards leads.
 #[inline(always)]
 fn start_of<H: Halves, C: Cursor>(
     halves: &H,
     cache: &mut H::Cache,
     input: &mut Input<C>,
     aim: Aim,
-    from: usize,
-    end: usize,
+    bounds: Bounds,
 ) -> Result<Option<usize>, MatchError>
     requires cache { H.IsCache halves.now cache.old }
-    requires low { low input.old ≤ from }
-    requires ordered { from ≤ end }
-    requires high { end ≤ high input.old }
+    requires low { low input.old ≤ bounds.low }
+    requires ordered { bounds.low ≤ bounds.high }
+    requires high { bounds.high ≤ high input.old }
     requires asked { Asks aim.patterns input.old.anchored }
     requires tells { TellsReach aim }
     ensures cache { H.IsCache halves.now cache.new }
     ensures keeps { Keeps input.old input.new }
     ensures start { (hs : List Re) (terminator : ℕ)
         (of : AreHalvesOf (H.AreOf halves.now) aim hs terminator)
-        → IfOk result (BeginsBy of.back (text_of terminator input.old) from end input.old.anchored) }
+        → IfOk result (BeginsBy of.back (text_of terminator input.old) bounds.low bounds.high
+        input.old.anchored) }
 {
     if input.get_anchored().is_anchored() {
-        return Ok(Some(from));
+        return Ok(Some(bounds.low));
     }
-    let Some(met) = run_backwards(halves, cache, input, aim, from, end)? else {
+    let Some(met) = run_backwards(halves, cache, input, aim, bounds)? else {
         return Ok(None);
     };
     Ok(Some(met.at))
+}
+
+/// Returns the match that begins at the position `from`, if one does, by an anchored run, and how
+/// many bytes settle that. An `Err` says why the DFA has no answer.
+#[inline(always)]
+pub(crate) fn settle_here<H: Halves, C: Cursor>(
+    halves: &H,
+    cache: &mut H::Cache,
+    input: &mut Input<C>,
+    from: usize,
+    bound: usize,
+) -> Result<Settled, MatchError>
+    requires cache { H.IsCache halves.now cache.old }
+    requires low { low input.old ≤ from }
+    requires bound { bound ≡ high input.old }
+    requires within { from ≤ bound }
+    ensures cache { H.IsCache halves.now cache.new }
+    ensures keeps { Keeps input.old input.new }
+    ensures settled { (aim : Aim) (hs : List Re) (terminator : ℕ)
+        → AreHalvesOf (H.AreOf halves.now) aim hs terminator → GoesByNeedles aim input.old.anchored
+        → IfOk result (λ o. IsAnswerBelow aim.kind
+        (starting_at from (search_for aim hs terminator input.old)) o.reach o.found) }
+    ensures within { IfOk result (λ o. IfSome o.found
+        (λ m. (m.start ≡ from) × (m.start ≤ m.end) × (m.end ≤ bound))) }
+{
+    let run = Run {
+        anchored: Anchored::Yes,
+        low: from,
+        high: bound,
+        earliest: false,
+    };
+    let reading = halves.run_forwards(cache, input, run, None);
+    let Some(met) = told(reading.ended)? else {
+        return Ok(Settled {
+            found: None,
+            reach: reading.read,
+        });
+    };
+    let end = met.at.max(from).min(bound);
+    let pattern = id_of(met.pattern, end)?;
+    let found = Some(Match::new(pattern, Span { start: from, end }));
+    Ok(Settled {
+        found,
+        reach: reading.read,
+    })
 }
 
 /// Returns the match that `find` returns, and how many bytes settle it: those at which the run
@@ -100,14 +147,19 @@ pub fn find_settled<H: Halves, C: Cursor>(
             reach: usize::MAX,
         });
     };
-    let anchored = input.get_anchored();
-    let run = halves.run_forwards(cache, input, anchored, low, false, false, 0);
-    let reach = run.read;
-    let Some(met) = told(run.ended)? else {
+    let run = Run {
+        anchored: input.get_anchored(),
+        low,
+        high,
+        earliest: false,
+    };
+    let reading = halves.run_forwards(cache, input, run, None);
+    let reach = reading.read;
+    let Some(met) = told(reading.ended)? else {
         return Ok(Settled { found: None, reach });
     };
     let end = met.at.max(low).min(high);
-    let Some(least) = start_of(halves, cache, input, aim, low, end)? else {
+    let Some(least) = start_of(halves, cache, input, aim, Bounds { low, high: end })? else {
         return Ok(Settled { found: None, reach });
     };
     let start = least.max(low).min(end);

@@ -19,7 +19,7 @@ ghost use Rattle.rc_dfa_search.specs.Halves.{IsForwardHalf};
 ghost use Rattle.rc_dfa_search.specs.Reverse.{IsMatchToEnd, IsReverseHalf};
 
 use rc_dfa::ended::{Ended, Met};
-use rc_dfa::halves::Halves;
+use rc_dfa::halves::{Halves, Run};
 use rc_text::cursor::Cursor;
 use rc_text::input::{Input, high, is_boundary_at, low};
 use rc_text::types::{Anchored, HalfMatch, Match, MatchError, MatchKind, PatternID, Span};
@@ -111,65 +111,74 @@ pub fn told(ended: Ended) -> Result<Option<Met>, MatchError>
     }
 }
 
-/// Runs forwards from the position `from`, and returns what it found.
+/// Runs forwards from the lower bound, and returns what it found.
 #[inline(always)]
 pub(crate) fn run_forwards<H: Halves, C: Cursor>(
     halves: &H,
     cache: &mut H::Cache,
     input: &mut Input<C>,
     aim: Aim,
-    from: usize,
+    bounds: Bounds,
 ) -> Result<Option<Met>, MatchError>
     requires cache { H.IsCache halves.now cache.old }
-    requires low { low input.old ≤ from }
-    requires high { from ≤ high input.old }
+    requires low { low input.old ≤ bounds.low }
+    requires ordered { bounds.low ≤ bounds.high }
+    requires high { bounds.high ≡ high input.old }
     requires asked { Asks aim.patterns input.old.anchored }
     ensures cache { H.IsCache halves.now cache.new }
     ensures keeps { Keeps input.old input.new }
     ensures met { (hs : List Re) (terminator : ℕ)
         (of : AreHalvesOf (H.AreOf halves.now) aim hs terminator)
         → IfOk result (HasMet of.ahead (text_of terminator input.old)
-        (high input.old) from input.old.anchored (is_early aim)) }
+        (high input.old) bounds.low input.old.anchored (is_early aim)) }
     ensures fault { (hs : List Re) (terminator : ℕ)
         → AreHalvesOf (H.AreOf halves.now) aim hs terminator
         → IfErr result (IsFault hs (search_for aim hs terminator input.old)
-        (H.GivesUp halves.now cache.old cache.new (high input.old - from + 2))) }
-    ensures spends { H.Spends halves.now cache.old cache.new (high input.old - from + 2) }
+        (H.GivesUp halves.now cache.old cache.new (high input.old - bounds.low + 2))) }
+    ensures spends { H.Spends halves.now cache.old cache.new (high input.old - bounds.low + 2) }
 {
-    let anchored = input.get_anchored();
-    let run = halves.run_forwards(cache, input, anchored, from, is_early(aim), false, 0);
-    told(run.ended)
+    let run = Run {
+        anchored: input.get_anchored(),
+        low: bounds.low,
+        high: bounds.high,
+        earliest: is_early(aim),
+    };
+    told(halves.run_forwards(cache, input, run, None).ended)
 }
 
-/// Runs backwards from `end` down to `from`, and returns what it found.
+/// Runs backwards from the upper bound, and returns what it found.
 #[inline(always)]
 pub(crate) fn run_backwards<H: Halves, C: Cursor>(
     halves: &H,
     cache: &mut H::Cache,
     input: &mut Input<C>,
     aim: Aim,
-    from: usize,
-    end: usize,
+    bounds: Bounds,
 ) -> Result<Option<Met>, MatchError>
     requires cache { H.IsCache halves.now cache.old }
-    requires low { low input.old ≤ from }
-    requires ordered { from ≤ end }
-    requires high { end ≤ high input.old }
+    requires low { low input.old ≤ bounds.low }
+    requires ordered { bounds.low ≤ bounds.high }
+    requires high { bounds.high ≤ high input.old }
     requires asked { Asks aim.patterns input.old.anchored }
     ensures cache { H.IsCache halves.now cache.new }
     ensures keeps { Keeps input.old input.new }
     ensures met { (hs : List Re) (terminator : ℕ)
         (of : AreHalvesOf (H.AreOf halves.now) aim hs terminator)
-        → IfOk result (HasMetDown of.back (text_of terminator input.old) from end input.old.anchored
-        (is_early aim)) }
+        → IfOk result (HasMetDown of.back (text_of terminator input.old) bounds.low bounds.high
+        input.old.anchored (is_early aim)) }
     ensures fault { (hs : List Re) (terminator : ℕ)
         → AreHalvesOf (H.AreOf halves.now) aim hs terminator
         → IfErr result (IsFault hs (search_for aim hs terminator input.old)
-        (H.GivesUp halves.now cache.old cache.new (high input.old - from + 2))) }
-    ensures spends { H.Spends halves.now cache.old cache.new (high input.old - from + 2) }
+        (H.GivesUp halves.now cache.old cache.new (high input.old - bounds.low + 2))) }
+    ensures spends { H.Spends halves.now cache.old cache.new (high input.old - bounds.low + 2) }
 {
-    let anchored = input.get_anchored();
-    told(halves.run_backwards(cache, input, anchored, from, end, is_early(aim)))
+    let run = Run {
+        anchored: input.get_anchored(),
+        low: bounds.low,
+        high: bounds.high,
+        earliest: is_early(aim),
+    };
+    told(halves.run_backwards(cache, input, run))
 }
 
 /// Whether a match may end here: on a boundary, if matches that end off one are passed over.
@@ -229,7 +238,7 @@ fn seek_end<H: Halves, C: Cursor>(
     let anchored = input.get_anchored().is_anchored();
     let mut from = low;
     'starts: loop {
-        let Some(met) = run_forwards(halves, cache, input, aim, from)? else {
+        let Some(met) = run_forwards(halves, cache, input, aim, Bounds { low: from, high })? else {
             return Ok(None);
         };
         if may_end(input, aim, met.at) {
@@ -337,7 +346,11 @@ fn seek_start<H: Halves, C: Cursor>(
             at: end.at,
         }));
     }
-    let Some(met) = run_backwards(halves, cache, input, aim, end.from, end.at)? else {
+    let bounds = Bounds {
+        low: end.from,
+        high: end.at,
+    };
+    let Some(met) = run_backwards(halves, cache, input, aim, bounds)? else {
         return Ok(None);
     };
     Ok(Some(start_by(aim, end, met)))
@@ -400,6 +413,34 @@ pub fn find<H: Halves, C: Cursor>(
     Ok(Some(Match::new(pattern, span)))
 }
 
+/// Returns the match that `find` returns if the span begins at `from`. The input's span stays as it
+/// is.
+#[inline(never)]
+pub(crate) fn find_later<H: Halves, C: Cursor>(
+    halves: &H,
+    cache: &mut H::Cache,
+    input: &mut Input<C>,
+    aim: Aim,
+    from: usize,
+) -> Result<Option<Match>, MatchError>
+    requires cache { H.IsCache halves.now cache.old }
+    requires low { low input.old ≤ from }
+    requires high { from ≤ high input.old }
+    ensures cache { H.IsCache halves.now cache.new }
+    ensures keeps { Keeps input.old input.new }
+    ensures found { (hs : List Re) (terminator : ℕ)
+        → AreHalvesOf (H.AreOf halves.now) aim hs terminator
+        → IfOk result (IsAnswerBy aim.kind aim.earliest
+        (record (search_for aim hs terminator input.old) { lo = from })) }
+    ensures within { IfOk result (λ found. IfSome found (IsWithinBounds input.old)) }
+{
+    let span = input.get_span();
+    input.set_start(from);
+    let found = find(halves, cache, input, aim);
+    input.set_span(span);
+    found
+}
+
 /// Returns the end of the match that `find` returns, and its pattern. With `MatchKind::All`, that
 /// is the number of some pattern with a match that ends there. It only searches forwards, and fails
 /// as `find` does.
@@ -455,16 +496,16 @@ pub fn find_start<H: Halves, C: Cursor>(
         (H.GivesUp halves.now cache.old cache.new (cost input.old))) }
     ensures spends { H.Spends halves.now cache.old cache.new (cost input.old) }
 {
-    let Some(Bounds { low, high }) = bounds_of(input, aim) else {
+    let Some(bounds) = bounds_of(input, aim) else {
         return Ok(None);
     };
-    if !is_allowed(input, aim, high) {
+    if !is_allowed(input, aim, bounds.high) {
         return Ok(None);
     }
-    let Some(met) = run_backwards(halves, cache, input, aim, low, high)? else {
+    let Some(met) = run_backwards(halves, cache, input, aim, bounds)? else {
         return Ok(None);
     };
-    let offset = met.at.max(low).min(high);
+    let offset = met.at.max(bounds.low).min(bounds.high);
     let pattern = id_of(met.pattern, offset)?;
     Ok(Some(HalfMatch::new(pattern, offset)))
 }

@@ -10,13 +10,13 @@ use crate::half::{Half, starts_in};
 use crate::which::Ends;
 use rc_dfa::automaton::{Automaton, Direction};
 use rc_dfa::ended::{Ended, Reading};
-use rc_dfa::halves::Halves;
+use rc_dfa::halves::{Halves, Run};
 use rc_pattern_set::sets::PatternSet;
 use rc_table_search::run::Extent;
 use rc_table_search::search::{Request, search};
 use rc_table_search::way::{Backwards, Forwards};
 use rc_text::cursor::Cursor;
-use rc_text::input::{Input, high};
+use rc_text::input::Input;
 use rc_text::types::Anchored;
 use std::alloc::{AllocError, Global};
 
@@ -236,41 +236,30 @@ impl Halves for Lazy {
         &self,
         cache: &mut Cache,
         input: &mut Input<C>,
-        anchored: Anchored,
-        from: usize,
-        earliest: bool,
-        may_rest: bool,
-        rest_from: usize,
+        run: Run,
+        rest_from: Option<usize>,
     ) -> Reading {
         let request = Request {
-            anchored,
-            from,
-            end: high(input),
+            anchored: run.anchored,
+            from: run.low,
+            end: run.high,
             extent: Extent {
-                earliest,
-                may_rest,
-                rest_from,
+                earliest: run.earliest,
+                may_rest: rest_from.is_some(),
+                rest_from: rest_from.unwrap_or(0),
             },
         };
         search::<Forwards, Lazy, C>(self, &mut cache.forward, input, &request)
     }
 
     #[inline(always)]
-    fn run_backwards<C: Cursor>(
-        &self,
-        cache: &mut Cache,
-        input: &mut Input<C>,
-        anchored: Anchored,
-        from: usize,
-        end: usize,
-        earliest: bool,
-    ) -> Ended {
+    fn run_backwards<C: Cursor>(&self, cache: &mut Cache, input: &mut Input<C>, run: Run) -> Ended {
         let request = Request {
-            anchored,
-            from: end,
-            end: from,
+            anchored: run.anchored,
+            from: run.high,
+            end: run.low,
             extent: Extent {
-                earliest,
+                earliest: run.earliest,
                 may_rest: false,
                 rest_from: 0,
             },

@@ -21,7 +21,7 @@ impl Engines {
     ghost use Rattle.rc_text.specs.declared.types.MatchKind.TheVariants.{LeftmostFirst};
     ghost use Rattle.rc_reach.specs.Partial.{IsPartial, from_place};
     ghost use Rattle.rc_pikevm_search.specs.Engine.{engine_search};
-    ghost use Rattle.rc_dfa_search.specs.Firsts.{AsksFirst};
+    ghost use Rattle.rc_dfa_search.specs.Legs.{GoesByNeedles};
     ghost use Rattle.rc_strategy.specs.Caches.{IsCacheIn, IsCacheOfBoth, IsSameCacheIn, KeepsStates};
     ghost use Rattle.rc_strategy.specs.Tables.{AreHalvesFor, aim_of};
 
@@ -29,7 +29,7 @@ impl Engines {
     /// is for the preferred match, and passes none over.
     fn tells_idle<C: Cursor>(&self, input: &Input<C>) -> bool
         ensures { IsTrue result
-            → AsksFirst (aim_of self.now.engine self.now.patterns) input.now.anchored
+            → GoesByNeedles (aim_of self.now.engine self.now.patterns) input.now.anchored
             × (self.now.engine.kind ≡ LeftmostFirst) }
     {
         match (self.engine.kind, input.get_anchored()) {
@@ -48,7 +48,7 @@ impl Engines {
     ) -> Result<usize, MatchError>
         requires own { ∥ AreHalvesFor self.now.engine self.now.patterns (H.AreOf halves.now) ∥₁ }
         requires cache { H.IsCache halves.now cache.old }
-        requires goes { AsksFirst (aim_of self.now.engine self.now.patterns) input.old.anchored }
+        requires goes { GoesByNeedles (aim_of self.now.engine self.now.patterns) input.old.anchored }
         requires preferred { self.now.engine.kind ≡ LeftmostFirst }
         requires ordered { low input.old ≤ high input.old }
         ensures cache { H.IsCache halves.now cache.new }
@@ -68,7 +68,7 @@ impl Engines {
         input: &mut Input<C>,
     ) -> Option<usize>
         requires made { IsCacheOfBoth self.now.lazy cache.old }
-        requires goes { AsksFirst (aim_of self.now.engine self.now.patterns) input.old.anchored }
+        requires goes { GoesByNeedles (aim_of self.now.engine self.now.patterns) input.old.anchored }
         requires preferred { self.now.engine.kind ≡ LeftmostFirst }
         requires ordered { low input.old ≤ high input.old }
         ensures keeps { Keeps input.old input.new }

@@ -14,7 +14,8 @@ use Rattle.rc_dfa_search.proofs.NeedleLemmas.{none_void}
 use Rattle.rc_dfa_search.proofs.ToldLemmas.{kept_low, kept_then}
 use Rattle.rc_dfa_search.proofs.BeginLemmas.{found_here, found_later, no_first, none_on, not_begun}
 use Rattle.rc_dfa_search.proofs.SettledLemmas.{settled_here}
-use Rattle.rc_dfa_search.specs.Firsts.{AsksFirst, starting_at}
+use Rattle.rc_dfa_search.specs.Firsts.{starting_at}
+use Rattle.rc_dfa_search.specs.Legs.{GoesByNeedles}
 use Rattle.rc_dfa_search.proofs.first.find_by_first.Given.{Over}
 use Rattle.rc_dfa_search.proofs.first.find_by_first.Goals as goal
 use Rattle.rc_dfa_search.proofs.first.find_by_first.Goals.{After-start_by}
@@ -84,7 +85,7 @@ returns-in-Some-found-clause-found g c hs terminator of guards =
     let s = c.args.input.now in
     let u = c.start_by.new.input in
     let kept = after g k in
-    let goes = subst (AsksFirst c.args.aim) (sym kept.anchored) c.requires.goes in
+    let goes = subst (GoesByNeedles c.args.aim) (sym kept.anchored) c.requires.goes in
     found_here c.args.aim hs terminator s s (itself s) c.requires.goes c.low-lo.result c.high-hi.result
     (same_low g k) c.high-hi.ensures.value c.in-Some.from (within g k c.in-Some.from c.in-Some.is).0 (passed g k hs terminator of guards c.in-Some.from c.in-Some.is)
     u kept c.in-Some-found.found
@@ -108,7 +109,7 @@ runs-preserved g c =
     let s = c.args.input.now in
     let u = c.start_by.new.input in
     let kept = after g k in
-    let goes = subst (AsksFirst c.args.aim) (sym kept.anchored) c.requires.goes in
+    let goes = subst (GoesByNeedles c.args.aim) (sym kept.anchored) c.requires.goes in
     let w = within g k c.in-Some.from c.in-Some.is in
     let above = w.0 in
     let short = c.if-from-hi.false in

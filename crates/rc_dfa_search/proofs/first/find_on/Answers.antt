@@ -1,4 +1,4 @@
-use Rattle.std.proofs.Common.{◌≡◌, ◌≤◌, ℕ, List, IfOk, ap, arith, refl, subst}
+use Rattle.std.proofs.Common.{◌≡◌, ◌≤◌, ℕ, List, IfOk, ap, arith, refl, subst, sym}
 use Rattle.rc_text.specs.Text.{Searched, KeepsText, low}
 use Rattle.rc_text.specs.declared.types.Span.{Span}
 use Rattle.rc_pattern.specs.Re.{Re}
@@ -6,6 +6,7 @@ use Rattle.rc_program.specs.Answer.{Search}
 use Rattle.rc_program.specs.Kinds.{IsAnswerBy}
 use Rattle.rc_dfa_search.specs.declared.search.Aim.{Aim}
 use Rattle.rc_dfa_search.specs.Aims.{search_for}
+use Rattle.rc_dfa_search.specs.Legs.{GoesByNeedles}
 use Rattle.rc_dfa_search.proofs.first.find_on.Goals as goal
 
 -- the search from a later start
@@ -20,6 +21,9 @@ later aim hs terminator s t from above k start end slice =
 pub returns-clause-found : goal.returns-clause-found
 returns-clause-found g c hs terminator of guards =
     let k = c.set_start.ensures in
-    subst (λ q. IfOk c.find_guarded-found.result (IsAnswerBy c.args.aim.kind c.args.aim.earliest q))
+    subst (λ q. IfOk c.find_by_needles-found.result (IsAnswerBy c.args.aim.kind c.args.aim.earliest q))
     (later c.args.aim hs terminator c.args.input.now c.set_start.new.self c.args.from c.requires.low k.keeps k.start k.end k.slice)
-    (c.find_guarded-found.ensures.found hs terminator of guards)
+    (c.find_by_needles-found.ensures.found hs terminator of guards)
+
+pub find_by_needles-found-requires-clause-goes : goal.find_by_needles-found-requires-clause-goes
+find_by_needles-found-requires-clause-goes g c = subst (GoesByNeedles c.args.aim) (sym c.set_start.ensures.keeps.anchored) c.requires.goes

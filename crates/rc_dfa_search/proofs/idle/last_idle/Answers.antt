@@ -1,7 +1,7 @@
-use Rattle.std.proofs.Common.{◌≡◌, ◌∙◌, ◌<◌, ◌≤◌, arith, ap, subst, sym, refl}
-use Rattle.rc_text.specs.Text.{Keeps, Searched, low, high}
+use Rattle.std.proofs.Common.{◌≡◌, ◌∙◌, false, arith, subst, sym}
+use Rattle.rc_text.specs.Text.{low, high}
 use Rattle.rc_program.specs.Answer.{Search}
-use Rattle.rc_dfa_search.specs.declared.guarded.Leg.TheVariants.{Rested}
+use Rattle.rc_dfa_search.specs.declared.needles.Leg.TheVariants.{Rested}
 use Rattle.rc_dfa_search.specs.Aims.{search_for}
 use Rattle.rc_dfa_search.specs.Reaches.{HasRunBelow, NoneBeginBelow}
 use Rattle.rc_dfa_search.proofs.IdleLemmas.{idle_first, idle_next}
@@ -43,8 +43,8 @@ runs-preserved-then-at-i g c =
       idle = λ hs terminator of.
           idle_next (g.H.Halves.AreOf c.args.halves.now) c.args.aim hs terminator of s c.requires.goes c.requires.preferred c.requires.ordered
           c.runs.at c.in-Rested.i c.in_ok-came.came.read low_is (omega (arith, high_is, bound)) above (omega (arith, below, bound)) (i.idle hs terminator of)
-          (subst (λ (q : Search). HasRunBelow of.ahead q.text q.hi c.runs.at c.in_ok-came.came.read (Rested c.in-Rested.i))
+          (subst (λ (q : Search). HasRunBelow of.ahead q.text q.hi c.runs.at false c.in_ok-came.came.read (Rested c.in-Rested.i))
           (kept_search c.args.aim hs terminator s c.runs.input i.keeps)
-          (subst (HasRunBelow of.ahead (search_for c.args.aim hs terminator c.runs.input).text (high c.runs.input) c.runs.at c.in_ok-came.came.read) c.in-Rested.is
+          (subst (HasRunBelow of.ahead (search_for c.args.aim hs terminator c.runs.input).text (high c.runs.input) c.runs.at false c.in_ok-came.came.read) c.in-Rested.is
           (c.in_ok-came.ensures.leg c.args.aim hs terminator of)));
     }

@@ -42,12 +42,12 @@ at_high g c = c.in-Some.ensures.some.1 ∙ sym (kept_high c.args.input.now (here
 -- what the run met
 met_here : (g : Over) (c : In_ok-met g) (hs : List Re) (terminator : ℕ) (of : AreHalvesOf (g.H.Halves.AreOf c.args.halves.now) c.args.aim hs terminator) (o : Option Met) →
     c.in_ok-met.field-0 ≡ o →
-    HasMetBelow of.ahead (text_of terminator (here g c)) (high (here g c)) (low (here g c)) (here g c).anchored c.run_forwards-run.result.read o
+    HasMetBelow of.ahead (text_of terminator (here g c)) (high (here g c)) (low (here g c)) (here g c).anchored c.run_forwards-reading.result.read o
 met_here g c hs terminator of o is =
-    subst (HasMetBelow of.ahead (text_of terminator (here g c)) (high (here g c)) (low (here g c)) (here g c).anchored c.run_forwards-run.result.read) is
-    (subst (λ r. IfOk r (HasMetBelow of.ahead (text_of terminator (here g c)) (high (here g c)) (low (here g c)) (here g c).anchored c.run_forwards-run.result.read)) c.in_ok-met.was
-    (met_below (g.H.Halves.AreOf c.args.halves.now) c.args.aim c.requires.tells hs terminator of (here g c) (le g c) (asks g c) c.run_forwards-run.result c.told.result
-    c.in-Some.field-0.low c.get_anchored-anchored.result c.told.ensures (at_low g c) c.get_anchored-anchored.ensures c.run_forwards-run.ensures.ended))
+    subst (HasMetBelow of.ahead (text_of terminator (here g c)) (high (here g c)) (low (here g c)) (here g c).anchored c.run_forwards-reading.result.read) is
+    (subst (λ r. IfOk r (HasMetBelow of.ahead (text_of terminator (here g c)) (high (here g c)) (low (here g c)) (here g c).anchored c.run_forwards-reading.result.read)) c.in_ok-met.was
+    (met_below (g.H.Halves.AreOf c.args.halves.now) c.args.aim c.requires.tells hs terminator of (here g c) (le g c) (asks g c) c.run_forwards-reading.result c.told.result
+    c.in-Some.field-0.low c.get_anchored.result c.told.ensures (at_low g c) c.get_anchored.ensures c.run_forwards-reading.ensures.ended))
 
 same_search : (g : Over) (c : In_ok-met g) (hs : List Re) (terminator : ℕ) → search_for c.args.aim hs terminator (here g c) ≡ search_for c.args.aim hs terminator c.args.input.now
 same_search g c hs terminator = kept_search c.args.aim hs terminator c.args.input.now (here g c) c.bounds_of.ensures.keeps
@@ -55,8 +55,8 @@ same_search g c hs terminator = kept_search c.args.aim hs terminator c.args.inpu
 pub returns-in_default-2-clause-settled : goal.returns-in_default-2-clause-settled
 returns-in_default-2-clause-settled g c hs terminator of =
     let k = (goal.at.returns-in_default-2-clause-settled g c).In_ok-met in
-    subst (λ q. IsAnswerBelow c.args.aim.kind q c.run_forwards-run.result.read None) (same_search g k hs terminator)
-    (none_settled (g.H.Halves.AreOf c.args.halves.now) c.args.aim c.requires.tells hs terminator of (here g k) (le g k) (asks g k) c.run_forwards-run.result.read
+    subst (λ q. IsAnswerBelow c.args.aim.kind q c.run_forwards-reading.result.read None) (same_search g k hs terminator)
+    (none_settled (g.H.Halves.AreOf c.args.halves.now) c.args.aim c.requires.tells hs terminator of (here g k) (le g k) (asks g k) c.run_forwards-reading.result.read
     (met_here g k hs terminator of None c.in_default-2.is))
 
 -- where the match begins
@@ -65,8 +65,8 @@ begins_here : (g : Over) (c : In_ok-least g) (hs : List Re) (terminator : ℕ) (
     BeginsBy of.back (text_of terminator c.bounds_of.new.input) (low c.bounds_of.new.input) c.min-end.result c.bounds_of.new.input.anchored o
 begins_here g c hs terminator of o is =
     let b = c.bounds_of.new.input in
-    let d = c.run_forwards-run.new.input in
-    let k = c.run_forwards-run.ensures.keeps in
+    let d = c.run_forwards-reading.new.input in
+    let k = c.run_forwards-reading.ensures.keeps in
     let low_is = c.in-Some.ensures.some.0 ∙ sym (kept_low c.args.input.now b c.bounds_of.ensures.keeps) in
     let raw = subst (λ x. BeginsBy of.back (text_of terminator d) c.in-Some.field-0.low c.min-end.result d.anchored x) is (c.in_ok-least.ensures.start hs terminator of) in
     subst (λ (t : Text). BeginsBy of.back t (low b) c.min-end.result b.anchored o) (kept_text terminator b d k)
@@ -92,7 +92,7 @@ returns-in_default-3-clause-settled g c hs terminator of =
     let AreOf = g.H.Halves.AreOf c.args.halves.now in
     let met = c.in-Some-2.met in
     let h = met_here g k hs terminator of (Some met) c.in-Some-2.is in
-    let r = c.run_forwards-run.result.read in
+    let r = c.run_forwards-reading.result.read in
     let end = end_is AreOf c.args.aim c.requires.tells hs terminator of (here g k) (le g k) (asks g k) r met h c.min-end.result (end_here g l) in
     absurd (start_settled AreOf c.args.aim c.requires.tells hs terminator of (here g k) (le g k) (asks g k) r met h c.min-end.result end
     (begins_here g l hs terminator of None c.in_default-3.is))
@@ -106,7 +106,7 @@ returns-clause-settled g c hs terminator of =
     let AreOf = g.H.Halves.AreOf c.args.halves.now in
     let met = c.in-Some-2.met in
     let h = met_here g k hs terminator of (Some met) c.in-Some-2.is in
-    let r = c.run_forwards-run.result.read in
+    let r = c.run_forwards-reading.result.read in
     let end = end_is AreOf c.args.aim c.requires.tells hs terminator of b (le g k) (asks g k) r met h c.min-end.result (end_here g l) in
     let start = c.min-start.ensures ∙ ap (λ x. min x c.min-end.result) c.max-2.ensures ∙ ap (λ x. min (max c.in-Some-3.least x) c.min-end.result) (at_low g k) in
     subst (λ q. IsAnswerBelow c.args.aim.kind q r (Some c.new.result)) (same_search g k hs terminator)
@@ -123,7 +123,7 @@ returns-clause-past g c hs terminator of =
     let AreOf = g.H.Halves.AreOf c.args.halves.now in
     let met = c.in-Some-2.met in
     let h = met_here g k hs terminator of (Some met) c.in-Some-2.is in
-    let r = c.run_forwards-run.result.read in
+    let r = c.run_forwards-reading.result.read in
     let end = end_is AreOf c.args.aim c.requires.tells hs terminator of b (le g k) (asks g k) r met h c.min-end.result (end_here g l) in
     let past = met_past AreOf c.args.aim c.requires.tells hs terminator of b (le g k) (asks g k) r met h in
     subst (λ (m : Found). m.end ≤ r) (sym c.new.ensures) (omega (arith, past, end))

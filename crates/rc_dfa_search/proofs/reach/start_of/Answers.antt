@@ -17,11 +17,11 @@ returns-then-is_anchored-clause-start g c hs terminator of =
 -- the search isn't anchored, and this was met
 met_late : (g : Over) (c : In_ok-met g) (hs : Rattle.std.proofs.Common.List Re) (terminator : Rattle.std.proofs.Common.ℕ)
     (of : AreHalvesOf (g.H.Halves.AreOf c.args.halves.now) c.args.aim hs terminator) (o : Option Met) → c.in_ok-met.field-0 ≡ o →
-    HasMetDown of.back (text_of terminator c.args.input.now) c.args.from c.args.end c.args.input.now.anchored false o
+    HasMetDown of.back (text_of terminator c.args.input.now) c.args.bounds.low c.args.bounds.high c.args.input.now.anchored false o
 met_late g c hs terminator of o is =
-    subst (λ b. HasMetDown of.back (text_of terminator c.args.input.now) c.args.from c.args.end c.args.input.now.anchored b o)
+    subst (λ b. HasMetDown of.back (text_of terminator c.args.input.now) c.args.bounds.low c.args.bounds.high c.args.input.now.anchored b o)
     (rw c.requires.tells.late refl)
-    (subst (λ x. HasMetDown of.back (text_of terminator c.args.input.now) c.args.from c.args.end c.args.input.now.anchored (is_early c.args.aim) x) is
+    (subst (λ x. HasMetDown of.back (text_of terminator c.args.input.now) c.args.bounds.low c.args.bounds.high c.args.input.now.anchored (is_early c.args.aim) x) is
     (c.in_ok-met.ensures.met hs terminator of))
 
 pub returns-in_default-clause-start : goal.returns-in_default-clause-start

@@ -27,12 +27,12 @@ returns-in_err-met-clause-fault g c hs terminator of =
     let b = c.is_allowed.new.input in
     let kept = keeps g (goal.at.returns-in_err-met-clause-fault g c).After-run_backwards in
     let Gives : ℕ → Bool → Type 0 = g.H.Halves.GivesUp c.args.halves.now c.args.cache.now c.run_backwards.new.cache in
-    let n : ℕ = high b - c.in-Some.field-0.low + 2 in
+    let n : ℕ = high b - c.in-Some.bounds.low + 2 in
     let k : ℕ = cost c.args.input.now in
     refused c.from_residual.result c.in_err-met.field-0.0 c.from_residual.ensures.1 (IsFault hs s (Gives k))
     (weaker_fault hs s (Gives n) (Gives k)
     (λ memory. g.met.H.Halves.gives_up_within c.args.halves.now c.args.cache.now c.run_backwards.new.cache n k memory
-    (cost_of_start c.args.input.now b c.in-Some.field-0.low kept c.in-Some.ensures.some.0))
+    (cost_of_start c.args.input.now b c.in-Some.bounds.low kept c.in-Some.ensures.some.0))
     c.in_err-met.field-0.0
     (subst (λ x. IsFault hs x (Gives n) c.in_err-met.field-0.0) (kept_search c.args.aim hs terminator c.args.input.now b kept) (c.in_err-met.ensures.fault hs terminator of)))
 
@@ -40,7 +40,7 @@ pub returns-in_default-2-clause-found : goal.returns-in_default-2-clause-found
 returns-in_default-2-clause-found g c hs terminator of =
     let e = c.in-Some.ensures.some in
     inl (run_no_start (g.H.Halves.AreOf c.args.halves.now) c.args.aim hs terminator of c.args.input.now c.is_allowed.new.input
-    (keeps g (goal.at.returns-in_default-2-clause-found g c).After-run_backwards) e.2 e.3 c.in-Some.field-0.low c.in-Some.field-0.high e.0 e.1
+    (keeps g (goal.at.returns-in_default-2-clause-found g c).After-run_backwards) e.2 e.3 c.in-Some.bounds.low c.in-Some.bounds.high e.0 e.1
     c.in_ok-met.field-0 (c.in_ok-met.ensures.met hs terminator of) c.in_default-2.is)
 
 -- what was met is a start
@@ -51,9 +51,9 @@ met_so g c hs terminator of =
     let met = c.in-Some-2.met in
     run_start (g.H.Halves.AreOf c.args.halves.now) c.args.aim hs terminator of c.args.input.now c.is_allowed.new.input
     (kept_then c.args.input.now c.bounds_of.new.input c.is_allowed.new.input c.bounds_of.ensures.keeps c.is_allowed.ensures.keeps)
-    e.2 e.3 c.in-Some.field-0.low c.in-Some.field-0.high e.0 e.1
+    e.2 e.3 c.in-Some.bounds.low c.in-Some.bounds.high e.0 e.1
     c.in_ok-met.field-0 (c.in_ok-met.ensures.met hs terminator of) met c.min-offset.result c.in-Some-2.is
-    (c.min-offset.ensures ∙ ap (λ x. min x c.in-Some.field-0.high) c.max.ensures ∙ ap (λ x. min (max met.at x) c.in-Some.field-0.high) e.0
+    (c.min-offset.ensures ∙ ap (λ x. min x c.in-Some.bounds.high) c.max.ensures ∙ ap (λ x. min (max met.at x) c.in-Some.bounds.high) e.0
     ∙ ap (λ x. min (max met.at (low c.args.input.now)) x) e.1)
 
 pub returns-in_err-pattern-clause-fault : goal.returns-in_err-pattern-clause-fault
@@ -72,6 +72,6 @@ returns-clause-found g c hs terminator of =
     let same : c.new.result ≡ half = c.new.ensures ∙ ap (λ p. let h : HalfFound = record { pattern = p; offset = at } in h) c.in_ok-pattern.ensures.id in (
       subst (λ (h : HalfFound). IsStartWhere (is_early c.args.aim) s h) (sym same) (met_so g (goal.at.returns-clause-found g c).After-min-offset hs terminator of),
       ap (λ x. not c.args.aim.passes_over || is_boundary c.args.input.now.content x) (sym e.1)
-          ∙ ap (λ bytes. not c.args.aim.passes_over || is_boundary bytes c.in-Some.field-0.high) (sym c.bounds_of.ensures.keeps.content)
+          ∙ ap (λ bytes. not c.args.aim.passes_over || is_boundary bytes c.in-Some.bounds.high) (sym c.bounds_of.ensures.keeps.content)
           ∙ sym c.is_allowed.ensures.value ∙ c.if-not-is_allowed.false,
     )

@@ -8,7 +8,7 @@ use Rattle.rc_lazy_dfa.proofs.lazy.LazyHalves.run_backwards.Goals.{After-search}
 pub returns-clause-ended : goal.returns-clause-ended
 returns-clause-ended g c = λ m n same asked. c.search.ensures.over.ended n same.1 asked
 
-few : (g : _) (c : After-search g) → c.args.end - c.args.from + 2 ≤ high c.args.input.now - c.args.from + 2
+few : (g : _) (c : After-search g) → c.args.run.high - c.args.run.low + 2 ≤ high c.args.input.now - c.args.run.low + 2
 few g c = let le = c.requires.high in omega (arith, le)
 
 pub returns-clause-spends : goal.returns-clause-spends
