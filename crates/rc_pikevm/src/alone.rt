@@ -492,7 +492,7 @@ fn begin(
 /// thread. Returns the position in bytes from which all threads go on together. If the lone thread
 /// came to a match, that is now the best, with its slots in `found`.
 #[inline(never)]
-fn wander(
+fn run_fast_path(
     course: Course,
     window: &Window,
     root: usize,
@@ -540,7 +540,7 @@ fn is_worth(fast: FastPath, threads: usize) -> bool {
 /// Runs the fast path if it may serve. Returns the position in bytes from which all threads go on
 /// together; that is `at` if the fast path doesn't serve.
 #[inline(always)]
-pub fn glide(
+pub fn try_fast_path(
     course: Course,
     window: &Window,
     root: usize,
@@ -571,5 +571,5 @@ pub fn glide(
     if !is_worth(fast, scratch.curr.len()) {
         return at;
     }
-    wander(course, window, root, fast.skips, best, at, scratch)
+    run_fast_path(course, window, root, fast.skips, best, at, scratch)
 }

@@ -28,13 +28,13 @@ ghost use Rattle.rc_pikevm.specs.Steps.{HasStepped, MayStep};
 ghost use Rattle.rc_pikevm.specs.Rules.{GivesBy, MayEnter, TellsBy, Turns, root_of};
 ghost use Rattle.rc_pikevm.specs.Underway.{IsInLine};
 
-use crate::alone::{FastPath, glide};
+use crate::alone::{FastPath, try_fast_path};
 use crate::closure::close;
 use crate::entrance::way_in;
 use crate::growth::{Growth, copy_row};
 use crate::heads::is_dead;
-use crate::race;
-use crate::race::{is_over, is_spent};
+use crate::longest;
+use crate::longest::{is_over, is_spent};
 use crate::rule::{Rule, root_of};
 use crate::scratch::Scratch;
 use crate::spot::{Course, Spot};
@@ -265,7 +265,7 @@ fn turn_by(spot: &Spot, rule: Rule, best: &mut Option<Ending>, scratch: &mut Scr
 {
     match rule {
         Rule::First(root) => *best = turn(spot, root, *best, scratch),
-        Rule::Longest => race::turn(spot, best, scratch),
+        Rule::Longest => longest::turn(spot, best, scratch),
     }
 }
 
@@ -448,7 +448,7 @@ pub(crate) fn pass<C: Cursor>(
             alone: patience > 0,
             skips: prefilter.is_none(),
         };
-        let here = glide(course, &window, root, fast, &mut best, at, scratch);
+        let here = try_fast_path(course, &window, root, fast, &mut best, at, scratch);
         patience = patience_left(patience, here > at, scratch.curr.len());
         if is_spent(&scratch.curr, best, here) {
             return best;

@@ -16,7 +16,7 @@ use Rattle.std.proofs.lemmas.List.{length-map}
 use Rattle.rc_program.specs.Places.{place_of}
 use Rattle.rc_pikevm.proofs.pass.pass.Given.{Over}
 use Rattle.rc_pikevm.proofs.pass.pass.Goals as goal
-use Rattle.rc_pikevm.proofs.pass.pass.Goals.{After-next_position, After-reach, After-glide-here, After-turn_by}
+use Rattle.rc_pikevm.proofs.pass.pass.Goals.{After-next_position, After-reach, After-try_fast_path-here, After-turn_by}
 
 -- the pass has come to the next position
 moved : (g : Over) (c : After-next_position g) (x : ℕ) →
@@ -31,40 +31,40 @@ moved g c x on =
     (kept_seen_by c.args.course g.text c.positions.input c.positions.invariant.keeps) on)
 
 -- what was simple has gone on from there
-gone : (g : Over) (c : After-glide-here g) →
+gone : (g : Over) (c : After-try_fast_path-here g) →
     IsUnderWay c.args.rule (seen_by c.args.course g.text) (size c.args.course) c.args.course.hi c.args.scratch.now.next.threads.width
     c.args.from c.args.course.last c.in-Some.next_at c.positions.scratch.insertions c.positions.scratch.curr c.positions.best c.positions.scratch.found.items →
     IsUnderWay c.args.rule (seen_by c.args.course g.text) (size c.args.course) c.args.course.hi c.args.scratch.now.next.threads.width
-    c.args.from c.args.course.last c.glide-here.result c.glide-here.new.scratch.insertions c.glide-here.new.scratch.curr c.glide-here.new.best c.glide-here.new.scratch.found.items
+    c.args.from c.args.course.last c.try_fast_path-here.result c.try_fast_path-here.new.scratch.insertions c.try_fast_path-here.new.scratch.curr c.try_fast_path-here.new.best c.try_fast_path-here.new.scratch.found.items
 gone g c here =
     let wide = c.positions.invariant.same.width in
     let s = seen_by c.args.course g.text in
     let n : ℕ = size c.args.course in
     let last : ℕ = c.args.course.last in
-    subst (λ w. IsUnderWay c.args.rule s n c.args.course.hi w c.args.from last c.glide-here.result c.glide-here.new.scratch.insertions
-    c.glide-here.new.scratch.curr c.glide-here.new.best c.glide-here.new.scratch.found.items) wide
-    (c.glide-here.ensures.come c.args.rule c.args.from (sym c.root_of-root.ensures)
+    subst (λ w. IsUnderWay c.args.rule s n c.args.course.hi w c.args.from last c.try_fast_path-here.result c.try_fast_path-here.new.scratch.insertions
+    c.try_fast_path-here.new.scratch.curr c.try_fast_path-here.new.best c.try_fast_path-here.new.scratch.found.items) wide
+    (c.try_fast_path-here.ensures.come c.args.rule c.args.from (sym c.root_of-root.ensures)
     (subst (λ w. IsUnderWay c.args.rule s n c.args.course.hi w c.args.from last c.in-Some.next_at c.positions.scratch.insertions c.positions.scratch.curr
     c.positions.best c.positions.scratch.found.items) (sym wide) here))
 
 -- the threads have gone on there
 turned : (g : Over) (c : After-turn_by g) →
     IsUnderWay c.args.rule (seen_by c.args.course g.text) (size c.args.course) c.args.course.hi c.args.scratch.now.next.threads.width
-    c.args.from c.args.course.last c.glide-here.result c.glide-here.new.scratch.insertions c.glide-here.new.scratch.curr c.glide-here.new.best c.glide-here.new.scratch.found.items →
+    c.args.from c.args.course.last c.try_fast_path-here.result c.try_fast_path-here.new.scratch.insertions c.try_fast_path-here.new.scratch.curr c.try_fast_path-here.new.best c.try_fast_path-here.new.scratch.found.items →
     IsUnderWay c.args.rule (seen_by c.args.course g.text) (size c.args.course) c.args.course.hi c.args.scratch.now.next.threads.width
-    c.args.from c.args.course.last (c.glide-here.result + 1) c.turn_by.new.scratch.insertions c.turn_by.new.scratch.curr c.turn_by.new.best c.turn_by.new.scratch.found.items
+    c.args.from c.args.course.last (c.try_fast_path-here.result + 1) c.turn_by.new.scratch.insertions c.turn_by.new.scratch.curr c.turn_by.new.best c.turn_by.new.scratch.found.items
 turned g c here =
     let n : ℕ = size c.args.course in
     let last : ℕ = c.args.course.last in
-    let at : ℕ = c.glide-here.result in
-    let wide = c.glide-here.ensures.same.width ∙ c.positions.invariant.same.width in
+    let at : ℕ = c.try_fast_path-here.result in
+    let wide = c.try_fast_path-here.ensures.same.width ∙ c.positions.invariant.same.width in
     let turns = rw (c.spot_at.ensures.course, c.spot_at.ensures.at) at c.turn_by.ensures.turns in
     let lined = rw (c.spot_at.ensures.course, c.spot_at.ensures.at) at c.turn_by.ensures.lined in
     turns_by c.args.rule (seen_by c.args.course g.text) n c.args.course.hi c.args.scratch.now.next.threads.width c.args.from last at
-    c.glide-here.new.scratch.insertions c.turn_by.new.scratch.insertions c.glide-here.new.scratch.curr c.turn_by.new.scratch.curr c.glide-here.new.best
-    c.turn_by.new.best c.glide-here.new.scratch.found.items c.turn_by.new.scratch.found.items here c.glide-here.ensures.within
-    (subst (λ w. Turns c.args.rule (seen_by c.args.course g.text) w last at c.glide-here.new.scratch.curr c.turn_by.new.scratch.curr
-    c.glide-here.new.best c.turn_by.new.best c.glide-here.new.scratch.found.items c.turn_by.new.scratch.found.items) wide turns)
+    c.try_fast_path-here.new.scratch.insertions c.turn_by.new.scratch.insertions c.try_fast_path-here.new.scratch.curr c.turn_by.new.scratch.curr c.try_fast_path-here.new.best
+    c.turn_by.new.best c.try_fast_path-here.new.scratch.found.items c.turn_by.new.scratch.found.items here c.try_fast_path-here.ensures.within
+    (subst (λ w. Turns c.args.rule (seen_by c.args.course g.text) w last at c.try_fast_path-here.new.scratch.curr c.turn_by.new.scratch.curr
+    c.try_fast_path-here.new.best c.turn_by.new.best c.try_fast_path-here.new.scratch.found.items c.turn_by.new.scratch.found.items) wide turns)
     (subst (λ w. IsLined n c.args.course.hi w (at + 1) c.turn_by.new.scratch.insertions c.turn_by.new.scratch.curr) wide lined)
     c.turn_by.ensures.counted (rw c.spot_at.ensures.course at c.turn_by.ensures.few)
 
@@ -150,12 +150,12 @@ shown g c within =
       ),
     )
 
-pub glide-here-requires : goal.glide-here-requires
-glide-here-requires g c =
+pub try_fast_path-here-requires : goal.try_fast_path-here-requires
+try_fast_path-here-requires g c =
     let at : ℕ = c.in-Some.next_at in
     let on = c.in-Some.ensures.next c.requires.1.1.1.0 in
-    let here = moved g (goal.at.glide-here-requires g c).After-next_position at on in
-    let r = shown g (goal.at.glide-here-requires g c).After-reach on.1 in
+    let here = moved g (goal.at.try_fast_path-here-requires g c).After-next_position at on in
+    let r = shown g (goal.at.try_fast_path-here-requires g c).After-reach on.1 in
     let rooted = subst (λ n. 0 < n) (length-map c.args.course.program.now.places.items place_of) c.args.course.program.now.runnable.rooted in
     let there = enters_there c.args.rule (size c.args.course) (seen_by c.args.course g.text) rooted c.requires.1.1.1.1.1.1 in (
       c.requires.1.1.0,
@@ -194,33 +194,33 @@ spot_at-requires g c =
       (
         r.0,
         (
-          begun_from g.text c.in-Some.next_at c.glide-here.result c.reach.new.window c.glide-here.ensures.later r.1.0,
-          (c.glide-here.ensures.around, c.glide-here.ensures.within),
+          begun_from g.text c.in-Some.next_at c.try_fast_path-here.result c.reach.new.window c.try_fast_path-here.ensures.later r.1.0,
+          (c.try_fast_path-here.ensures.around, c.try_fast_path-here.ensures.within),
         ),
       ),
     )
 
 pub turn_by-requires : goal.turn_by-requires
 turn_by-requires g c =
-    let at : ℕ = c.glide-here.result in
+    let at : ℕ = c.try_fast_path-here.result in
     let on = c.in-Some.ensures.next c.requires.1.1.1.0 in
-    let same = c.glide-here.ensures.same in
+    let same = c.try_fast_path-here.ensures.same in
     let inv = c.positions.invariant in
-    let here = gone g (goal.at.turn_by-requires g c).After-glide-here
+    let here = gone g (goal.at.turn_by-requires g c).After-try_fast_path-here
     (moved g (goal.at.turn_by-requires g c).After-next_position c.in-Some.next_at on) in (
       c.spot_at.ensures.here,
       (
         same.capacity ∙ inv.same.capacity ∙ c.requires.1.1.1.1.1.0 ∙ sym (ap size c.spot_at.ensures.course),
         (
           rw (c.spot_at.ensures.course, c.spot_at.ensures.at)
-              (subst (λ w. IsLined (size c.args.course) c.args.course.hi w at c.glide-here.new.scratch.insertions c.glide-here.new.scratch.curr)
+              (subst (λ w. IsLined (size c.args.course) c.args.course.hi w at c.try_fast_path-here.new.scratch.insertions c.try_fast_path-here.new.scratch.curr)
               (sym (same.width ∙ inv.same.width)) here.lined),
           (
             here.ended,
             (
-              rw c.spot_at.ensures.course (counts_fit (size c.args.course) (at - c.args.from) c.glide-here.new.scratch.insertions
+              rw c.spot_at.ensures.course (counts_fit (size c.args.course) (at - c.args.from) c.try_fast_path-here.new.scratch.insertions
                   (omega (arith, c.args.scratch.now.next.stack.small, c.args.scratch.now.next.fits.1, c.requires.1.1.1.1.1.0))
-                  (omega (arith, c.args.course.small, c.glide-here.ensures.within)) here.few),
+                  (omega (arith, c.args.course.small, c.try_fast_path-here.ensures.within)) here.few),
               rw c.spot_at.ensures.course c.requires.1.1.1.1.1.1,
             ),
           ),
@@ -229,70 +229,70 @@ turn_by-requires g c =
     )
 
 -- no thread is left, and no start is sought
-spent : (g : Over) (c : After-glide-here g) → (length c.glide-here.new.scratch.curr.items ≡ 0) × IsCutOff c.glide-here.new.best c.glide-here.result →
+spent : (g : Over) (c : After-try_fast_path-here g) → (length c.try_fast_path-here.new.scratch.curr.items ≡ 0) × IsCutOff c.try_fast_path-here.new.best c.try_fast_path-here.result →
     c.args.from ≤ c.args.course.last → IsUnderWay c.args.rule (seen_by c.args.course g.text) (size c.args.course) c.args.course.hi c.args.scratch.now.next.threads.width
     c.args.from c.args.course.last c.in-Some.next_at c.positions.scratch.insertions c.positions.scratch.curr c.positions.best c.positions.scratch.found.items →
     GivesBy c.args.rule (seen_by c.args.course g.text) c.args.scratch.now.next.threads.width c.args.from c.args.course.last
-    (best_of c.glide-here.new.best c.glide-here.new.scratch.found.items)
+    (best_of c.try_fast_path-here.new.best c.try_fast_path-here.new.scratch.found.items)
 spent g c ended low here =
     spent_by c.args.rule (seen_by c.args.course g.text) (size c.args.course) c.args.course.hi c.args.scratch.now.next.threads.width
-    c.args.from c.args.course.last c.glide-here.result c.glide-here.new.scratch.insertions c.glide-here.new.scratch.curr c.glide-here.new.best
-    c.glide-here.new.scratch.found.items (gone g c here) ended.0 ended.1 low
+    c.args.from c.args.course.last c.try_fast_path-here.result c.try_fast_path-here.new.scratch.insertions c.try_fast_path-here.new.scratch.curr c.try_fast_path-here.new.best
+    c.try_fast_path-here.new.scratch.found.items (gone g c here) ended.0 ended.1 low
 
 pub returns-then-is_spent-clause-gives : goal.returns-then-is_spent-clause-gives
 returns-then-is_spent-clause-gives g c = λ _.
     let on = c.in-Some.ensures.next c.requires.1.1.1.0 in
-    spent g (goal.at.returns-then-is_spent-clause-gives g c).After-glide-here (c.is_spent.ensures c.if-is_spent.true) c.requires.1.1.1.1.0.1
+    spent g (goal.at.returns-then-is_spent-clause-gives g c).After-try_fast_path-here (c.is_spent.ensures c.if-is_spent.true) c.requires.1.1.1.1.0.1
     (moved g (goal.at.returns-then-is_spent-clause-gives g c).After-next_position c.in-Some.next_at on)
 
 pub returns-then-is_spent-clause-tells : goal.returns-then-is_spent-clause-tells
 returns-then-is_spent-clause-tells g c =
     let on = c.in-Some.ensures.next c.requires.1.1.1.0 in
     tells_by c.args.rule (seen_by c.args.course g.text) (size c.args.course) c.args.course.hi c.args.scratch.now.next.threads.width
-    c.args.from c.args.course.last c.glide-here.new.best c.glide-here.new.scratch.found.items
-    (spent g (goal.at.returns-then-is_spent-clause-tells g c).After-glide-here (c.is_spent.ensures c.if-is_spent.true) c.requires.1.1.1.1.0.1
+    c.args.from c.args.course.last c.try_fast_path-here.new.best c.try_fast_path-here.new.scratch.found.items
+    (spent g (goal.at.returns-then-is_spent-clause-tells g c).After-try_fast_path-here (c.is_spent.ensures c.if-is_spent.true) c.requires.1.1.1.1.0.1
     (moved g (goal.at.returns-then-is_spent-clause-tells g c).After-next_position c.in-Some.next_at on))
 
 pub returns-then-is_spent-clause-counted : goal.returns-then-is_spent-clause-counted
 returns-then-is_spent-clause-counted g c =
     let on = c.in-Some.ensures.next c.requires.1.1.1.0 in
-    (gone g (goal.at.returns-then-is_spent-clause-counted g c).After-glide-here
+    (gone g (goal.at.returns-then-is_spent-clause-counted g c).After-try_fast_path-here
     (moved g (goal.at.returns-then-is_spent-clause-counted g c).After-next_position c.in-Some.next_at on)).ended
 
 pub returns-then-is_spent-clause-few : goal.returns-then-is_spent-clause-few
 returns-then-is_spent-clause-few g c =
     let on = c.in-Some.ensures.next c.requires.1.1.1.0 in
-    let here = gone g (goal.at.returns-then-is_spent-clause-few g c).After-glide-here
+    let here = gone g (goal.at.returns-then-is_spent-clause-few g c).After-try_fast_path-here
     (moved g (goal.at.returns-then-is_spent-clause-few g c).After-next_position c.in-Some.next_at on) in
-    counted_in_all (size c.args.course) c.glide-here.result c.args.from c.args.course.hi c.glide-here.new.scratch.insertions
+    counted_in_all (size c.args.course) c.try_fast_path-here.result c.args.from c.args.course.hi c.try_fast_path-here.new.scratch.insertions
     here.few here.within (omega (arith, c.requires.1.1.1.1.0.1, c.args.course.ordered))
 
 pub returns-then-is_some-clause-tells : goal.returns-then-is_some-clause-tells
 returns-then-is_some-clause-tells g c =
     let on = c.in-Some.ensures.next c.requires.1.1.1.0 in
     early_by c.args.rule (seen_by c.args.course g.text) (size c.args.course) c.args.course.hi c.args.scratch.now.next.threads.width
-    c.args.from c.args.course.last (c.glide-here.result + 1) c.turn_by.new.scratch.insertions c.turn_by.new.scratch.curr c.turn_by.new.best c.turn_by.new.scratch.found.items
+    c.args.from c.args.course.last (c.try_fast_path-here.result + 1) c.turn_by.new.scratch.insertions c.turn_by.new.scratch.curr c.turn_by.new.best c.turn_by.new.scratch.found.items
     c.requires.1.1.0.bound (sym c.is_some.ensures ∙ c.if-is_some.true)
     (turned g (goal.at.returns-then-is_some-clause-tells g c).After-turn_by
-    (gone g (goal.at.returns-then-is_some-clause-tells g c).After-glide-here
+    (gone g (goal.at.returns-then-is_some-clause-tells g c).After-try_fast_path-here
     (moved g (goal.at.returns-then-is_some-clause-tells g c).After-next_position c.in-Some.next_at on)))
 
 pub returns-then-is_some-clause-few : goal.returns-then-is_some-clause-few
 returns-then-is_some-clause-few g c =
     let on = c.in-Some.ensures.next c.requires.1.1.1.0 in
-    let here = gone g (goal.at.returns-then-is_some-clause-few g c).After-glide-here
+    let here = gone g (goal.at.returns-then-is_some-clause-few g c).After-try_fast_path-here
     (moved g (goal.at.returns-then-is_some-clause-few g c).After-next_position c.in-Some.next_at on) in
-    counted_at_last (size c.args.course) c.glide-here.result c.args.from c.args.course.hi c.glide-here.new.scratch.insertions c.turn_by.new.scratch.insertions
-    here.few (rw c.spot_at.ensures.course at c.turn_by.ensures.few) (omega (arith, c.glide-here.ensures.within)) here.reached
+    counted_at_last (size c.args.course) c.try_fast_path-here.result c.args.from c.args.course.hi c.try_fast_path-here.new.scratch.insertions c.turn_by.new.scratch.insertions
+    here.few (rw c.spot_at.ensures.course at c.turn_by.ensures.few) (omega (arith, c.try_fast_path-here.ensures.within)) here.reached
 
 pub returns-then-is_over-clause-gives : goal.returns-then-is_over-clause-gives
 returns-then-is_over-clause-gives g c = λ _.
     let ended = c.is_over.ensures c.if-is_over.true in
     let on = c.in-Some.ensures.next c.requires.1.1.1.0 in
     stops_by c.args.rule (seen_by c.args.course g.text) (size c.args.course) c.args.course.hi c.args.scratch.now.next.threads.width
-    c.args.from c.args.course.last c.glide-here.result c.turn_by.new.scratch.insertions c.turn_by.new.scratch.curr c.turn_by.new.best c.turn_by.new.scratch.found.items
+    c.args.from c.args.course.last c.try_fast_path-here.result c.turn_by.new.scratch.insertions c.turn_by.new.scratch.curr c.turn_by.new.best c.turn_by.new.scratch.found.items
     (turned g (goal.at.returns-then-is_over-clause-gives g c).After-turn_by
-    (gone g (goal.at.returns-then-is_over-clause-gives g c).After-glide-here
+    (gone g (goal.at.returns-then-is_over-clause-gives g c).After-try_fast_path-here
     (moved g (goal.at.returns-then-is_over-clause-gives g c).After-next_position c.in-Some.next_at on)))
     ended.0 ended.1 c.requires.1.1.1.1.0.1
 
@@ -303,27 +303,27 @@ returns-then-is_over-clause-tells g c =
     tells_by c.args.rule (seen_by c.args.course g.text) (size c.args.course) c.args.course.hi c.args.scratch.now.next.threads.width
     c.args.from c.args.course.last c.turn_by.new.best c.turn_by.new.scratch.found.items
     (stops_by c.args.rule (seen_by c.args.course g.text) (size c.args.course) c.args.course.hi c.args.scratch.now.next.threads.width
-    c.args.from c.args.course.last c.glide-here.result c.turn_by.new.scratch.insertions c.turn_by.new.scratch.curr c.turn_by.new.best c.turn_by.new.scratch.found.items
+    c.args.from c.args.course.last c.try_fast_path-here.result c.turn_by.new.scratch.insertions c.turn_by.new.scratch.curr c.turn_by.new.best c.turn_by.new.scratch.found.items
     (turned g (goal.at.returns-then-is_over-clause-tells g c).After-turn_by
-    (gone g (goal.at.returns-then-is_over-clause-tells g c).After-glide-here
+    (gone g (goal.at.returns-then-is_over-clause-tells g c).After-try_fast_path-here
     (moved g (goal.at.returns-then-is_over-clause-tells g c).After-next_position c.in-Some.next_at on)))
     ended.0 ended.1 c.requires.1.1.1.1.0.1)
 
 pub returns-then-is_over-clause-few : goal.returns-then-is_over-clause-few
 returns-then-is_over-clause-few g c =
     let on = c.in-Some.ensures.next c.requires.1.1.1.0 in
-    let here = gone g (goal.at.returns-then-is_over-clause-few g c).After-glide-here
+    let here = gone g (goal.at.returns-then-is_over-clause-few g c).After-try_fast_path-here
     (moved g (goal.at.returns-then-is_over-clause-few g c).After-next_position c.in-Some.next_at on) in
-    counted_at_last (size c.args.course) c.glide-here.result c.args.from c.args.course.hi c.glide-here.new.scratch.insertions c.turn_by.new.scratch.insertions
-    here.few (rw c.spot_at.ensures.course at c.turn_by.ensures.few) (omega (arith, c.glide-here.ensures.within)) here.reached
+    counted_at_last (size c.args.course) c.try_fast_path-here.result c.args.from c.args.course.hi c.try_fast_path-here.new.scratch.insertions c.turn_by.new.scratch.insertions
+    here.few (rw c.spot_at.ensures.course at c.turn_by.ensures.few) (omega (arith, c.try_fast_path-here.ensures.within)) here.reached
 
 pub overflow_add-at : goal.overflow_add-at
-overflow_add-at g c = omega (arith, c.glide-here.ensures.within, c.args.course.small)
+overflow_add-at g c = omega (arith, c.try_fast_path-here.ensures.within, c.args.course.small)
 
 pub positions-smaller : goal.positions-smaller
 positions-smaller g c =
     let on = c.in-Some.ensures.next c.requires.1.1.1.0 in
-    omega (arith, on.0, c.glide-here.ensures.later, c.glide-here.ensures.within)
+    omega (arith, on.0, c.try_fast_path-here.ensures.later, c.try_fast_path-here.ensures.within)
 
 pub positions-preserved : goal.positions-preserved
 positions-preserved g c =
@@ -334,14 +334,14 @@ positions-preserved g c =
     record {
       keeps = kept_then g.text c.next_position.new.input c.reach.new.input keeps c.reach.ensures.keeps;
       window = r.0;
-      begun = begun_later g.text c.glide-here.result c.reach.new.window
-          (begun_from g.text c.in-Some.next_at c.glide-here.result c.reach.new.window c.glide-here.ensures.later r.1.0);
+      begun = begun_later g.text c.try_fast_path-here.result c.reach.new.window
+          (begun_from g.text c.in-Some.next_at c.try_fast_path-here.result c.reach.new.window c.try_fast_path-here.ensures.later r.1.0);
       come = turned g (goal.at.positions-preserved g c).After-turn_by
-          (gone g (goal.at.positions-preserved g c).After-glide-here
+          (gone g (goal.at.positions-preserved g c).After-try_fast_path-here
           (moved g (goal.at.positions-preserved g c).After-next_position c.in-Some.next_at on));
       same = record {
-        capacity = c.turn_by.ensures.same.capacity ∙ c.glide-here.ensures.same.capacity ∙ inv.same.capacity;
-        most = c.turn_by.ensures.same.most ∙ c.glide-here.ensures.same.most ∙ inv.same.most;
-        width = c.turn_by.ensures.same.width ∙ c.glide-here.ensures.same.width ∙ inv.same.width;
+        capacity = c.turn_by.ensures.same.capacity ∙ c.try_fast_path-here.ensures.same.capacity ∙ inv.same.capacity;
+        most = c.turn_by.ensures.same.most ∙ c.try_fast_path-here.ensures.same.most ∙ inv.same.most;
+        width = c.turn_by.ensures.same.width ∙ c.try_fast_path-here.ensures.same.width ∙ inv.same.width;
       };
     }

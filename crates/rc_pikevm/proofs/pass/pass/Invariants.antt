@@ -26,5 +26,5 @@ ghost-spot_at g a = g.text
 abbrev pub ghost-turn_by : goal.ghost-turn_by
 ghost-turn_by g a = g.text
 
-abbrev pub ghost-glide : goal.ghost-glide
-ghost-glide g a = g.text
+abbrev pub ghost-try_fast_path : goal.ghost-try_fast_path
+ghost-try_fast_path g a = g.text

@@ -1,6 +1,6 @@
 use Rattle.std.proofs.Common.{sym, subst}
 use Rattle.rc_pikevm.specs.Underway.{HasCome}
-use Rattle.rc_pikevm.proofs.alone.wander.Goals as goal
+use Rattle.rc_pikevm.proofs.alone.run_fast_path.Goals as goal
 
 pub returns-clause-come : goal.returns-clause-come
 returns-clause-come g c rule from is p =

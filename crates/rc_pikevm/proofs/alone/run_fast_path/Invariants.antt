@@ -1,4 +1,4 @@
-use Rattle.rc_pikevm.proofs.alone.wander.Given as goal
+use Rattle.rc_pikevm.proofs.alone.run_fast_path.Given as goal
 
 abbrev pub ghost-begin : goal.ghost-begin
 ghost-begin g a = g.text

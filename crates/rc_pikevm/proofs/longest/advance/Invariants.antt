@@ -1,10 +1,10 @@
-use Rattle.rc_pikevm.proofs.race.advance.Given as goal
+use Rattle.rc_pikevm.proofs.longest.advance.Given as goal
 
 abbrev pub ghost-step : goal.ghost-step
 ghost-step g a = g.text
 
-abbrev pub ghost-run : goal.ghost-run
-ghost-run g a = g.text
+abbrev pub ghost-spread : goal.ghost-spread
+ghost-spread g a = g.text
 
 abbrev pub ghost-way_in : goal.ghost-way_in
 ghost-way_in g a = g.text

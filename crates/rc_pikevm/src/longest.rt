@@ -1,24 +1,99 @@
 //! The Pike VM for leftmost-longest: how the threads go on at a position in a pass for the longest
 //! walk of the least start. A match drops the threads of later starts, and no other.
-ghost use Rattle.std.specs.Prelude.{◌≡◌, ℕ, ◌+◌, ◌-◌, ◌*◌, ◌<◌, ◌≤◌, ◌⊎◌, ◌^◌, List, [], ◌++◌, length, map, Option, IsTrue};
+ghost use Rattle.std.specs.Prelude.{◌≡◌, ℕ, ◌+◌, ◌-◌, ◌*◌, ◌<◌, ◌≤◌, ◌⊎◌, ◌^◌, List, [], ◌++◌, length, map, Option, IsTrue, ◌∷◌, MatchBool};
 ghost use Rattle.rc_walks.specs.Walks.{Pair};
 ghost use Rattle.rc_text.specs.Text.{Searched};
 ghost use Rattle.rc_pikevm.specs.Near.{IsHere, seen_from, size};
-ghost use Rattle.rc_pikevm.specs.Trace.{Trace};
-ghost use Rattle.rc_pikevm.specs.Passing.{pending, AllFrom, IsCounted};
-ghost use Rattle.rc_pikevm.specs.Races.{Races, IsCutOff, starts_to};
+ghost use Rattle.rc_pikevm.specs.Trace.{Trace, trace};
+ghost use Rattle.rc_pikevm.specs.Passing.{pending, AllFrom, IsCounted, HasRoom};
+ghost use Rattle.rc_pikevm.specs.Races.{Races, IsCutOff, starts_to, IsSought, IsRecorded};
 ghost use Rattle.rc_pikevm.specs.Scratches.{IsSame};
 ghost use Rattle.rc_pikevm.specs.Steps.{HasStepped, MayStep};
 ghost use Rattle.rc_pikevm.specs.Underway.{IsInLine};
+ghost use Rattle.rc_pikevm.specs.Explored.{Grows};
+ghost use Rattle.rc_pikevm.specs.Spread.{StaysCounted};
 
+use crate::closure::{close, drain};
 use crate::entrance::way_in;
 use crate::growth::{Growth, copy_row};
 use crate::heads::is_dead;
 use crate::pass::{Ending, empty};
-use crate::race_closure::{is_sought, run};
 use crate::scratch::Scratch;
 use crate::spot::Spot;
 use crate::threads::Threads;
+
+/// Whether a walk from this start may still be the longest of the least start.
+#[inline(always)]
+fn is_sought(best: Option<Ending>, start: usize) -> bool
+    ensures { MatchBool result (IsSought best start) (IsCutOff best start) }
+{
+    let Some(old) = best else {
+        return true;
+    };
+    start <= old.start
+}
+
+/// Records a walk that has ended: it becomes the best, and its slots are copied to `found`, unless
+/// the best so far ended there or later.
+#[inline(always)]
+fn record(
+    new: Ending,
+    slots: &[Option<usize>],
+    best: &mut Option<Ending>,
+    found: &mut [Option<usize>],
+)
+    requires { length slots.now ≡ length found.old }
+    ensures { IsRecorded best.old found.old new slots.now best.new found.new }
+{
+    if let Some(old) = *best {
+        if new.end <= old.end {
+            return;
+        }
+    }
+    *best = Some(new);
+    found.copy_from_slice(slots);
+}
+
+/// Follows all ways from `root` that read nothing, in order of preference, and appends a thread for
+/// each place that reads. `best` is the longest match of the least start so far, and `found` are
+/// its slots.
+#[inline(always)]
+fn spread(
+    spot: &Spot,
+    root: usize,
+    start: usize,
+    best: &mut Option<Ending>,
+    found: &mut [Option<usize>],
+    growth: &mut Growth,
+)
+    ghost text: { Searched }
+    requires here { IsHere spot.now text }
+    requires root_in { root < size spot.now.course }
+    requires sound { HasRoom (size spot.now.course) spot.now.course.hi spot.now.at
+        growth.old.threads growth.old.entered }
+    requires sought { IsSought best.old start }
+    requires wide { length found.old ≡ growth.old.threads.width }
+    ensures races { (all below : List (Trace × Pair))
+        → Races (seen_from spot.now text) all spot.now.at growth.old.threads.items
+        growth.old.entered.items
+        ((trace start growth.old.slots.items, (root, spot.now.at)) ∷ below) best.old found.old
+        → Races (seen_from spot.now text) all spot.now.at growth.new.threads.items
+        growth.new.entered.items below best.new found.new }
+    ensures counted { StaysCounted start spot.now.at best.old best.new }
+    ensures grown { Grows spot.now start growth.old growth.new }
+    ensures some { 0 < length growth.new.entered.items }
+{
+    let mut ended = close(spot, root, start, growth);
+    'ends: while let Some(pattern) = ended {
+        let new = Ending {
+            pattern,
+            start,
+            end: spot.at,
+        };
+        record(new, &growth.slots, best, found);
+        ended = drain(spot, start, growth);
+    }
+}
 
 /// Advances the threads of `curr` at the spot, in order. Threads that wait for a later position are
 /// appended to `growth` as they are. Threads of later starts than the best walk's are dropped.
@@ -56,7 +131,7 @@ fn step(
         }
         copy_row(&mut growth.slots, row);
         let place = way_in(spot, head.place, &growth.entered);
-        run(spot, place, head.start, best, found, growth);
+        spread(spot, place, head.start, best, found, growth);
     }
 }
 
@@ -101,7 +176,7 @@ fn advance(
     }
     empty(&mut growth.slots);
     let place = way_in(spot, 0, &growth.entered);
-    run(spot, place, spot.at, best, found, growth);
+    spread(spot, place, spot.at, best, found, growth);
 }
 
 /// Handles one position of a pass: advances the threads, and counts the places entered.

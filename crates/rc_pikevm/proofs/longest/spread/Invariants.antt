@@ -8,7 +8,7 @@ use Rattle.rc_pikevm.specs.Spread.{StaysCounted}
 use Rattle.rc_pikevm.specs.Trace.{Trace, trace}
 use Rattle.rc_pikevm.specs.declared.pass.Ending.{Ending}
 use Rattle.rc_pikevm.proofs.ExploredLemmas.{Records}
-use Rattle.rc_pikevm.proofs.race_closure.run.Given as goal
+use Rattle.rc_pikevm.proofs.longest.spread.Given as goal
 
 abbrev pub invariant-ends : goal.invariant-ends
 invariant-ends g l = record {

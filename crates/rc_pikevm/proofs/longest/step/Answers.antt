@@ -5,7 +5,7 @@ use Rattle.rc_pikevm.specs.Passing.{pending}
 use Rattle.rc_pikevm.specs.Races.{Races}
 use Rattle.rc_pikevm.proofs.StepLemmas.{gone_all, gone_begins, gone_fits, in_at, over}
 use Rattle.rc_pikevm.proofs.RaceStepLemmas.{run_drops, run_waits, run_closes}
-use Rattle.rc_pikevm.proofs.race.step.Goals as goal
+use Rattle.rc_pikevm.proofs.longest.step.Goals as goal
 
 pub threads-init : goal.threads-init
 threads-init g c =
@@ -56,9 +56,9 @@ threads-preserved g c = record {
       c.args.growth.now.threads c.args.best.now c.args.found.now
       c.threads.growth.threads c.threads.growth.entered c.threads.best c.threads.found c.threads.index (thread_of c.get.result.0 c.get.result.1.now)
       c.get.ensures.item c.requires.1.0.inside c.threads.invariant.running
-      c.run.new.growth.threads c.run.new.growth.entered c.run.new.best c.run.new.found c.way_in-place.result c.copy_row.new.slots.items
+      c.spread.new.growth.threads c.spread.new.growth.entered c.spread.new.best c.spread.new.found c.way_in-place.result c.copy_row.new.slots.items
       c.if-not-is_sought.ensures (omega (arith, c.if-head-spot.false)) (sym c.copy_row.ensures.items) c.way_in-place.ensures.way
-      c.run.ensures.races c.run.ensures.grown c.run.ensures.counted c.run.ensures.some;
+      c.spread.ensures.races c.spread.ensures.grown c.spread.ensures.counted c.spread.ensures.some;
 }
 
 pub returns-clause-races : goal.returns-clause-races

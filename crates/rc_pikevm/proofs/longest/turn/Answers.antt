@@ -7,7 +7,7 @@ use Rattle.rc_pikevm.proofs.StartLemmas.{waiting_past}
 use Rattle.rc_pikevm.proofs.TurnLemmas.{inside_by, lined_next, ready_for, from_earlier}
 use Rattle.rc_pikevm.proofs.SpreadPassLemmas.{counted_more}
 use Rattle.rc_pikevm.proofs.RacePassLemmas.{raced_turns}
-use Rattle.rc_pikevm.proofs.race.turn.Goals as goal
+use Rattle.rc_pikevm.proofs.longest.turn.Goals as goal
 
 whole : {X : Type 0} (xs ys : List X) (n : ℕ) → length xs ≡ n → take n (xs ++ ys) ≡ xs
 whole [] ys zero e = refl

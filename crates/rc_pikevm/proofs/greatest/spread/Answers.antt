@@ -6,7 +6,7 @@ use Rattle.rc_pikevm.specs.Spread.{Seeks, runners_of}
 use Rattle.rc_pikevm.specs.declared.pass.Ending.{Ending}
 use Rattle.rc_pikevm.proofs.ExploredLemmas.{Greatens, explored_ordered, explored_seeks}
 use Rattle.rc_pikevm.proofs.GrownLemmas.{grown_then}
-use Rattle.rc_pikevm.proofs.spread.spread.Goals as goal
+use Rattle.rc_pikevm.proofs.greatest.spread.Goals as goal
 
 pub ends-init : goal.ends-init
 ends-init g c = record {

@@ -8,7 +8,7 @@ use Rattle.rc_pikevm.proofs.RaceAloneLemmas.{raced_quiet}
 use Rattle.rc_pikevm.proofs.RaceMoveLemmas.{raced_drops, raced_way_in}
 use Rattle.rc_pikevm.proofs.RacePassLemmas.{starts_next, starts_over}
 use Rattle.rc_pikevm.proofs.StepLemmas.{gone_then}
-use Rattle.rc_pikevm.proofs.race.advance.Goals as goal
+use Rattle.rc_pikevm.proofs.longest.advance.Goals as goal
 
 pub returns-then-spot-clause-races : goal.returns-then-spot-clause-races
 returns-then-spot-clause-races g c all x =
@@ -45,7 +45,7 @@ returns-clause-races g c all x =
     let rest : List (Trace × Pair) = starts_to width (at + 1) last in
     let slots : c.empty.new.slots.items ≡ replicate width None =
     c.empty.ensures.slots ∙ ap (λ n. replicate n None) (c.step.new.growth.wide.0 ∙ c.step.ensures.stepped.same_width) in
-    c.run.ensures.races all rest
+    c.spread.ensures.races all rest
     (subst (λ l. Races (seen_from c.args.spot.now g.text) all at c.step.new.growth.threads.items c.step.new.growth.entered.items
     ((trace at l, (c.way_in-place.result, at)) ∷ rest) c.step.new.best c.step.new.found) (sym slots)
     (raced_way_in (seen_from c.args.spot.now g.text) all at c.step.new.growth.threads.items c.step.new.growth.entered.items c.step.new.best c.step.new.found
@@ -55,7 +55,7 @@ returns-clause-races g c all x =
     (c.step.ensures.races all (starts_to width at last) x))))
 
 pub returns-clause-stepped : goal.returns-clause-stepped
-returns-clause-stepped g c = gone_then c.step.ensures.stepped c.run.ensures.grown
+returns-clause-stepped g c = gone_then c.step.ensures.stepped c.spread.ensures.grown
 
 pub returns-then-is_dead-clause-races : goal.returns-then-is_dead-clause-races
 returns-then-is_dead-clause-races g c all x =

@@ -5,7 +5,7 @@ use Rattle.rc_pikevm.specs.Near.{seen_from, size}
 use Rattle.rc_pikevm.specs.Spread.{BeginFrom, IsOrdered, Runner, Seeks, StaysCounted, runners_of}
 use Rattle.rc_pikevm.specs.declared.pass.Ending.{Ending}
 use Rattle.rc_pikevm.proofs.ExploredLemmas.{Greatens}
-use Rattle.rc_pikevm.proofs.spread.spread.Given as goal
+use Rattle.rc_pikevm.proofs.greatest.spread.Given as goal
 
 abbrev pub invariant-ends : goal.invariant-ends
 invariant-ends g l = record {

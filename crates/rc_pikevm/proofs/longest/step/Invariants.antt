@@ -1,7 +1,7 @@
 use Rattle.std.proofs.Common.{drop}
 use Rattle.rc_pikevm.specs.Near.{seen_from, size}
 use Rattle.rc_pikevm.specs.Races.{IsRunOn}
-use Rattle.rc_pikevm.proofs.race.step.Given as goal
+use Rattle.rc_pikevm.proofs.longest.step.Given as goal
 
 abbrev pub invariant-threads : goal.invariant-threads
 invariant-threads g l = record {
@@ -9,8 +9,8 @@ invariant-threads g l = record {
       l.fn.best l.fn.found l.growth.threads l.growth.entered l.best l.found;
 }
 
-abbrev pub ghost-run : goal.ghost-run
-ghost-run g a = g.text
+abbrev pub ghost-spread : goal.ghost-spread
+ghost-spread g a = g.text
 
 abbrev pub ghost-way_in : goal.ghost-way_in
 ghost-way_in g a = g.text

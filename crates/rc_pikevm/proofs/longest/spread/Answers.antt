@@ -6,9 +6,9 @@ use Rattle.rc_pikevm.specs.Races.{Races, IsRecorded}
 use Rattle.rc_pikevm.specs.declared.pass.Ending.{Ending}
 use Rattle.rc_pikevm.proofs.ExploredLemmas.{Records, explored_races, recorded_sought, recorded_counted}
 use Rattle.rc_pikevm.proofs.GrownLemmas.{grown_then}
-use Rattle.rc_pikevm.proofs.race_closure.run.Given.{Over}
-use Rattle.rc_pikevm.proofs.race_closure.run.Goals as goal
-use Rattle.rc_pikevm.proofs.race_closure.run.Goals.{After-record}
+use Rattle.rc_pikevm.proofs.longest.spread.Given.{Over}
+use Rattle.rc_pikevm.proofs.longest.spread.Goals as goal
+use Rattle.rc_pikevm.proofs.longest.spread.Goals.{After-record}
 
 pub ends-init : goal.ends-init
 ends-init g c = record {
