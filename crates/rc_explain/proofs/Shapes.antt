@@ -3,7 +3,9 @@ use Rattle.std.proofs.Common.{◌≡◌, ◌∙◌, ◌+◌, ◌≤◌, ℕ, suc
 use Rattle.std.proofs.lemmas.List.{get_or-drop, get_or-take, length-drop, length-take}
 use Rattle.std.proofs.lemmas.Option.{get_or_from_slice_get, slice_get-get_or, slice_get_within}
 use Rattle.rc_tokens.specs.Text.{Characters}
-use Rattle.rc_explain.specs.Shown.{AreAt, Begins, Has, HasShape, Is, IsNamed, IsNoneOf, IsOne, IsOther, IsSuch, Shape, Shows, Stands, begins, either, exactly, named, none_of, nothing, one, other, shape_of, such}
+use Rattle.rc_parser.specs.declared.config.Grammar.{Grammar}
+use Rattle.rc_parser.specs.declared.config.Grammar.TheVariants.{Full, Stated}
+use Rattle.rc_explain.specs.Shown.{AreAt, Begins, Has, HasShape, Is, IsNamed, IsNoneOf, IsOne, IsOther, IsSuch, Shape, Shows, ShowsBy, Stands, begins, either, exactly, named, none_of, nothing, one, other, shape_of, such}
 use Rattle.rc_explain.specs.declared.faults.FaultKind.{FaultKind}
 use Rattle.rc_explain.specs.declared.faults.FaultKind.TheVariants.{NestedTooDeeply}
 
@@ -127,6 +129,10 @@ pub shows : (kind : FaultKind) (t : Characters) (s e : ℕ) → HasShape kind t 
 shows NestedTooDeeply t s e h = absurd h
 shows kind t s e h = h
 
-pub shows_ordered : (kind : FaultKind) (t : Characters) (s e m : ℕ) → m ≡ max e s → Shows kind t s e → Shows kind t s m
+shows_ordered : (kind : FaultKind) (t : Characters) (s e m : ℕ) → m ≡ max e s → Shows kind t s e → Shows kind t s m
 shows_ordered NestedTooDeeply t s e m is h = h
 shows_ordered kind t s e m is h = ordered (shape_of kind) t s e m is h
+
+pub shown_ordered : (g : Grammar) (kind : FaultKind) (t : Characters) (s e m : ℕ) → m ≡ max e s → ShowsBy g kind t s e → ShowsBy g kind t s m
+shown_ordered Stated kind t s e m is h = shows_ordered kind t s e m is h
+shown_ordered Full kind t s e m is h = let within = h.1 in let ends = h.2 in (h.0, h.1, omega (arith, is, within, ends))

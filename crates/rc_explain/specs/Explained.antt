@@ -3,7 +3,7 @@ use Rattle.std.specs.Prelude.{ℕ, ◌≤◌, List, IsCharBoundary}
 use Rattle.rc_pattern.specs.Re.{Re}
 use Rattle.rc_tokens.specs.Text.{Characters}
 use Rattle.rc_parser.specs.Settings.{Settings}
-use Rattle.rc_parser.specs.Grammar.{Reads}
+use Rattle.rc_syntax.specs.Reads.{Reads}
 use Rattle.rc_text.specs.declared.types.Span.{Span}
 
 -- the grammar reads a pattern from the text

@@ -1,5 +1,5 @@
 -- What stands in the span of a fault, by its kind.
-use Rattle.std.specs.Prelude.{◌≡◌, ◌≢◌, ◌⊎◌, ℕ, suc, ◌+◌, ◌^◌, ◌<◌, ◌≤◌, Bool, true, false, ◌||◌, ◌==◌, List, [], ◌∷◌, ◌++◌, length, take, chars, slice_get, Some, encode_utf8_all}
+use Rattle.std.specs.Prelude.{◌≡◌, ◌≢◌, ◌⊎◌, ℕ, suc, ◌+◌, ◌^◌, ◌<◌, ◌≤◌, Bool, true, false, ◌||◌, ◌==◌, List, [], ◌∷◌, ◌++◌, length, min, take, chars, slice_get, Some, encode_utf8_all}
 use Rattle.std.specs.Char.{is_ascii_alphabetic, is_ascii_hexdigit}
 use Rattle.rc_tokens.specs.Text.{Characters, each, is_digit_of, value_from}
 use Rattle.rc_tokens.specs.Said.{Sense, Character as a_character, Byte as a_byte, Dot, PerlClass, Asserts, Members}
@@ -8,6 +8,8 @@ use Rattle.rc_tokens.specs.declared.tokens.Assertion.{Assertion}
 use Rattle.rc_tokens.specs.declared.tokens.Escape.TheVariants as says
 use Rattle.rc_tokens.specs.declared.tokens.Member.{Member}
 use Rattle.rc_tokens.specs.declared.tokens.Member.TheVariants.{Character, Byte, Hyphen, Perl}
+use Rattle.rc_parser.specs.declared.config.Grammar.{Grammar}
+use Rattle.rc_parser.specs.declared.config.Grammar.TheVariants.{Stated, Full}
 use Rattle.rc_explain.specs.declared.faults.Fault.{Fault}
 use Rattle.rc_explain.specs.declared.faults.FaultKind.{FaultKind}
 use Rattle.rc_explain.specs.declared.faults.FaultKind.TheVariants as kinds
@@ -241,24 +243,30 @@ shape_of kinds.UnknownBoundary = begins 92 (98 ∷ 123 ∷ [])
 shape_of kinds.NotUtf8 = such IsAtom
 shape_of kinds.LineTerminator = exactly (46 ∷ [])
 shape_of kinds.NestedTooDeeply = nothing
+shape_of kinds.Unparsed = nothing
 
 abbrev pub HasShape : FaultKind → Characters → ℕ → ℕ → Type 0
 HasShape kind t s e = Has (shape_of kind) t s e
 
--- What stands from the character `start` up to `end`, by the kind of fault. A pattern that nests too
--- deeply is shown from its start, or from a `(`.
+-- What stands from the character `start` up to `end`, by the kind of fault, in a text of the stated
+-- grammar. A pattern that nests too deeply is shown from its start, or from a `(`.
 abbrev pub Shows : FaultKind → Characters → ℕ → ℕ → Type 0
 Shows kinds.NestedTooDeeply t s e = (s ≡ 0) ⊎ Stands t s 40
 Shows kind t s e = HasShape kind t s e
+
+-- by the grammar that is set: of a text of the full one, a single character is shown, or the end
+abbrev pub ShowsBy : Grammar → FaultKind → Characters → ℕ → ℕ → Type 0
+ShowsBy Stated kind t s e = Shows kind t s e
+ShowsBy Full kind t s e = (kind ≡ kinds.Unparsed) × (s ≤ length t) × (e ≡ min (suc s) (length t))
 
 -- the byte at which the character with this number begins, and the text's end past the last
 abbrev pub byte_of : Characters → ℕ → ℕ
 byte_of text n = length (encode_utf8_all (take n text))
 
 -- the fault's span is that of characters that show its kind
-pub record IsShown (fault : Fault) (text : List ℕ) : Type 0 where
+pub record IsShown (grammar : Grammar) (fault : Fault) (text : List ℕ) : Type 0 where
   pub from : ℕ
   pub to : ℕ
   pub starts : fault.span.start ≡ byte_of (chars text) from
   pub ends : fault.span.end ≡ byte_of (chars text) to
-  pub shown : Shows fault.kind (chars text) from to
+  pub shown : ShowsBy grammar fault.kind (chars text) from to

@@ -1,26 +1,29 @@
 //! Diagnostics: explains why a text doesn't parse.
 
-ghost use Rattle.std.specs.Prelude.{chars, IfOk, IfSome, IfNone, MatchOption};
+ghost use Rattle.std.specs.Prelude.{chars, length, ◌≤◌, IfOk, IfSome, IfNone, MatchOption};
 ghost use Rattle.rc_parser.specs.Settings.{settings_of};
 ghost use Rattle.rc_explain.specs.Explained.{IsRead, IsUnread, IsWithin};
-ghost use Rattle.rc_explain.specs.Shown.{IsShown};
+ghost use Rattle.rc_explain.specs.Shown.{IsShown, ShowsBy};
 
-use crate::faults::Fault;
+use crate::faults::{Fault, FaultKind};
 use crate::marks::fault_at;
-use crate::places::{byte_after, characters_before};
-use rc_parser::{Config, Error, parse};
+use crate::places::{Found, byte_after, characters_before};
+use rc_parser::{Config, Error, Grammar};
+use rc_syntax::parse;
 use rc_text::types::Span;
 use std::alloc::{AllocError, Global};
 
 /// Returns what is wrong with a text that doesn't parse, and with which part of it.
 ///
-/// It returns `None` if and only if the text parses. An `Err` means out of memory.
+/// It returns `None` if and only if the text parses by the grammar that is set. An `Err` means out of
+/// memory.
 pub fn explain(alloc: Global, text: &str, config: &Config) -> Result<Option<Fault>, AllocError>
     ensures answer { IfOk result (λ found. MatchOption found
         (IsRead (settings_of config.now) (chars text.now))
         (λ _. IsUnread (settings_of config.now) (chars text.now))) }
     ensures place { IfOk result (λ found. IfSome found (λ fault. IsWithin fault.span text.now)) }
-    ensures shown { IfOk result (λ found. IfSome found (λ fault. IsShown fault text.now)) }
+    ensures shown { IfOk result (λ found. IfSome found (λ fault. IsShown
+        (settings_of config.now).grammar fault text.now)) }
 {
     match parse(alloc, text, config) {
         Ok(hir) => {
@@ -36,11 +39,11 @@ pub fn explain(alloc: Global, text: &str, config: &Config) -> Result<Option<Faul
 #[tactic(auto, using(std::proofs::lemmas::Str::chars_from_encodes))]
 fn fault_met_at(alloc: Global, text: &str, config: &Config, at: usize) -> Result<Fault, AllocError>
     ensures place { IfOk result (λ fault. IsWithin fault.span text.now) }
-    ensures shown { IfOk result (λ fault. IsShown fault text.now) }
+    ensures shown { IfOk result (λ fault. IsShown (settings_of config.now).grammar fault text.now) }
 {
     let characters: Vec<char> = text.chars().collect(alloc)?;
     let stop = characters_before(&characters, at);
-    let found = fault_at(alloc, config, &characters, stop)?;
+    let found = found_at(alloc, config, &characters, stop)?;
     let start = byte_after(&characters, found.start);
     let end = byte_after(&characters, found.end.max(found.start));
     let kind = found.kind;
@@ -48,4 +51,29 @@ fn fault_met_at(alloc: Global, text: &str, config: &Config, at: usize) -> Result
         kind,
         span: Span { start, end },
     })
+}
+
+/// The kind of fault of a text that is refused at this character, and the characters at fault.
+fn found_at(alloc: Global, config: &Config, text: &[char], stop: usize) -> Result<Found, AllocError>
+    requires { length text.now ≤ usize.MAX }
+    ensures { IfOk result (λ found. ShowsBy (settings_of config.now).grammar found.kind text.now
+        found.start found.end) }
+{
+    match config.get_grammar() {
+        Grammar::Stated => fault_at(alloc, config, text, stop),
+        Grammar::Full => Ok(unparsed_at(text, stop)),
+    }
+}
+
+/// The fault of a text that the full grammar doesn't read from this character on.
+fn unparsed_at(text: &[char], stop: usize) -> Found
+    ensures { ShowsBy Grammar.Full result.kind text.now result.start result.end }
+{
+    let start = stop.min(text.len());
+    let end = start.saturating_add(1).min(text.len());
+    Found {
+        kind: FaultKind::Unparsed,
+        start,
+        end,
+    }
 }

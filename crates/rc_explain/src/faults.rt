@@ -13,7 +13,7 @@ pub struct Fault {
     pub span: Span,
 }
 
-/// The kinds of faults. The examples are texts with that fault.
+/// The kinds of faults. The examples are texts with that fault, by the stated grammar.
 #[derive(Clone, Copy, Debug, PartialEq, Eq)]
 pub enum FaultKind {
     /// `(a`: the span is the `(`.
@@ -96,6 +96,9 @@ pub enum FaultKind {
     /// The pattern exceeds the nest limit, whatever follows the span. The span goes from the opener
     /// of the innermost open group, or from the start, to the first token that is too deep.
     NestedTooDeeply,
+    /// `a[b`, if the full grammar is set: no fault of it has another kind. The span is the first
+    /// character of the part that isn't read, or empty at the end of the text.
+    Unparsed,
 }
 
 /// The message for a group that doesn't parse.
@@ -160,6 +163,7 @@ fn other_line(kind: FaultKind) -> &'static str {
         FaultKind::BoundsOutOfOrder => "repetition bounds out of order",
         FaultKind::NotUtf8 => "bytes past ASCII where UTF-8 is asked for",
         FaultKind::LineTerminator => "a line terminator past ASCII is no character",
+        FaultKind::Unparsed => "not a pattern of the full grammar",
         _ => "patterns nest too deeply",
     }
 }

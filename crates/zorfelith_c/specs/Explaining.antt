@@ -23,7 +23,7 @@ pub record IsFaulty (settings text : List ℕ) (fault : FaultAt) : Type 0 where
   pub unread : IsUnread (syntax_in settings) (chars text)
   pub place : IsWithin (record { start = fault.start; end = fault.end }) text
   pub kind : FaultKind
-  pub shown : IsShown (record { kind = kind; span = record { start = fault.start; end = fault.end } }) text
+  pub shown : IsShown (syntax_in settings).grammar (record { kind = kind; span = record { start = fault.start; end = fault.end } }) text
 
 -- the words for the fault stand in the first bytes of their place
 abbrev pub IsWorded : FaultAt → List ℕ → Type 0

@@ -1,8 +1,10 @@
-use Rattle.std.proofs.Common.{◌++◌, ◌∙◌, ap, drop, length, rules, subst, sym, take}
+use Rattle.std.proofs.Common.{◌≡◌, ◌++◌, ◌∙◌, ap, drop, length, rules, subst, sym, take}
 use Rattle.std.proofs.Math.Seq.{take-append_seam}
 use Rattle.std.specs.Prelude.{IsUtf8, MatchOption, chars}
 use Rattle.rc_parser.specs.Settings.{settings_of}
+use Rattle.rc_parser.specs.declared.config.Grammar.TheVariants.{Stated}
 use Rattle.rc_explain.specs.Explained.{IsRead, IsUnread}
+use Rattle.rc_explain.specs.Shown.{IsShown}
 use Rattle.zorfelith_c.specs.Explaining.{syntax_in}
 use Rattle.searcher.specs.Flags.{syntax_settings}
 use Rattle.zorfelith_c.proofs.explain.zf_explain.Goals as goal
@@ -11,6 +13,8 @@ pub returns-then-line-words-clause-answered : goal.returns-then-line-words-claus
 returns-then-line-words-clause-answered c =
     let text = c.in-Ok.text.now in
     let s = settings_of c.syntax.result in
+    let met = c.in-Some-explained.met in
+    let stated : s.grammar ≡ Stated = ap (λ q. q.grammar) c.syntax.ensures in
     let unread : IsUnread s (chars text) =
     subst (λ o. MatchOption o (IsRead s (chars text)) (λ _. IsUnread s (chars text))) c.in-Some-explained.is c.in-Ok-explain.ensures.answer in (
       record {
@@ -19,7 +23,7 @@ returns-then-line-words-clause-answered c =
             (subst (λ q. IsUnread q (chars text)) (c.syntax.ensures ∙ ap syntax_settings c.in-Some.ensures.1) unread);
         place = search rules;
         kind = c.in-Some-explained.met.kind;
-        shown = search rules;
+        shown = subst (λ g. IsShown g met c.args.pattern.now) stated (search rules);
       },
       c.if-line-words.true,
     )
@@ -28,6 +32,8 @@ pub returns-clause-answered : goal.returns-clause-answered
 returns-clause-answered c =
     let text = c.in-Ok.text.now in
     let s = settings_of c.syntax.result in
+    let met = c.in-Some-explained.met in
+    let stated : s.grammar ≡ Stated = ap (λ q. q.grammar) c.syntax.ensures in
     let line = c.as_bytes-line.result.now in
     let rest = drop (length line) c.args.words.now in
     let unread : IsUnread s (chars text) =
@@ -38,7 +44,7 @@ returns-clause-answered c =
             (subst (λ q. IsUnread q (chars text)) (c.syntax.ensures ∙ ap syntax_settings c.in-Some.ensures.1) unread);
         place = search rules;
         kind = c.in-Some-explained.met.kind;
-        shown = search rules;
+        shown = subst (λ g. IsShown g met c.args.pattern.now) stated (search rules);
       },
       (search rules, subst IsUtf8 (sym (ap (λ l. take (length line) (l ++ rest)) c.copy_from_slice.ensures.after ∙ take-append_seam line rest)) c.as_bytes-line.ensures.utf8),
     )
