@@ -5,6 +5,7 @@ ghost use Rattle.rc_text.specs.Text.{slice_end};
 use crate::cache::Cache;
 use crate::engines::Engines;
 use crate::pass::settle_by_pass;
+use crate::question::Question;
 use crate::route::{Route, TableChoice};
 use rc_dense_dfa::dense::NoCache;
 use rc_dfa::halves::Halves;
@@ -218,7 +219,7 @@ impl Engines {
         if self.tells_reach(input) {
             return self.settle_along(cache, input);
         }
-        let found = self.find_in(cache, input)?;
+        let found = self.ask_tables(cache, input, Question::Match)?;
         Some(settled_at_end(input, found))
     }
 

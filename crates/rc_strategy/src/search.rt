@@ -23,7 +23,7 @@ use std::alloc::{AllocError, Global};
 const SHORT: usize = 1024;
 
 impl Engines {
-    ghost use Rattle.std.specs.Prelude.{◌≡◌, true, is_some, IfOk, IfSome, IsTrue};
+    ghost use Rattle.std.specs.Prelude.{◌≡◌, true, IfOk, IfSome, IsTrue};
     ghost use Rattle.rc_text.specs.Bounds.{IsWithinBounds};
     ghost use Rattle.rc_text.specs.Text.{Keeps};
     ghost use Rattle.rc_text.specs.declared.types.Anchored.TheVariants.{No};
@@ -178,41 +178,11 @@ impl Engines {
         Ok(Some(Match::new(found.pattern(), Span { start, end })))
     }
 
-    /// Replies by a DFA search along the text, from literal to literal if there is a guard. With
-    /// slow prefix literals, the first may be tried. An `Err` says why the DFA has no answer.
+    /// Replies by a DFA, by the route of the search. Along the text it goes from literal to literal
+    /// if there is a guard, and with slow prefix literals it may try the first. An `Err` says why
+    /// the DFA has no answer.
     #[inline(always)]
-    fn ask_along<H: Halves, C: Cursor>(
-        &self,
-        halves: &H,
-        cache: &mut H::Cache,
-        input: &mut Input<C>,
-        question: Question,
-    ) -> Result<Option<Match>, MatchError>
-        requires own { ∥ AreHalvesFor self.now.engine self.now.patterns (H.AreOf halves.now) ∥₁ }
-        requires cache { H.IsCache halves.now cache.old }
-        ensures cache { H.IsCache halves.now cache.new }
-        ensures keeps { Keeps input.old input.new }
-        ensures reply { IfOk result (IsReply question self.now.engine.kind
-            (engine_search self.now.engine input.old)) }
-        ensures within { IfOk result (λ found. IfSome found (IsWithinBounds input.old)) }
-    {
-        let guard = self.guard();
-        if self.is_forwards(question, guard) {
-            return self.ask_forwards(halves, cache, input, question, guard);
-        }
-        let aim = self.aim_for(question);
-        if let Some(guard) = guard {
-            return find_by_guard(halves, cache, input, aim, guard);
-        }
-        match guards_of(&self.engine.literals) {
-            Some(needles) => find_past_quit(halves, cache, input, aim, needles),
-            None => find(halves, cache, input, aim),
-        }
-    }
-
-    /// Replies by a DFA, by the route of the search. An `Err` says why the DFA has no answer.
-    #[inline(always)]
-    fn ask_halves<H: Halves, C: Cursor>(
+    fn ask_by_route<H: Halves, C: Cursor>(
         &self,
         halves: &H,
         cache: &mut H::Cache,
@@ -228,22 +198,55 @@ impl Engines {
         ensures within { IfOk result (λ found. IfSome found (IsWithinBounds input.old)) }
     {
         match self.route(input) {
-            Route::FromStart => self.ask_from_start(halves, cache, input, question),
-            Route::FromEnd => self.find_from_end(halves, cache, input),
-            Route::OfLength(length) => {
-                if question.may_stop() {
-                    return self.ask_along(halves, cache, input, question);
-                }
-                self.find_of_length(halves, cache, input, length)
+            Route::FromStart => return self.ask_from_start(halves, cache, input, question),
+            Route::FromEnd => return self.find_from_end(halves, cache, input),
+            Route::OfLength(length) if !question.may_stop() => {
+                return self.find_of_length(halves, cache, input, length);
             }
-            Route::Along => self.ask_along(halves, cache, input, question),
+            Route::OfLength(_) | Route::Along => {}
+        }
+        let guard = self.guard();
+        if self.is_forwards(question, guard) {
+            return self.ask_forwards(halves, cache, input, question, guard);
+        }
+        let aim = self.aim_for(question);
+        if let Some(guard) = guard {
+            return find_by_guard(halves, cache, input, aim, guard);
+        }
+        match guards_of(&self.engine.literals) {
+            Some(needles) => find_past_quit(halves, cache, input, aim, needles),
+            None => find(halves, cache, input, aim),
+        }
+    }
+
+    /// Replies by a DFA. Each question has code of its own, so that a search tests what it was asked
+    /// for once. An `Err` says why the DFA has no answer.
+    fn ask_halves<H: Halves, C: Cursor>(
+        &self,
+        halves: &H,
+        cache: &mut H::Cache,
+        input: &mut Input<C>,
+        question: Question,
+    ) -> Result<Option<Match>, MatchError>
+        requires own { ∥ AreHalvesFor self.now.engine self.now.patterns (H.AreOf halves.now) ∥₁ }
+        requires cache { H.IsCache halves.now cache.old }
+        ensures cache { H.IsCache halves.now cache.new }
+        ensures keeps { Keeps input.old input.new }
+        ensures reply { IfOk result (IsReply question self.now.engine.kind
+            (engine_search self.now.engine input.old)) }
+        ensures within { IfOk result (λ found. IfSome found (IsWithinBounds input.old)) }
+    {
+        match question {
+            Question::Match => self.ask_by_route(halves, cache, input, Question::Match),
+            Question::End => self.ask_by_route(halves, cache, input, Question::End),
+            Question::Any => self.ask_by_route(halves, cache, input, Question::Any),
+            Question::Earliest => self.ask_by_route(halves, cache, input, Question::Earliest),
         }
     }
 
     /// Replies by the DFA, or else by the lazy DFA if the cache has its states. Returns None if
     /// there is neither, or it has no answer.
-    #[inline(always)]
-    fn ask_dfa<C: Cursor>(
+    pub(crate) fn ask_tables<C: Cursor>(
         &self,
         cache: &mut Option<lazy::Cache>,
         input: &mut Input<C>,
@@ -267,29 +270,6 @@ impl Engines {
                 self.ask_halves(tables, states, input, question).ok()
             }
             TableChoice::NoTables => None,
-        }
-    }
-
-    /// Replies as `ask_dfa` does. Each question has code of its own, so that a search tests what it
-    /// was asked for once.
-    pub(crate) fn ask_tables<C: Cursor>(
-        &self,
-        cache: &mut Option<lazy::Cache>,
-        input: &mut Input<C>,
-        question: Question,
-    ) -> Option<Option<Match>>
-        requires made { IsCacheOfBoth self.now.lazy cache.old }
-        ensures keeps { Keeps input.old input.new }
-        ensures reply { IfSome result (IsReply question self.now.engine.kind
-            (engine_search self.now.engine input.old)) }
-        ensures within { IfSome result (λ found. IfSome found (IsWithinBounds input.old)) }
-        ensures cache { KeepsStates self.now.lazy cache.old cache.new }
-    {
-        match question {
-            Question::Match => self.ask_dfa(cache, input, Question::Match),
-            Question::End => self.ask_dfa(cache, input, Question::End),
-            Question::Any => self.ask_dfa(cache, input, Question::Any),
-            Question::Earliest => self.ask_dfa(cache, input, Question::Earliest),
         }
     }
 
@@ -369,37 +349,5 @@ impl Engines {
         let found = ask_pass(&self.engine, &mut cache, input, question);
         drop(cache);
         Ok(found)
-    }
-
-    /// Returns the match by a DFA. Returns None if there is none, or it has no answer.
-    pub(crate) fn find_in<C: Cursor>(
-        &self,
-        cache: &mut Option<lazy::Cache>,
-        input: &mut Input<C>,
-    ) -> Option<Option<Match>>
-        requires made { IsCacheOfBoth self.now.lazy cache.old }
-        ensures keeps { Keeps input.old input.new }
-        ensures found { IfSome result (λ found. found
-            ≡ answer_by self.now.engine.kind (engine_search self.now.engine input.old)) }
-        ensures within { IfSome result (λ found. IfSome found (IsWithinBounds input.old)) }
-        ensures cache { KeepsStates self.now.lazy cache.old cache.new }
-    {
-        self.ask_tables(cache, input, Question::Match)
-    }
-
-    /// Whether a DFA finds a match. Returns None if there is none, or it has no answer.
-    pub(crate) fn any_in<C: Cursor>(
-        &self,
-        cache: &mut Option<lazy::Cache>,
-        input: &mut Input<C>,
-    ) -> Option<bool>
-        requires made { IsCacheOfBoth self.now.lazy cache.old }
-        ensures keeps { Keeps input.old input.new }
-        ensures found { IfSome result (λ b. b
-            ≡ is_some (answer_by self.now.engine.kind (engine_search self.now.engine input.old))) }
-        ensures cache { KeepsStates self.now.lazy cache.old cache.new }
-    {
-        let found = self.ask_tables(cache, input, Question::Any)?;
-        Some(found.is_some())
     }
 }

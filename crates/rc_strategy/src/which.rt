@@ -10,6 +10,7 @@ ghost use Rattle.rc_strategy.specs.Starts.{IsFirstStart};
 
 use crate::cache::Cache;
 use crate::engines::Engines;
+use crate::question::Question;
 use rc_literals::marks::mark_owners;
 use rc_pattern_set::sets::PatternSet;
 use rc_pikevm::cache;
@@ -111,7 +112,7 @@ impl Engines {
         if literals_of(&self.engine.literals, self.engine.kind).is_some() {
             return Some(self.engine.find(&mut cache.pass, input));
         }
-        self.find_in(&mut cache.lazy, input)
+        self.ask_tables(&mut cache.lazy, input, Question::Match)
     }
 
     /// Returns from where on a pass finds each walk: none begins earlier. Returns None if there is
@@ -134,8 +135,8 @@ impl Engines {
                 Some(None) => None,
                 None => Some(low(input)),
             },
-            MatchKind::All => match self.any_in(&mut cache.lazy, input) {
-                Some(false) => None,
+            MatchKind::All => match self.ask_tables(&mut cache.lazy, input, Question::Any) {
+                Some(None) => None,
                 _ => Some(low(input)),
             },
         }

@@ -1,4 +1,6 @@
-use Rattle.std.proofs.Common.{◌∙◌, ap, sym, ⊎_elim}
+use Rattle.std.proofs.Common.{◌≡◌, ◌∙◌, false, ap, refl, subst, sym, ⊎_elim}
+use Rattle.std.specs.Prelude.{is_some}
+use Rattle.rc_program.specs.Kinds.{answer_by}
 use Rattle.rc_pikevm_search.specs.Engine.{engine_search}
 use Rattle.rc_strategy.specs.Lengths.{is_leftmost}
 use Rattle.rc_strategy.proofs.PatternLemmas.{first_unpassed, no_span_of_all, none_unpassed}
@@ -16,7 +18,8 @@ returns-in-Some-None-clause-first g c =
     let e = c.args.self.now.engine in
     none_unpassed e.kind (engine_search e c.args.input.now) (sym c.in-Some-None.field-0-is ∙ c.in-Some-None.ensures.found)
 
-pub returns-in-Some-false-clause-first : goal.returns-in-Some-false-clause-first
-returns-in-Some-false-clause-first g c =
+pub returns-in-Some-None-ask_tables-clause-first : goal.returns-in-Some-None-ask_tables-clause-first
+returns-in-Some-None-ask_tables-clause-first g c =
     let e = c.args.self.now.engine in
-    no_span_of_all e.kind (engine_search e c.args.input.now) c.in-Some-false.field-0 c.in-All.is c.in-Some-false.ensures.found c.in-Some-false.field-0-test
+    no_span_of_all e.kind (engine_search e c.args.input.now) false c.in-All.is (subst (λ o. is_some o ≡ is_some (answer_by e.kind (engine_search e c.args.input.now)))
+    c.in-Some-None-ask_tables.field-0-is c.in-Some-None-ask_tables.ensures.reply) refl
