@@ -1,4 +1,4 @@
-use Rattle.std.proofs.Common.{ℕ, ◌+◌, ◌-◌, ◌*◌, ◌<◌, ◌≤◌, ◌⊎◌, [], length, min, inl, inr, refl, sym, ap, subst, ◌∙◌, ⊎_elim, arith, Option, Some, None, MatchOption, is_none, true, false, true≢false}
+use Rattle.std.proofs.Common.{ℕ, ◌+◌, ◌-◌, ◌*◌, ◌<◌, ◌≤◌, [], length, min, inl, inr, refl, sym, ap, subst, ◌∙◌, ⊎_elim, arith, Option, Some, None, MatchOption, is_none, true≢false}
 use Rattle.std.specs.Bool.{⊤}
 use Rattle.std.proofs.lemmas.Bool.{cases_lt}
 use Rattle.std.proofs.lemmas.List.{length-map}
