@@ -8,7 +8,7 @@ use crate::row::number;
 use api_meta::regex::Regex;
 use api_pikevm::vm::PikeVM;
 use rc_needles::prefilter::Prefilter;
-use rc_parser::Config as Syntax;
+use rc_parser::{Config as Syntax, Grammar};
 use rc_settings::error::BuildError;
 use rc_settings::meta::Config;
 use rc_settings::pikevm::Config as Searches;
@@ -155,6 +155,7 @@ impl<'a> Settings<'a> {
             "utf8=no" => self.syntax = self.syntax.utf8(false),
             "unicode=no" => self.syntax = self.syntax.unicode(false),
             "nocase=yes" => self.syntax = self.syntax.case_insensitive(true),
+            "grammar=full" => self.syntax = self.syntax.grammar(Grammar::Full),
             "lines=yes" => self.syntax = self.syntax.multi_line(true),
             "kind=all" => self.kind = MatchKind::All,
             "kind=longest" => self.kind = MatchKind::LeftmostLongest,
