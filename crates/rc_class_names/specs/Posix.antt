@@ -1,4 +1,3 @@
--- Only proofs use this file.
 -- POSIX classes: their names, and the ASCII characters that they have.
 use Rattle.std.specs.Prelude.{List, [], ◌∷◌, Option, find, codes}
 use Rattle.unicode.specs.Rows.{in_ranges}

@@ -1,4 +1,3 @@
--- Only proofs use this file.
 -- What the text between the braces of `\p{..}` names.
 use Rattle.std.specs.Prelude.{◌≡◌, ◌⊎◌, Bool, true, false, nat_eq, [], ◌∷◌, drop, length, Option, Some, None, is_some, Result, Ok, Err, MatchResult, codes, if◌then◌else◌}
 use Rattle.std.specs.List.{starts_with}

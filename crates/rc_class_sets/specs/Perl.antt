@@ -1,4 +1,3 @@
--- Only proofs use this file.
 -- The classes `\d`, `\s` and `\w`.
 use Rattle.std.specs.Prelude.{Bool, true, false}
 use Rattle.unicode.specs.Perl.{is_word_char, is_digit_char, is_space_char}

@@ -1,3 +1,4 @@
+-- Only proofs use this file.
 -- DFA searches: what the tables say.
 use Rattle.std.specs.Prelude.{◌≡◌, ℕ, ◌+◌, ◌≤◌, Bool, true, false, List, length, Some}
 use Rattle.rc_determinize.specs.States.{State}

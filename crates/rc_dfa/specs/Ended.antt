@@ -1,3 +1,4 @@
+-- Only proofs use this file.
 -- Search results: how a search ended, by either DFA.
 use Rattle.std.specs.Prelude.{◌≡◌, ℕ, ◌≤◌, Bool, Option, Some, None, IsTrue, slice_get}
 use Rattle.rc_text.specs.declared.types.Anchored.{Anchored}

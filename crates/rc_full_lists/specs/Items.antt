@@ -1,4 +1,3 @@
--- Only proofs use this file.
 -- The sets of codes that items of a list have.
 use Rattle.std.specs.Prelude.{◌≡◌, Bool, true, false, [], ◌∷◌}
 use Rattle.unicode.specs.Rows.{in_ranges}

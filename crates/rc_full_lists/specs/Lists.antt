@@ -1,4 +1,3 @@
--- Only proofs use this file.
 -- Whole lists: what stands behind a `[` up to its `]`, the codes that the list has, and how deep it is nested.
 use Rattle.std.specs.Prelude.{ℕ, ◌+◌, max, Bool, Option, Some, None}
 use Rattle.rc_tokens.specs.Text.{Characters}

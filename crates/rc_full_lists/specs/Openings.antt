@@ -1,4 +1,3 @@
--- Only proofs use this file.
 -- What comes first in a list: `^`, and then hyphens or one `]`, which stand for themselves.
 use Rattle.std.specs.Prelude.{◌≡◌, ℕ, Bool, true, false, ◌||◌, ◌∷◌, Option, Some, None}
 use Rattle.rc_tokens.specs.Text.{Characters, is_at}

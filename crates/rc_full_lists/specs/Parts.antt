@@ -1,4 +1,3 @@
--- Only proofs use this file.
 -- The parts of which the text between brackets is made, from left to right.
 use Rattle.std.specs.Prelude.{◌≡◌, ℕ, ◌≤◌, Bool, true, false, not, ◌&&◌, ◌||◌, ◌==◌, ◌∷◌, ◌++◌, drop, Option, Some, None, is_none, if◌then◌else◌}
 use Rattle.rc_tokens.specs.Text.{Characters, ◌>>=◌, ◌>>◌, is_at, each}

@@ -1,4 +1,3 @@
--- Only proofs use this file.
 -- How far a list is read: the operator under way, what stands to its left, and the items behind it.
 use Rattle.std.specs.Prelude.{◌≡◌, Bool, false, Option, Some, None}
 use Rattle.rc_tokens.specs.ClassView.{pairs}

@@ -1,4 +1,3 @@
--- Only proofs use this file.
 -- Counts of a repetition: `{n}`, `{n,}`, `{n,m}` and, where it is set, `{,n}`.
 use Rattle.std.specs.Prelude.{◌≡◌, ◌≤◌, ℕ, Bool, true, ◌∷◌, ◌++◌, Option, Some, None}
 use Rattle.unicode.specs.Binary.{is_white_space}

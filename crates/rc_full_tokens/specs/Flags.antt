@@ -1,4 +1,3 @@
--- Only proofs use this file.
 -- Texts of flags: those of the stated grammar, and x.
 use Rattle.std.specs.Prelude.{ℕ, Bool, false, not, ◌&&◌, ◌==◌, [], ◌∷◌, Option, Some, None, if◌then◌else◌}
 use Rattle.rc_tokens.specs.Text.{Characters, ◌>>=◌, ◌>>◌, is_empty}

@@ -1,4 +1,3 @@
--- Only proofs use this file.
 -- Tests of characters.
 use Rattle.std.specs.Prelude.{ℕ, Bool, not, ◌==◌}
 

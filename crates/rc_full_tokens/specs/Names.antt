@@ -1,4 +1,3 @@
--- Only proofs use this file.
 -- Names of groups.
 use Rattle.std.specs.Prelude.{ℕ, Bool, false, ◌&&◌, ◌||◌, ◌==◌, [], ◌∷◌}
 use Rattle.unicode.specs.Binary.{is_alphabetic}

@@ -1,3 +1,4 @@
+-- Only proofs use this file.
 -- One-pass programs: from a place, at most one way leads on over a byte.
 use Rattle.std.specs.Prelude.{◌≡◌, ℕ, ◌<◌, true, List, [], ◌∷◌}
 use Rattle.std.specs.List.{Contains}

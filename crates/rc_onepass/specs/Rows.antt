@@ -1,3 +1,4 @@
+-- Only proofs use this file.
 -- Rows: what a one-pass DFA tells of the ways from a place.
 use Rattle.std.specs.Prelude.{◌≡◌, ℕ, suc, ◌<◌, ◌⊎◌, List, [], ◌∷◌, length, Option, Some, None, slice_get, slice_index_or}
 use Rattle.std.specs.List.{Contains}

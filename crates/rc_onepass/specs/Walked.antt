@@ -1,3 +1,4 @@
+-- Only proofs use this file.
 -- Runs: how far a one-pass DFA has come along a walk.
 use Rattle.std.specs.Prelude.{◌≡◌, ℕ, ◌<◌, ◌≤◌, Bool, false, ◌||◌, List, [], ◌∷◌, length, Option, Some, None, IsTrue, nat_eq, if◌then◌else◌, slice_index_or}
 use Rattle.std.specs.Option.{option_or}

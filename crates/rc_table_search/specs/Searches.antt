@@ -1,3 +1,4 @@
+-- Only proofs use this file.
 -- Searches by a table: what their runs keep, and how they end.
 use Rattle.std.specs.Prelude.{◌≡◌, ℕ, ◌+◌, Bool, Option, Some, None}
 use Rattle.rc_text.specs.Text.{Searched}

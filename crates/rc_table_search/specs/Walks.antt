@@ -1,4 +1,3 @@
--- Only proofs use this file.
 -- Runs over a piece of a text, by the cells of a table.
 use Rattle.std.specs.Prelude.{◌≡◌, ℕ, ◌+◌, ◌-◌, ◌%◌, ◌<◌, ◌≤◌, Bool, true, false, List, length, Option, Some, nat_le, slice_index_or, if◌then◌else◌}
 

@@ -1,3 +1,4 @@
+-- Only proofs use this file.
 -- Searches in either direction.
 use Rattle.std.specs.Prelude.{◌≡◌, ℕ, ◌+◌, ◌-◌, ◌<◌, ◌≤◌, Bool, true, false, not, List, Option, Some, None, slice_get}
 use Rattle.rc_text.specs.declared.types.Anchored.{Anchored}

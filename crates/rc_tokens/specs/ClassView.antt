@@ -1,4 +1,3 @@
--- Only proofs use this file.
 -- What the values of the code for classes stand for.
 use Rattle.std.specs.Prelude.{List, map}
 use Rattle.rc_pattern.specs.Re.{Range}

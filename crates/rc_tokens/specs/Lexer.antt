@@ -1,4 +1,3 @@
--- Only proofs use this file.
 -- The first mark of a text, in the order in which the reader of marks tests.
 use Rattle.std.specs.Prelude.{ℕ, zero, suc, Bool, true, false, not, ◌&&◌, ◌||◌, ◌==◌, nat_le, List, [], ◌∷◌, drop, take, length, Option, Some, None, if◌then◌else◌, encode_utf8_all}
 use Rattle.rc_tokens.specs.Text.{Characters, ◌>>=◌, ◌>>◌, is_at, is_digit}
