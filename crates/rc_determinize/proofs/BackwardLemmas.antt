@@ -9,17 +9,18 @@ use Rattle.rc_program.specs.Program.{Place, choice, byte, branch, scalar, guard,
 use Rattle.rc_program.proofs.WayLemmas.{same_pair}
 use Rattle.rc_utf8.specs.Laws.{IsBytePlace}
 use Rattle.rc_determinize.specs.Steps.{HasPlace, ahead_of, still}
-use Rattle.rc_determinize.specs.Sides.{holds_by, told, byte_of, IsReadable}
+use Rattle.rc_determinize.specs.declared.sides.Seen.{Seen}
+use Rattle.rc_determinize.specs.Sides.{holds_by, told_side, sides_near, byte_of}
 use Rattle.rc_determinize.proofs.Leads as run
 use Rattle.rc_determinize.specs.Run as reach
 use Rattle.rc_determinize.specs.Run.{IsBackState, IsGoal, Reaches}
 use Rattle.rc_determinize.proofs.Leads.{IsLeastStart, Leads}
-use Rattle.rc_determinize.specs.States.{Setting, IsSetting, State, Stops}
+use Rattle.rc_determinize.specs.States.{Setting, IsSetting, State, Stops, sides_behind}
 use Rattle.rc_determinize.specs.Steps.{HasWay}
-use Rattle.rc_determinize.specs.Backward.{listed, leads, still_out, LeadsHere, ReadsTo, IsFirstRoot, IsPrior, IsLast, IsComing, ReachesEnd, IsLeastSoFar, least_at}
+use Rattle.rc_determinize.specs.Backward.{listed, leads, still_out, LeadsOver, ReadsTo, IsFirstRoot, IsPriorOver, IsLastBeside, IsComing, ReachesEnd, IsLeastSoFar, least_at}
 use Rattle.rc_determinize.proofs.SidesLemmas.{still_are, one_byte}
 use Rattle.rc_determinize.proofs.RunLemmas.{back_begins, back_decides, back_steps}
-use Rattle.rc_determinize.proofs.TextLemmas.{get_some, begins_with, byte_behind, byte_ahead, out_here, same_below, same_at_end, near, last}
+use Rattle.rc_determinize.proofs.TextLemmas.{get_some, begins_with, byte_behind, out_here, same_below, same_at_end, near, last}
 
 pub from_map : (i : ℕ) (m : Pair) (ws : List Way) → IsIn m (map (pair_at i) ws) → (w : Way) × HasWay w ws × (pair_at i w ≡ m)
 from_map i m [] h = absurd h
@@ -139,27 +140,27 @@ module _ (g : Setting) (ok : IsSetting g) (t : Text) (terminator : g.terminator 
   near_here = near g.places t hi ok.by_bytes
 
   module _ (i : ℕ) (low : t.slice_start ≤ i) (here : i ≤ hi) (high : hi ≤ t.slice_end) (bounded : t.slice_end ≤ length t.content)
-      (s : State) (c : IsComing g t hi end i s) (before : IsReadable g.needs (byte_of (before_at t i))) where
+      (s : State) (c : IsComing g t hi end i s) where
     abbrev out : ℕ → List Way
-    out = out_here g.places g.needs ok.by_bytes ok.covers t i before c.readable
+    out = out_here g.places g.needs ok.by_bytes ok.covers t i
 
     each : (q : ℕ) (w : Way) → HasWay w (out q) → IsStay w ⊎ ((k : ℕ) × (w ≡ reads 1 k))
     each q w h = each_way _ (byte_of (after_at t i)) (place_at g.places q) (ok.by_bytes q) w h
 
     -- the ways that read nothing are those that are told
-    still_is : (q : ℕ) → still_out g.places (told g.needs g.terminator (byte_of (before_at t i))) s.beside q ≡ still (out q)
+    still_is : (q : ℕ) → still_out g.places (told_side g.needs g.terminator (before_at t i)) s.beside q ≡ still (out q)
     still_is q =
-        ap₂ (λ x y. ways_out (holds_by (told g.needs x (byte_of (before_at t i))) y) [] (place_at g.places q)) terminator c.beside
+        ap₂ (λ x y. ways_out (holds_by (told_side g.needs x (before_at t i)) y) [] (place_at g.places q)) terminator c.beside
         ∙ still_are _ (byte_of (after_at t i)) (place_at g.places q) (ok.by_bytes q)
 
     stay_in : (q p : ℕ) → HasWay (stays p) (still (out q)) → IsIn (p, i) (ways g.places t hi (q, i))
     stay_in q p h =
         ⊎_elim
-        (λ lt. subst (λ ms. IsIn (p, i) ms) (sym (same_below g.places g.needs ok.by_bytes ok.covers t i before c.readable hi lt high bounded q))
+        (λ lt. subst (λ ms. IsIn (p, i) ms) (sym (same_below g.places g.needs ok.by_bytes ok.covers t i hi lt high bounded q))
         (to_map i (stays p) (out q) (still_has p (out q) h)))
         (λ ge. let e : i ≡ hi = omega (arith, ge, here) in
         subst (λ k. IsIn (p, i) (ways g.places t k (q, i))) e
-        (subst (λ ms. IsIn (p, i) ms) (sym (same_at_end g.places g.needs ok.by_bytes ok.covers t i before c.readable q))
+        (subst (λ ms. IsIn (p, i) ms) (sym (same_at_end g.places g.needs ok.by_bytes ok.covers t i q))
         (to_map i (stays p) (still (out q)) h)))
         (cases_lt i hi)
 
@@ -167,10 +168,10 @@ module _ (g : Setting) (ok : IsSetting g) (t : Text) (terminator : g.terminator 
     in_stay q p h =
         ⊎_elim
         (λ lt. has_still p (out q) (same_position i p (out q) (each q)
-        (subst (λ ms. IsIn (p, i) ms) (same_below g.places g.needs ok.by_bytes ok.covers t i before c.readable hi lt high bounded q) h)))
+        (subst (λ ms. IsIn (p, i) ms) (same_below g.places g.needs ok.by_bytes ok.covers t i hi lt high bounded q) h)))
         (λ ge. let e : i ≡ hi = omega (arith, ge, here) in
         let k : IsIn (p, i) (ways g.places t i (q, i)) = subst (λ k. IsIn (p, i) (ways g.places t k (q, i))) (sym e) h in
-        let m = subst (λ ms. IsIn (p, i) ms) (same_at_end g.places g.needs ok.by_bytes ok.covers t i before c.readable q) k in
+        let m = subst (λ ms. IsIn (p, i) ms) (same_at_end g.places g.needs ok.by_bytes ok.covers t i q) k in
         same_position i p (still (out q)) (λ w z. inl (still_stays (out q) w z)) m)
         (cases_lt i hi)
       where
@@ -179,44 +180,39 @@ module _ (g : Setting) (ok : IsSetting g) (t : Text) (terminator : g.terminator 
         still_stays (stays k ∷ ws) w z = ⊎_elim (λ e. (k, sym e)) (λ y. still_stays ws w y) z
         still_stays (reads n k ∷ ws) w z = still_stays ws w z
 
-    to_leads : {q : ℕ} → LeadsHere g s (byte_of (before_at t i)) q → Leads (ways g.places t hi) i s.list q
+    to_leads : {q : ℕ} → LeadsOver g.places s (told_side g.needs g.terminator (before_at t i)) q → Leads (ways g.places t hi) i s.list q
     to_leads (listed q h) = run.listed q h
     to_leads (leads q p h l) = run.leads q p (stay_in q p (subst (λ ws. HasWay (stays p) ws) (still_is q) h)) (to_leads l)
 
-    from_leads : {q : ℕ} → Leads (ways g.places t hi) i s.list q → LeadsHere g s (byte_of (before_at t i)) q
+    from_leads : {q : ℕ} → Leads (ways g.places t hi) i s.list q → LeadsOver g.places s (told_side g.needs g.terminator (before_at t i)) q
     from_leads (run.listed q h) = listed q h
     from_leads (run.leads q p h l) = leads q p (subst (λ ws. HasWay (stays p) ws) (sym (still_is q)) (in_stay q p h)) (from_leads l)
 
     -- THE STATE AND THE BYTE BEFORE DECIDE
-    pub decides : (q : ℕ) → LeadsHere g s (byte_of (before_at t i)) q ↔ ReachesEnd g t hi end i q
+    pub decides : (q : ℕ) → LeadsOver g.places s (told_side g.needs g.terminator (before_at t i)) q ↔ ReachesEnd g t hi end i q
     decides q =
         let r = back_decides (ways g.places t hi) (Stops g.places) same_pair last_here near_here end i s.list c.list q in
         ((λ l. r.0 (to_leads l)), (λ z. from_leads (r.1 z)))
 
     -- which root reaches the end from here
-    pub tells : (roots : List ℕ) (s2 : State) → IsPrior g roots s (byte_of (before_at t i)) s2 →
+    pub tells : (roots : List ℕ) (s2 : State) (far : Seen) → IsPriorOver g.places roots s (sides_near g.needs g.terminator (before_at t i) far) s2 →
         IsFirstRoot (ReachesEnd g t hi end i) roots s2.matched
-    tells roots s2 p = same_first _ _ decides roots s2.matched p.matched
+    tells roots s2 far p = same_first _ _ decides roots s2.matched p.matched
 
   -- the state at the end
-  pub comes : (s : State) → IsReadable g.needs (byte_of (after_at t end)) → IsLast g (byte_of (after_at t end)) s → IsComing g t hi end end s
-  comes s r l = record {
+  pub comes : (s : State) → IsLastBeside g.places (told_side g.needs g.terminator (after_at t end)) s → IsComing g t hi end end s
+  comes s l = record {
     list = back_begins (ways g.places t hi) (Stops g.places) same_pair last_here near_here end s.list l.list;
-    beside = l.beside ∙ ap (λ x. told g.needs x (byte_of (after_at t end))) terminator;
-    readable = r;
+    beside = l.beside ∙ ap (λ x. told_side g.needs x (after_at t end)) terminator;
   }
 
   module _ (i : ℕ) (low : t.slice_start ≤ i) (below : i < end) (high : hi ≤ t.slice_end) (bounded : t.slice_end ≤ length t.content)
-      (roots : List ℕ) (s s2 : State) (c : IsComing g t hi end (i + 1) s) (r : IsReadable g.needs (byte_of (before_at t (i + 1))))
-      (p : IsPrior g roots s (byte_of (before_at t (i + 1))) s2) where
+      (roots : List ℕ) (s s2 : State) (c : IsComing g t hi end (i + 1) s) (p : IsPriorOver g.places roots s (sides_behind g t i) s2) where
     byte_here : (b : ℕ) × (slice_get t.content i ≡ Some b)
     byte_here = get_some t.content i (omega (arith, below, within, high, bounded))
 
     stands_behind : byte_of (before_at t (i + 1)) ≡ Some byte_here.0
     stands_behind = byte_behind t i byte_here.0 low byte_here.1
-
-    stands_ahead : byte_of (after_at t i) ≡ Some byte_here.0
-    stands_ahead = byte_ahead t i byte_here.0 (omega (arith, below, within, high)) byte_here.1
 
     over_one : (q : ℕ) → ways g.places t hi (q, i)
         ≡ map (pair_at i) (ways_out (λ l. holds t l i) (byte_here.0 ∷ []) (place_at g.places q))
@@ -248,18 +244,17 @@ module _ (g : Setting) (ok : IsSetting g) (t : Text) (terminator : g.terminator 
                 let is : x.0 ≡ byte_here.0 = same_Some x.0 byte_here.0 (sym x.1 ∙ stands_behind) in (
                   x.2,
                   reads_from q x.2 (subst (λ b. ReadsTo g.places b q x.2) is x.3),
-                  to_leads (i + 1) (omega (arith, low)) (omega (arith, below, within)) high bounded s c r x.4,
+                  to_leads (i + 1) (omega (arith, low)) (omega (arith, below, within)) high bounded s c x.4,
                 )),
             (λ x. l.1 (
               byte_here.0,
               stands_behind,
               x.0,
               reads_to q x.0 x.1,
-              from_leads (i + 1) (omega (arith, low)) (omega (arith, below, within)) high bounded s c r x.2,
+              from_leads (i + 1) (omega (arith, low)) (omega (arith, below, within)) high bounded s c x.2,
             )),
           ));
-      beside = p.beside ∙ ap₂ (λ x o. told g.needs x o) terminator (stands_behind ∙ sym stands_ahead);
-      readable = subst (λ o. IsReadable g.needs o) (stands_behind ∙ sym stands_ahead) r;
+      beside = p.beside ∙ ap (λ x. told_side g.needs x (after_at t i)) terminator;
     }
 
 -- what is found on the way down

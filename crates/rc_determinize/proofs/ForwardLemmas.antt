@@ -6,12 +6,13 @@ use Rattle.rc_program.specs.Program.{Way, pair_at, ways}
 use Rattle.rc_program.proofs.WayLemmas.{same_pair}
 use Rattle.rc_determinize.specs.Gives.{Gives, Carries, starts}
 use Rattle.rc_determinize.specs.Steps.{Adds, all_added, IsStep, at}
-use Rattle.rc_determinize.specs.Sides.{told, out_seen, byte_of, IsReadable}
-use Rattle.rc_determinize.specs.States.{Setting, IsSetting, State, is_match, root_if, IsNext, IsFirst, Stops, later_starts, all_starts, best_at, IsInside, IsUnderWay}
+use Rattle.rc_determinize.specs.declared.sides.Seen.{Seen}
+use Rattle.rc_determinize.specs.Sides.{told_side, sides_near, out_over}
+use Rattle.rc_determinize.specs.States.{Setting, IsSetting, State, is_match, root_if, IsNextOver, IsFirstBeside, sides_ahead, Stops, later_starts, all_starts, best_at, IsInside, IsUnderWay}
 use Rattle.rc_determinize.proofs.PassLemmas.{sets_out, arrives_last}
 use Rattle.rc_determinize.proofs.RunLemmas.{starts_from, rises}
 use Rattle.rc_determinize.proofs.PositionLemmas.{goes_by, start_joins, stops_by, ends_by}
-use Rattle.rc_determinize.proofs.TextLemmas.{get_some, byte_behind, byte_ahead, out_here, same_below, same_at_end, near, last}
+use Rattle.rc_determinize.proofs.TextLemmas.{out_here, same_below, same_at_end, near, last}
 
 same_added : {next list : List ℕ} → Adds next [] list → next ≡ list
 same_added all_added = refl
@@ -51,44 +52,36 @@ module _ (g : Setting) (ok : IsSetting g) (t : Text) (terminator : g.terminator 
       e same step [] c)
 
   -- what the table's step reads is what stands there
-  told_here : (i : ℕ) (s : State) (best : Option Pair) → (u : IsUnderWay g t hi root origin i s best) →
-      (r : IsReadable g.needs (byte_of (after_at t i))) →
-      out_seen g.places g.needs g.terminator s.beside (byte_of (after_at t i)) ≡ out_here g.places g.needs ok.by_bytes ok.covers t i u.readable r
-  told_here i s best u r =
-      ap₂ (λ x b. out_seen g.places g.needs x b (byte_of (after_at t i))) terminator u.beside
+  told_here : (i : ℕ) (s : State) (best : Option Pair) (far : Seen) → IsUnderWay g t hi root origin i s best →
+      out_over g.places s.beside (sides_near g.needs g.terminator (after_at t i) far) ≡ out_here g.places g.needs ok.by_bytes ok.covers t i
+  told_here i s best far u =
+      ap₂ (λ x b. out_over g.places b (sides_near g.needs x (after_at t i) far)) terminator u.beside
 
   -- before the first byte
-  pub begins : (lo : ℕ) (anchored : Bool) (s : State) → IsReadable g.needs (byte_of (before_at t lo)) →
-      IsFirst g root (byte_of (before_at t lo)) anchored s → origin ≡ all_starts anchored root lo hi →
-      IsUnderWay g t hi root origin lo s None
-  begins lo anchored s readable f e = record {
+  pub begins : (lo : ℕ) (anchored : Bool) (s : State) → IsFirstBeside root (told_side g.needs g.terminator (before_at t lo)) anchored s →
+      origin ≡ all_starts anchored root lo hi → IsUnderWay g t hi root origin lo s None
+  begins lo anchored s f e = record {
     carries = subst (λ xs. Carries (ways g.places t hi) (Stops g.places) xs (at lo s.list ++ later_starts s.goes_on root lo hi) None) (sym e)
         (subst (λ xs. Carries (ways g.places t hi) (Stops g.places) (all_starts anchored root lo hi) (at lo xs ++ later_starts s.goes_on root lo hi) None) (sym f.list)
         (subst (λ b. Carries (ways g.places t hi) (Stops g.places) (all_starts anchored root lo hi) ((root, lo) ∷ later_starts b root lo hi) None) (sym f.goes_on)
         (sets_out (ways g.places t hi) (Stops g.places) same_pair last_here (rises (ways g.places t hi) (Stops g.places) same_pair last_here near_here) (all_starts anchored root lo hi))));
-    beside = f.beside ∙ ap (λ x. told g.needs x (byte_of (before_at t lo))) terminator;
-    readable = readable;
+    beside = f.beside ∙ ap (λ x. told_side g.needs x (before_at t lo)) terminator;
   }
 
   -- THE STEP
   pub goes : (i : ℕ) (s s2 : State) (best : Option Pair) → i < hi → IsInside t i hi → IsUnderWay g t hi root origin i s best →
-      IsReadable g.needs (byte_of (after_at t i)) → IsNext g root s (byte_of (after_at t i)) s2 →
+      IsNextOver g.places root s (sides_ahead g t i) s2 →
       IsUnderWay g t hi root origin (i + 1) s2 (best_at i s2.matched best)
-  goes i s s2 best lt inside u r n =
+  goes i s s2 best lt inside u n =
       let high = inside.high in let bounded = inside.bounded in
-      let byte = get_some t.content i (omega (arith, lt, high, bounded)) in
-      let ahead = byte_ahead t i byte.0 (omega (arith, lt, high)) byte.1 in
-      let behind = byte_behind t i byte.0 inside.low byte.1 in
-      let same : byte_of (after_at t i) ≡ byte_of (before_at t (i + 1)) = ahead ∙ sym behind in
       record {
         carries = subst (λ b. Carries (ways g.places t hi) (Stops g.places) origin (at (i + 1) s2.list ++ later_starts b root (i + 1) hi) (best_at i s2.matched best))
             (sym n.goes_on)
-            (goes_on_by i (out_here g.places g.needs ok.by_bytes ok.covers t i u.readable r) lt
-            (same_below g.places g.needs ok.by_bytes ok.covers t i u.readable r hi lt high bounded) s.goes_on s2.matched s.list n.next s2.list best
-            (subst (λ o. IsStep o (is_match g.places) s.list n.next s2.matched) (told_here i s best u r) n.is_step)
+            (goes_on_by i (out_here g.places g.needs ok.by_bytes ok.covers t i) lt
+            (same_below g.places g.needs ok.by_bytes ok.covers t i hi lt high bounded) s.goes_on s2.matched s.list n.next s2.list best
+            (subst (λ o. IsStep o (is_match g.places) s.list n.next s2.matched) (told_here i s best (told_side g.needs g.terminator (before_at t (i + 1))) u) n.is_step)
             (subst (λ b. Adds n.next (root_if b root) s2.list) n.goes_on n.joined) u.carries);
-        beside = n.beside ∙ ap₂ (λ x o. told g.needs x o) terminator same;
-        readable = subst (λ o. IsReadable g.needs o) same r;
+        beside = n.beside ∙ ap (λ x. told_side g.needs x (before_at t (i + 1))) terminator;
       }
 
   no_later : (goes_on : Bool) → later_starts goes_on root hi hi ≡ []
@@ -96,14 +89,14 @@ module _ (g : Setting) (ok : IsSetting g) (t : Text) (terminator : g.terminator 
   no_later false = refl
 
   -- at the bound: the byte that stands behind it, if one does, is looked at, and not read
-  pub ends : (s s2 : State) (best : Option Pair) → IsUnderWay g t hi root origin hi s best →
-      IsReadable g.needs (byte_of (after_at t hi)) → IsNext g root s (byte_of (after_at t hi)) s2 →
+  pub ends : (s s2 : State) (best : Option Pair) (far : Seen) → IsUnderWay g t hi root origin hi s best →
+      IsNextOver g.places root s (sides_near g.needs g.terminator (after_at t hi) far) s2 →
       Gives (ways g.places t hi) (Stops g.places) [] origin (best_at hi s2.matched best)
-  ends s s2 best u r n =
+  ends s s2 best far u n =
       ends_by (ways g.places t hi) (Stops g.places) same_pair last_here near_here hi
-      (out_here g.places g.needs ok.by_bytes ok.covers t hi u.readable r) (is_match g.places) (λ q. refl) s.list n.next origin best s2.matched
-      (same_at_end g.places g.needs ok.by_bytes ok.covers t hi u.readable r)
-      (subst (λ o. IsStep o (is_match g.places) s.list n.next s2.matched) (told_here hi s best u r) n.is_step)
+      (out_here g.places g.needs ok.by_bytes ok.covers t hi) (is_match g.places) (λ q. refl) s.list n.next origin best s2.matched
+      (same_at_end g.places g.needs ok.by_bytes ok.covers t hi)
+      (subst (λ o. IsStep o (is_match g.places) s.list n.next s2.matched) (told_here hi s best far u) n.is_step)
       (subst (λ xs. Carries (ways g.places t hi) (Stops g.places) origin (at hi s.list ++ xs) best) (no_later s.goes_on) u.carries)
 
   -- a state from which nothing goes on

@@ -1,21 +1,23 @@
 -- The laws.
-use Rattle.std.proofs.Common.{◌≡◌, ℕ, zero, suc, ◌+◌, ◌<◌, ◌≤◌, false, List, [], ◌∷◌, length, Option, Some, None, IsTrue, inl, inr, ⊎_elim, sym, subst, ap, ap₂, ◌∙◌, refl, arith}
+use Rattle.std.proofs.Common.{◌≡◌, ℕ, zero, suc, ◌+◌, ◌<◌, ◌≤◌, false, List, [], ◌∷◌, length, Option, Some, None, IsTrue, ◌↔◌, inl, inr, ⊎_elim, sym, subst, ap, ap₂, ◌∙◌, refl, arith}
 use Rattle.std.proofs.lemmas.Bool.{cases_lt, cases_eq}
 use Rattle.std.proofs.lemmas.Option.{same_Some}
 use Rattle.rc_walks.specs.Walks.{Pair, IsIn}
+use Rattle.rc_program.specs.Text.{before_at, after_at}
 use Rattle.rc_program.specs.Program.{reads, ways, ways_out, place_at, is_match_place}
 use Rattle.rc_program.specs.Answer.{Search, is_anchored, ends, next_of}
 use Rattle.rc_program.proofs.WayLemmas.{past_places}
 use Rattle.rc_determinize.specs.Gives.{Gives}
 use Rattle.rc_determinize.specs.Steps.{AreBelow, IsByBytes}
-use Rattle.rc_determinize.specs.Sides.{AreAlike}
+use Rattle.rc_determinize.specs.Sides.{AreAlike, told, byte_of}
 use Rattle.rc_determinize.proofs.Leads.{IsLeastStart}
-use Rattle.rc_determinize.specs.States.{Setting, State, Stops, all_starts}
+use Rattle.rc_determinize.specs.States.{Setting, State, IsNextOver, IsFirstBeside, Stops, all_starts}
+use Rattle.rc_determinize.proofs.TextLemmas.{told_before, told_after, near_told, ahead_told, behind_told}
 use Rattle.rc_determinize.specs.Steps.{HasWay}
-use Rattle.rc_determinize.specs.Backward.{LeadsBy, LeadsHere, still_out, IsPrior, IsFirstRoot, ReadsTo}
+use Rattle.rc_determinize.specs.Backward.{LeadsBy, LeadsHere, still_out, IsPrior, IsPriorOver, IsLastBeside, IsFirstRoot, ReadsTo}
 use Rattle.rc_determinize.specs.Laws.{GatherLaw, IsRaised, IsSettingOf, ForwardLaw, BackwardLaw, SpanLaw}
 use Rattle.rc_determinize.proofs.ForwardLemmas as forward
-use Rattle.rc_determinize.specs.Sets.{ComesBy}
+use Rattle.rc_determinize.specs.Sets.{Comes, ComesBy, ComesOver, IsNextOfAllOver}
 use Rattle.rc_determinize.proofs.SidesLemmas.{alike_out}
 use Rattle.rc_determinize.proofs.SetLemmas as sets
 use Rattle.rc_determinize.specs.Gives.{starts}
@@ -58,11 +60,19 @@ prior_below g roots s s2 before p q h =
 
 pub backward_law : BackwardLaw
 backward_law = record {
-  comes = λ g t hi end s ok e le. backward.comes g ok t e hi end le s;
+  comes_beside = λ g t hi end s ok e le l. backward.comes g ok t e hi end le s l;
+  tells_over = λ g t hi end i roots s s2 far ok e le here inside c p.
+      backward.tells g ok t e hi end le i inside.low here inside.high inside.bounded s c roots s2 far p;
+  descends_over = λ g t hi end i roots s s2 ok e le below inside c p.
+      backward.descends g ok t e hi end le i inside.low below inside.high inside.bounded roots s s2 c p;
+  comes = λ g t hi end s ok e le r l.
+      backward.comes g ok t e hi end le s (subst (λ x. IsLastBeside g.places x s) (told_after g.needs g.terminator t end r) l);
   tells = λ g t hi end i roots s s2 ok e le here inside c r p.
-      backward.tells g ok t e hi end le i inside.low here inside.high inside.bounded s c r roots s2 p;
+      backward.tells g ok t e hi end le i inside.low here inside.high inside.bounded s c roots s2 _
+      (subst (λ x. IsPriorOver g.places roots s x s2) (near_told g.needs g.terminator (before_at t i) _ (told_before g.needs g.terminator t i r) refl) p);
   descends = λ g t hi end i roots s s2 ok e le below inside c r p.
-      backward.descends g ok t e hi end le i inside.low below inside.high inside.bounded roots s s2 c r p;
+      backward.descends g ok t e hi end le i inside.low below inside.high inside.bounded roots s s2 c
+      (subst (λ x. IsPriorOver g.places roots s x s2) (behind_told g t hi i (omega (arith, below, le)) inside r) p);
   dies = λ g t hi end i y root s ok c empty le below. backward.nothing_before g ok t hi end i s c empty le (root, y) below;
   alike = alike_prior;
   inside = λ g roots s s2 before p. (rising_once s2.list p.rising, prior_below g roots s s2 before p);
@@ -73,9 +83,17 @@ backward_law = record {
 
 pub forward_law : ForwardLaw
 forward_law = record {
-  begins = λ g t hi root lo anchored s ok e r f. forward.begins g ok t e hi root (all_starts anchored root lo hi) lo anchored s r f refl;
-  goes = λ g t hi root origin i s s2 best ok e lt inside u r n. forward.goes g ok t e hi root origin i s s2 best lt inside u r n;
-  ends = λ g t hi root origin s s2 best ok e u r n. forward.ends g ok t e hi root origin s s2 best u r n;
+  begins_beside = λ g t hi root lo anchored s ok e f. forward.begins g ok t e hi root (all_starts anchored root lo hi) lo anchored s f refl;
+  goes_over = λ g t hi root origin i s s2 best ok e lt inside u n. forward.goes g ok t e hi root origin i s s2 best lt inside u n;
+  ends_over = λ g t hi root origin s s2 best far ok e u n. forward.ends g ok t e hi root origin s s2 best far u n;
+  begins = λ g t hi root lo anchored s ok e r f.
+      forward.begins g ok t e hi root (all_starts anchored root lo hi) lo anchored s
+      (subst (λ x. IsFirstBeside root x anchored s) (told_before g.needs g.terminator t lo r) f) refl;
+  goes = λ g t hi root origin i s s2 best ok e lt inside u r n.
+      forward.goes g ok t e hi root origin i s s2 best lt inside u (subst (λ x. IsNextOver g.places root s x s2) (ahead_told g t hi i lt inside r) n);
+  ends = λ g t hi root origin s s2 best ok e u r n.
+      forward.ends g ok t e hi root origin s s2 best _ u
+      (subst (λ x. IsNextOver g.places root s x s2) (near_told g.needs g.terminator (after_at t hi) _ (told_after g.needs g.terminator t hi r) refl) n);
   dies = λ g t hi root origin i s best ok e u empty done. forward.dies g ok t e hi root origin i s best u empty done;
 }
 
@@ -123,11 +141,22 @@ starts_in root x (suc count) y a b =
 
 pub gather_law : GatherLaw
 gather_law = record {
-  tells = λ g t hi root origin i s s2 ok e here inside c r n. sets.ends_here g ok t e hi origin i here inside.high inside.bounded s c r root s2 n;
-  comes = λ g t hi origin i s ok e here inside c r q. sets.gathers g ok t e hi origin i here inside.high inside.bounded s c r q;
+  tells_over = λ g t hi root origin i s s2 far ok e here inside c n.
+      sets.ends_here g ok t e hi origin i here inside.high inside.bounded s c root s2 far n;
+  comes_over = λ g t hi origin i s far ok e here inside c q. sets.gathers g ok t e hi origin i here inside.high inside.bounded s c far q;
+  goes_over = λ g t hi root origin i s s2 ok e lt inside first c n.
+      sets.gathers_on g ok t e hi origin i (omega (arith, lt)) inside.high inside.bounded s c root s2 inside.low lt first n;
+  tells = λ g t hi root origin i s s2 ok e here inside c r n.
+      sets.ends_here g ok t e hi origin i here inside.high inside.bounded s c root s2 _
+      (subst (λ x. IsNextOfAllOver g.places root s x s2) (near_told g.needs g.terminator (after_at t i) _ (told_after g.needs g.terminator t i r) refl) n);
+  comes = λ g t hi origin i s ok e here inside c r q.
+      subst (λ x. ComesOver g.places s x q ↔ Comes (ways g.places t hi) origin (q, i))
+      (sym (near_told g.needs g.terminator (after_at t i) _ (told_after g.needs g.terminator t i r) refl))
+      (sets.gathers g ok t e hi origin i here inside.high inside.bounded s c (told g.needs g.terminator (byte_of (after_at t i))) q);
   alike = λ g b c s q a h. subst (λ o. ComesBy o s.list q) (alike_out g.places g.needs g.terminator b c s.beside a) h;
   goes = λ g t hi root origin i s s2 ok e lt inside first c r n.
-      sets.gathers_on g ok t e hi origin i (omega (arith, lt)) inside.high inside.bounded s c r root s2 inside.low lt first n;
+      sets.gathers_on g ok t e hi origin i (omega (arith, lt)) inside.high inside.bounded s c root s2 inside.low lt first
+      (subst (λ x. IsNextOfAllOver g.places root s x s2) (ahead_told g t hi i lt inside r) n);
   dies = λ g t hi origin i s ok c empty started q y le h. sets.nothing_later g ok t hi origin i s c empty started h le;
   start = λ root x count q y. (in_starts root x count q y, λ h. subst (λ k. IsIn (k, y) (starts root x count)) (sym h.0) (starts_in root x count y h.1 h.2));
 }

@@ -4,8 +4,10 @@ use Rattle.std.proofs.lemmas.List.{append-nil, length-append}
 use Rattle.rc_program.specs.Laws.{IsClosed}
 use Rattle.rc_determinize.specs.Steps.{HasPlace, AreOnce, AreBelow}
 use Rattle.rc_determinize.specs.Sides.{holds_by, told, out_seen, AreAlike}
-use Rattle.rc_determinize.specs.States.{Setting, State, is_match, all_starts}
-use Rattle.rc_determinize.specs.Longest.{groups_of, joined, parted, flat, GroupSteps, AddsGroups, all_added, adds, root_group, IsNextOfLongest}
+use Rattle.rc_program.specs.Text.{after_at}
+use Rattle.rc_determinize.specs.States.{Setting, State, IsFirstBeside, is_match, all_starts}
+use Rattle.rc_determinize.proofs.TextLemmas.{told_before, told_after, near_told, ahead_told}
+use Rattle.rc_determinize.specs.Longest.{groups_of, joined, parted, flat, GroupSteps, AddsGroups, all_added, adds, root_group, IsNextOfLongest, IsNextOfLongestOver}
 use Rattle.rc_determinize.specs.LongestLaws.{IsMarkedList, LongestStepLaw, LongestForwardLaw}
 use Rattle.rc_determinize.proofs.SidesLemmas.{alike_out}
 use Rattle.rc_determinize.proofs.MachineLemmas.{has_parts, has_left, has_right}
@@ -113,9 +115,18 @@ longest_step_law = record {
 
 pub longest_forward_law : LongestForwardLaw
 longest_forward_law = record {
-  begins = λ g t hi root lo anchored s ok rooted e r f. racing.begins g ok t e hi root (all_starts anchored root lo hi) lo anchored s rooted r f refl;
-  goes = λ g t hi root origin i s s2 best ok closed rooted e lt inside u r n. racing.goes g ok t e hi root origin i s s2 best closed rooted lt inside u r n;
-  ends = λ g t hi root origin s s2 best ok e u r n. racing.ends g ok t e hi root origin s s2 best u r n;
+  begins_beside = λ g t hi root lo anchored s ok rooted e f. racing.begins g ok t e hi root (all_starts anchored root lo hi) lo anchored s rooted f refl;
+  goes_over = λ g t hi root origin i s s2 best ok closed rooted e lt inside u n. racing.goes g ok t e hi root origin i s s2 best closed rooted lt inside u n;
+  ends_over = λ g t hi root origin s s2 best far ok e u n. racing.ends g ok t e hi root origin s s2 best far u n;
+  begins = λ g t hi root lo anchored s ok rooted e r f.
+      racing.begins g ok t e hi root (all_starts anchored root lo hi) lo anchored s rooted
+      (subst (λ x. IsFirstBeside root x anchored s) (told_before g.needs g.terminator t lo r) f) refl;
+  goes = λ g t hi root origin i s s2 best ok closed rooted e lt inside u r n.
+      racing.goes g ok t e hi root origin i s s2 best closed rooted lt inside u
+      (subst (λ x. IsNextOfLongestOver g.places root s x s2) (ahead_told g t hi i lt inside r) n);
+  ends = λ g t hi root origin s s2 best ok e u r n.
+      racing.ends g ok t e hi root origin s s2 best _ u
+      (subst (λ x. IsNextOfLongestOver g.places root s x s2) (near_told g.needs g.terminator (after_at t hi) _ (told_after g.needs g.terminator t hi r) refl) n);
   dies = λ g t hi root origin i s best ok e u empty done. racing.dies g ok t e hi root origin i s best u empty done;
   rests = λ g t hi root origin i s ok e u one on r h. racing.rests g ok t e hi root origin i s u one on r h;
 }

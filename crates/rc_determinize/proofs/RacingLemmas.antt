@@ -11,9 +11,10 @@ use Rattle.rc_program.proofs.WayLemmas.{same_pair}
 use Rattle.rc_determinize.specs.Gives.{starts}
 use Rattle.rc_determinize.specs.Run.{IsGoal}
 use Rattle.rc_determinize.specs.Steps.{HasPlace, AreBelow, all_added, still}
-use Rattle.rc_determinize.specs.Sides.{told, holds_by, out_seen, byte_of, IsReadable}
-use Rattle.rc_determinize.specs.States.{Setting, IsSetting, State, is_match, IsFirst, IsInside, Stops, later_starts, all_starts, best_at}
-use Rattle.rc_determinize.specs.Longest.{flat, groups_of, parted, Closes, GroupSteps, over, goes as goes_over, stops, AddsGroups, all_added as none_added, adds, root_group, IsNextOfLongest}
+use Rattle.rc_determinize.specs.declared.sides.Seen.{Seen}
+use Rattle.rc_determinize.specs.Sides.{told_side, sides_near, holds_by, out_over, byte_of}
+use Rattle.rc_determinize.specs.States.{Setting, IsSetting, State, is_match, IsFirstBeside, sides_ahead, IsInside, Stops, later_starts, all_starts, best_at}
+use Rattle.rc_determinize.specs.Longest.{flat, groups_of, parted, Closes, GroupSteps, over, goes as goes_over, stops, AddsGroups, all_added as none_added, adds, root_group, IsNextOfLongestOver}
 use Rattle.rc_determinize.specs.LongestLaws.{Held, begun, held, AreHeldBelow, IsQuiet, AreCarried, IsKnown, IsRest, IsRacing, GivesLongest}
 use Rattle.rc_determinize.proofs.PartsLemmas.{no_walk_both}
 use Rattle.rc_determinize.proofs.Passes as passes
@@ -21,7 +22,7 @@ use Rattle.rc_determinize.proofs.PositionLemmas.{still_stay}
 use Rattle.rc_determinize.proofs.MachineLemmas.{has_right}
 use Rattle.rc_determinize.proofs.LimitLemmas.{read_by, under_kept}
 use Rattle.rc_determinize.proofs.UnderLemmas.{out_under}
-use Rattle.rc_determinize.proofs.TextLemmas.{get_some, byte_behind, byte_ahead, out_here, same_below, same_at_end, near, last}
+use Rattle.rc_determinize.proofs.TextLemmas.{out_here, same_below, same_at_end, near, last}
 use Rattle.rc_determinize.proofs.CloseLemmas.{at_bound}
 use Rattle.rc_determinize.proofs.GroupLemmas.{full, full_append, parted_same, groups_parted, nothing_held, one_held, adds_parts}
 use Rattle.rc_determinize.proofs.RaceLemmas.{up, MetHere, Stepped, SoFar, step_groups}
@@ -150,23 +151,24 @@ module _ (g : Setting) (ok : IsSetting g) (t : Text) (terminator : g.terminator 
   near_here = near g.places t hi ok.by_bytes
 
   -- what the table's step reads is what stands there
-  told_here : (i : ℕ) (s : State) (best : Option Pair) (u : IsRacing g t hi root origin i s best) (r : IsReadable g.needs (byte_of (after_at t i))) →
-      out_seen g.places g.needs g.terminator s.beside (byte_of (after_at t i)) ≡ out_here g.places g.needs ok.by_bytes ok.covers t i u.readable r
-  told_here i s best u r =
-      ap₂ (λ x b. out_seen g.places g.needs x b (byte_of (after_at t i))) terminator u.beside
+  told_here : (i : ℕ) (s : State) (best : Option Pair) (far : Seen) → IsRacing g t hi root origin i s best →
+      out_over g.places s.beside (sides_near g.needs g.terminator (after_at t i) far) ≡ out_here g.places g.needs ok.by_bytes ok.covers t i
+  told_here i s best far u =
+      ap₂ (λ x b. out_over g.places b (sides_near g.needs x (after_at t i) far)) terminator u.beside
 
-  steps_here : (i : ℕ) (s s2 : State) (best : Option Pair) (u : IsRacing g t hi root origin i s best) (r : IsReadable g.needs (byte_of (after_at t i))) →
-      (m : IsNextOfLongest g root s (byte_of (after_at t i)) s2) →
-      GroupSteps (out_here g.places g.needs ok.by_bytes ok.covers t i u.readable r) (is_match g.places) [] (full (held u.starts)) m.onward s2.matched
-  steps_here i s s2 best u r m =
-      subst (λ z. GroupSteps (out_here g.places g.needs ok.by_bytes ok.covers t i u.readable r) (is_match g.places) [] z m.onward s2.matched)
+  steps_here : (i : ℕ) (s s2 : State) (best : Option Pair) (far : Seen) (u : IsRacing g t hi root origin i s best) →
+      (m : IsNextOfLongestOver g.places root s (sides_near g.needs g.terminator (after_at t i) far) s2) →
+      GroupSteps (out_here g.places g.needs ok.by_bytes ok.covers t i) (is_match g.places) [] (full (held u.starts)) m.onward s2.matched
+  steps_here i s s2 best far u m =
+      subst (λ z. GroupSteps (out_here g.places g.needs ok.by_bytes ok.covers t i) (is_match g.places) [] z m.onward s2.matched)
       (ap (λ z. groups_of (length g.places) z) u.list ∙ groups_parted (length g.places) u.starts u.below)
-      (subst (λ z. GroupSteps z (is_match g.places) [] (groups_of (length g.places) s.list) m.onward s2.matched) (told_here i s best u r) m.steps)
+      (subst (λ z. GroupSteps z (is_match g.places) [] (groups_of (length g.places) s.list) m.onward s2.matched) (told_here i s best far u) m.steps)
 
   -- before the first byte
-  pub begins : (lo : ℕ) (anchored : Bool) (s : State) → root < length g.places → IsReadable g.needs (byte_of (before_at t lo)) →
-      IsFirst g root (byte_of (before_at t lo)) anchored s → origin ≡ all_starts anchored root lo hi → IsRacing g t hi root origin lo s None
-  begins lo anchored s rooted readable f e = record {
+  pub begins : (lo : ℕ) (anchored : Bool) (s : State) → root < length g.places →
+      IsFirstBeside root (told_side g.needs g.terminator (before_at t lo)) anchored s → origin ≡ all_starts anchored root lo hi →
+      IsRacing g t hi root origin lo s None
+  begins lo anchored s rooted f e = record {
     starts = ((root, lo), root ∷ []) ∷ [];
     rest = later_starts s.goes_on root lo hi;
     all = e ∙ ap (λ b. (root, lo) ∷ later_starts b root lo hi) (sym f.goes_on);
@@ -176,28 +178,23 @@ module _ (g : Setting) (ok : IsSetting g) (t : Text) (terminator : g.terminator 
     carries = ((λ p le r x. x), tt);
     known = λ p l. none_back (ways g.places t hi) (Stops g.places) (up (ways g.places t hi) (Stops g.places) same_pair last_here near_here)
         p p [] (root, lo) (omega arith) (omega (arith, l));
-    beside = f.beside ∙ ap (λ x. told g.needs x (byte_of (before_at t lo))) terminator;
-    readable = readable;
+    beside = f.beside ∙ ap (λ x. told_side g.needs x (before_at t lo)) terminator;
   }
 
   -- THE STEP
   pub goes : (i : ℕ) (s s2 : State) (best : Option Pair) → IsClosed g.places → root < length g.places → i < hi → IsInside t i hi →
-      IsRacing g t hi root origin i s best → IsReadable g.needs (byte_of (after_at t i)) →
-      IsNextOfLongest g root s (byte_of (after_at t i)) s2 → IsRacing g t hi root origin (i + 1) s2 (best_at i s2.matched best)
-  goes i s s2 best closed rooted lt inside u r m =
+      IsRacing g t hi root origin i s best → IsNextOfLongestOver g.places root s (sides_ahead g t i) s2 →
+      IsRacing g t hi root origin (i + 1) s2 (best_at i s2.matched best)
+  goes i s s2 best closed rooted lt inside u m =
       let high = inside.high in
       let bounded = inside.bounded in
-      let byte = get_some t.content i (omega (arith, lt, high, bounded)) in
-      let ahead = byte_ahead t i byte.0 (omega (arith, lt, high)) byte.1 in
-      let behind = byte_behind t i byte.0 inside.low byte.1 in
-      let same_byte : byte_of (after_at t i) ≡ byte_of (before_at t (i + 1)) = ahead ∙ sym behind in
-      let out = out_here g.places g.needs ok.by_bytes ok.covers t i u.readable r in
-      let same = same_below g.places g.needs ok.by_bytes ok.covers t i u.readable r hi lt high bounded in
-      let under = out_under g.places closed (holds_by (told g.needs t.terminator (byte_of (before_at t i))) (told g.needs t.terminator (byte_of (after_at t i)))) (byte_of (after_at t i)) in
+      let out = out_here g.places g.needs ok.by_bytes ok.covers t i in
+      let same = same_below g.places g.needs ok.by_bytes ok.covers t i hi lt high bounded in
+      let under = out_under g.places closed (holds_by (told_side g.needs t.terminator (before_at t i)) (told_side g.needs t.terminator (after_at t i))) (byte_of (after_at t i)) in
       let parts = adds_parts m.onward m.once in
       let stepped = step_groups (ways g.places t hi) (Stops g.places) same_pair last_here near_here i out (is_match g.places) (λ q. refl) same (length g.places) under
       u.starts [] [] [] [] [] (nothing_yet (ways g.places t hi) (Stops g.places) last_here near_here i out (is_match g.places) (λ q. refl) same (length g.places) under)
-      u.carries (steps_here i s s2 best u r m) parts.3 in
+      u.carries (steps_here i s s2 best (told_side g.needs g.terminator (before_at t (i + 1))) u m) parts.3 in
       let next = next_starts (ways g.places t hi) (Stops g.places) last_here near_here i out (is_match g.places) (λ q. refl) same (length g.places) under
       root hi origin u.starts u.rest u.all s.goes_on parts.0 parts.1 s2.matched best stepped lt rooted u.known u.is_rest
       (subst (λ b. AddsGroups (flat parts.0) (root_group b root) parts.1) m.goes_on parts.4) in
@@ -210,8 +207,7 @@ module _ (g : Setting) (ok : IsSetting g) (t : Text) (terminator : g.terminator 
         below = next.below;
         carries = next.carries;
         known = next.known;
-        beside = m.beside ∙ ap₂ (λ x o. told g.needs x o) terminator same_byte;
-        readable = subst (λ o. IsReadable g.needs o) same_byte r;
+        beside = m.beside ∙ ap (λ x. told_side g.needs x (before_at t (i + 1))) terminator;
       }
 
   no_later : (goes_on : Bool) → later_starts goes_on root hi hi ≡ []
@@ -219,12 +215,12 @@ module _ (g : Setting) (ok : IsSetting g) (t : Text) (terminator : g.terminator 
   no_later false = refl
 
   -- at the bound: the byte that stands behind it, if one does, is looked at, and not read
-  pub ends : (s s2 : State) (best : Option Pair) → IsRacing g t hi root origin hi s best → IsReadable g.needs (byte_of (after_at t hi)) →
-      IsNextOfLongest g root s (byte_of (after_at t hi)) s2 → GivesLongest (ways g.places t hi) (Stops g.places) origin (best_at hi s2.matched best)
-  ends s s2 best u r m =
-      let out = out_here g.places g.needs ok.by_bytes ok.covers t hi u.readable r in
-      let same = same_at_end g.places g.needs ok.by_bytes ok.covers t hi u.readable r in
-      let b = bound_groups out (is_match g.places) (steps_here hi s s2 best u r m) in
+  pub ends : (s s2 : State) (best : Option Pair) (far : Seen) → IsRacing g t hi root origin hi s best →
+      IsNextOfLongestOver g.places root s (sides_near g.needs g.terminator (after_at t hi) far) s2 → GivesLongest (ways g.places t hi) (Stops g.places) origin (best_at hi s2.matched best)
+  ends s s2 best far u m =
+      let out = out_here g.places g.needs ok.by_bytes ok.covers t hi in
+      let same = same_at_end g.places g.needs ok.by_bytes ok.covers t hi in
+      let b = bound_groups out (is_match g.places) (steps_here hi s s2 best far u m) in
       let under : (q : ℕ) → AreBelow 0 (read_by (still (out q))) = λ q k h. absurd (subst (λ z. HasPlace k z) (still_reads_nothing (out q)) h) in
       let stepped = step_groups (ways g.places t hi) (Stops g.places) same_pair last_here near_here hi (λ q. still (out q)) (is_match g.places) (λ q. refl) same 0 under
       u.starts [] [] [] [] [] (nothing_yet (ways g.places t hi) (Stops g.places) last_here near_here hi (λ q. still (out q)) (is_match g.places) (λ q. refl) same 0 under)
@@ -239,9 +235,9 @@ module _ (g : Setting) (ok : IsSetting g) (t : Text) (terminator : g.terminator 
     where
       no_rest : (matched : Option ℕ) (best : Option Pair) (starts : List Held) (dropped rest : List Pair) →
           MetHere (ways g.places t hi) (Stops g.places) same_pair last_here near_here hi
-          (λ q. still (out_here g.places g.needs ok.by_bytes ok.covers t hi u.readable r q)) (is_match g.places) (λ q. refl)
-          (same_at_end g.places g.needs ok.by_bytes ok.covers t hi u.readable r) 0
-          (λ q k h. absurd (subst (λ z. HasPlace k z) (still_reads_nothing (out_here g.places g.needs ok.by_bytes ok.covers t hi u.readable r q)) h))
+          (λ q. still (out_here g.places g.needs ok.by_bytes ok.covers t hi q)) (is_match g.places) (λ q. refl)
+          (same_at_end g.places g.needs ok.by_bytes ok.covers t hi) 0
+          (λ q k h. absurd (subst (λ z. HasPlace k z) (still_reads_nothing (out_here g.places g.needs ok.by_bytes ok.covers t hi q)) h))
           [] starts dropped matched → IsRest s.goes_on root hi hi rest best → best_at hi matched best ≡ None → dropped ++ rest ≡ []
       no_rest None None starts dropped rest h is_rest e = ap₂ (λ z w. z ++ w) h.0 (is_rest ∙ no_later s.goes_on)
       no_rest None (Some b) starts dropped rest h is_rest e = absurd (none-some b (sym e))

@@ -6,13 +6,16 @@ use Rattle.rc_walks.specs.Walks.{Pair, IsIn}
 use Rattle.rc_text.proofs.Ranges.{slice_range-add_one}
 use Rattle.rc_pattern.specs.declared.hir.Look.{Look}
 use Rattle.rc_program.specs.Text.{Text, holds, ahead, before_at, after_at, behind, beyond}
-use Rattle.rc_program.specs.Looks.{side_before, side_after}
+use Rattle.rc_program.specs.Looks.{Side, side_before, side_after}
 use Rattle.rc_program.specs.Program.{Place, choice, byte, branch, scalar, guard, slot, accept, Way, stays, reads, in_ranges, branch_ways, ways_out, pair_at, place_at, ways, is_match_place}
 use Rattle.rc_program.proofs.WayLemmas.{in_map, no_way_from}
 use Rattle.rc_utf8.specs.Laws.{IsBytePlace}
-use Rattle.rc_determinize.specs.Steps.{still, IsByBytes, ahead_of}
+use Rattle.rc_determinize.specs.Steps.{still, IsByBytes, ahead_of, out_by}
 use Rattle.rc_determinize.specs.declared.sides.Asked.{Asked}
-use Rattle.rc_determinize.specs.Sides.{seen_by, holds_by, byte_of, HasLook, told, Covers, out_seen, IsReadable}
+use Rattle.rc_determinize.specs.declared.sides.Seen.{Seen}
+use Rattle.rc_determinize.specs.declared.sides.Sides.{Sides}
+use Rattle.rc_determinize.specs.States.{Setting, IsInside, sides_ahead, sides_behind}
+use Rattle.rc_determinize.specs.Sides.{seen_by, holds_by, byte_of, HasLook, told, told_side, sides_of, sides_near, Covers, IsReadable}
 use Rattle.rc_determinize.proofs.SidesLemmas.{holds_law, asked_enough, told_byte, plain_after, plain_before, same_ways_out, one_byte, still_are}
 
 pub get_some : (xs : List ℕ) (k : ℕ) → k < length xs → (x : ℕ) × (slice_get xs k ≡ Some x)
@@ -61,27 +64,23 @@ none_ahead t = ap (λ xs. byte_of (side_after xs)) (empty_range t.content t.slic
 below : (needs : Asked) (o : Option ℕ) → IsReadable needs o → IsTrue needs.unicode → (b : ℕ) → o ≡ Some b → b < 128
 below needs o r u b e = subst (λ (x : Option ℕ). IsReadable needs x) e r u
 
-module _ (places : List Place) (needs : Asked) (by_bytes : IsByBytes places) (covers : Covers needs places) (t : Text) (i : ℕ)
-    (readable_before : IsReadable needs (byte_of (before_at t i))) (readable_after : IsReadable needs (byte_of (after_at t i))) where
-  -- the ways out, as far as they are told
-  abbrev pub out_here : ℕ → List Way
-  out_here = out_seen places needs t.terminator (told needs t.terminator (byte_of (before_at t i))) (byte_of (after_at t i))
+module _ (places : List Place) (needs : Asked) (by_bytes : IsByBytes places) (covers : Covers needs places) (t : Text) (i : ℕ) where
+  abbrev test_here : Look → Bool
+  test_here = holds_by (told_side needs t.terminator (before_at t i)) (told_side needs t.terminator (after_at t i))
 
-  pub held : (q : ℕ) (l : Look) → HasLook l (place_at places q) →
-      holds t l i ≡ holds_by (told needs t.terminator (byte_of (before_at t i))) (told needs t.terminator (byte_of (after_at t i))) l
+  -- the ways out, by what is told of both sides
+  abbrev pub out_here : ℕ → List Way
+  out_here = out_by places test_here (byte_of (after_at t i))
+
+  pub held : (q : ℕ) (l : Look) → HasLook l (place_at places q) → holds t l i ≡ test_here l
   held q l h =
       sym (holds_law t.terminator (before_at t i) (after_at t i) l)
       ∙ sym (asked_enough needs (seen_by t.terminator (before_at t i)) (seen_by t.terminator (after_at t i)) l (covers.facts q l h) (covers.unicode q l h))
-      ∙ ap₂ (λ x y. holds_by x y l)
-      (told_byte needs t.terminator (before_at t i) (λ u. plain_before (behind t i) (below needs _ readable_before u)))
-      (told_byte needs t.terminator (after_at t i) (λ u. plain_after (beyond t i) (below needs _ readable_after u)))
 
-  same_test : (q : ℕ) (bytes : List ℕ) →
-      ways_out (λ l. holds t l i) bytes (place_at places q)
-      ≡ ways_out (holds_by (told needs t.terminator (byte_of (before_at t i))) (told needs t.terminator (byte_of (after_at t i)))) bytes (place_at places q)
+  same_test : (q : ℕ) (bytes : List ℕ) → ways_out (λ l. holds t l i) bytes (place_at places q) ≡ ways_out test_here bytes (place_at places q)
   same_test q bytes = same_ways_out (λ l. holds t l i) _ bytes (place_at places q) (held q)
 
-  -- where the byte may be read
+  -- below the bound
   pub same_below : (hi : ℕ) → i < hi → hi ≤ t.slice_end → t.slice_end ≤ length t.content →
       (q : ℕ) → ways places t hi (q, i) ≡ map (pair_at i) (out_here q)
   same_below hi lt inside bounded q =
@@ -90,17 +89,55 @@ module _ (places : List Place) (needs : Asked) (by_bytes : IsByBytes places) (co
       let here = byte_ahead t i some.0 (omega (arith, lt, inside)) some.1 in
       ap (λ ws. map (pair_at i) ws)
       (same_test q (ahead t hi i)
-      ∙ ap (λ bs. ways_out (holds_by (told needs t.terminator (byte_of (before_at t i))) (told needs t.terminator (byte_of (after_at t i)))) bs (place_at places q)) first.1
+      ∙ ap (λ bs. ways_out test_here bs (place_at places q)) first.1
       ∙ one_byte _ some.0 first.0 (place_at places q) (by_bytes q)
-      ∙ ap (λ o. ways_out (holds_by (told needs t.terminator (byte_of (before_at t i))) (told needs t.terminator (byte_of (after_at t i)))) (ahead_of o) (place_at places q)) (sym here))
+      ∙ ap (λ o. ways_out test_here (ahead_of o) (place_at places q)) (sym here))
 
-  -- where it is beyond the bound
+  -- where the byte is beyond the bound
   pub same_at_end : (q : ℕ) → ways places t i (q, i) ≡ map (pair_at i) (still (out_here q))
   same_at_end q =
       ap (λ ws. map (pair_at i) ws)
       (same_test q (ahead t i i)
-      ∙ ap (λ bs. ways_out (holds_by (told needs t.terminator (byte_of (before_at t i))) (told needs t.terminator (byte_of (after_at t i)))) bs (place_at places q)) (empty_range t.content i)
+      ∙ ap (λ bs. ways_out test_here bs (place_at places q)) (empty_range t.content i)
       ∙ still_are _ (byte_of (after_at t i)) (place_at places q) (by_bytes q))
+
+-- BYTES ALONE
+
+pub told_before : (needs : Asked) (terminator : ℕ) (t : Text) (i : ℕ) → IsReadable needs (byte_of (before_at t i)) →
+    told needs terminator (byte_of (before_at t i)) ≡ told_side needs terminator (before_at t i)
+told_before needs terminator t i r = sym (told_byte needs terminator (before_at t i) (λ u. plain_before (behind t i) (below needs _ r u)))
+
+pub told_after : (needs : Asked) (terminator : ℕ) (t : Text) (i : ℕ) → IsReadable needs (byte_of (after_at t i)) →
+    told needs terminator (byte_of (after_at t i)) ≡ told_side needs terminator (after_at t i)
+told_after needs terminator t i r = sym (told_byte needs terminator (after_at t i) (λ u. plain_after (beyond t i) (below needs _ r u)))
+
+-- a byte that may be read tells all of the side on which it stands
+pub near_told : (needs : Asked) (terminator : ℕ) (near : Side) (far : Seen) → told needs terminator (byte_of near) ≡ told_side needs terminator near →
+    told needs terminator (byte_of near) ≡ far → sides_of needs terminator (byte_of near) ≡ sides_near needs terminator near far
+near_told needs terminator near far here there = ap₂ (λ x y. told_sides (byte_of near) x y) here there
+  where
+    told_sides : Option ℕ → Seen → Seen → Sides
+    told_sides b x y = record { byte = b; near = x; far = y }
+
+-- and so of both
+module _ (g : Setting) (t : Text) (hi i : ℕ) (lt : i < hi) (inside : IsInside t i hi) where
+  same_byte : byte_of (after_at t i) ≡ byte_of (before_at t (i + 1))
+  same_byte =
+      let high = inside.high in let bounded = inside.bounded in
+      let byte = get_some t.content i (omega (arith, lt, high, bounded)) in
+      byte_ahead t i byte.0 (omega (arith, lt, high)) byte.1 ∙ sym (byte_behind t i byte.0 inside.low byte.1)
+
+  pub ahead_told : IsReadable g.needs (byte_of (after_at t i)) → sides_of g.needs g.terminator (byte_of (after_at t i)) ≡ sides_ahead g t i
+  ahead_told r =
+      near_told g.needs g.terminator (after_at t i) _ (told_after g.needs g.terminator t i r)
+      (ap (λ o. told g.needs g.terminator o) same_byte
+      ∙ told_before g.needs g.terminator t (i + 1) (subst (λ o. IsReadable g.needs o) same_byte r))
+
+  pub behind_told : IsReadable g.needs (byte_of (before_at t (i + 1))) → sides_of g.needs g.terminator (byte_of (before_at t (i + 1))) ≡ sides_behind g t i
+  behind_told r =
+      near_told g.needs g.terminator (before_at t (i + 1)) _ (told_before g.needs g.terminator t (i + 1) r)
+      (ap (λ o. told g.needs g.terminator o) (sym same_byte)
+      ∙ told_after g.needs g.terminator t i (subst (λ o. IsReadable g.needs o) (sym same_byte) r))
 
 -- a way reads one byte at most
 

@@ -7,7 +7,7 @@ use Rattle.rc_program.specs.Program.{Place, Way, stays, reads, ways_out, place_a
 use Rattle.rc_determinize.specs.Steps.{HasPlace, IsRising, HasWay, out_by}
 use Rattle.rc_determinize.specs.declared.sides.Seen.{Seen}
 use Rattle.rc_determinize.specs.declared.sides.Sides.{Sides}
-use Rattle.rc_determinize.specs.Sides.{holds_by, told, sides_of, byte_of, IsReadable}
+use Rattle.rc_determinize.specs.Sides.{holds_by, told, told_side, sides_of}
 use Rattle.rc_determinize.specs.Run.{IsBackState, IsGoal, Reaches}
 use Rattle.rc_determinize.specs.States.{Setting, State, Stops, is_match}
 
@@ -69,8 +69,7 @@ IsLast g after = IsLastBeside g.places (told g.needs g.terminator after)
 -- At the position i, on the way down from `end`.
 pub record IsComing (g : Setting) (t : Text) (hi end i : ℕ) (s : State) : Type 0 where
   pub list : IsBackState (ways g.places t hi) (Stops g.places) end i s.list
-  pub beside : s.beside ≡ told g.needs t.terminator (byte_of (after_at t i))
-  pub readable : IsReadable g.needs (byte_of (after_at t i))
+  pub beside : s.beside ≡ told_side g.needs t.terminator (after_at t i)
 
 -- A walk leads from the root at i to a match place at `end`.
 abbrev pub ReachesEnd : Setting → Text → ℕ → ℕ → ℕ → ℕ → Type 0

@@ -9,11 +9,12 @@ use Rattle.rc_program.specs.Longest.{IsLongestWalk, IsLongestFrom, IsLongestAnsw
 use Rattle.rc_determinize.specs.Gives.{Gives}
 use Rattle.rc_determinize.specs.Steps.{AreOnce, AreBelow, at}
 use Rattle.rc_determinize.specs.Run.{IsGoal}
-use Rattle.rc_determinize.specs.Sides.{AreAlike, told, byte_of, IsReadable}
-use Rattle.rc_determinize.specs.States.{Setting, IsSetting, State, IsFirst, IsInside, Stops, later_starts, all_starts, best_at}
+use Rattle.rc_determinize.specs.declared.sides.Seen.{Seen}
+use Rattle.rc_determinize.specs.Sides.{AreAlike, told, told_side, sides_near, byte_of, IsReadable}
+use Rattle.rc_determinize.specs.States.{Setting, IsSetting, State, IsFirst, IsFirstBeside, IsInside, Stops, later_starts, all_starts, best_at, sides_ahead}
 use Rattle.rc_determinize.specs.Backward.{IsLeastSoFar}
 use Rattle.rc_determinize.specs.Laws.{IsSettingOf, may_end_at}
-use Rattle.rc_determinize.specs.Longest.{parted, flat, IsNextOfLongest}
+use Rattle.rc_determinize.specs.Longest.{parted, flat, IsNextOfLongest, IsNextOfLongestOver}
 
 -- The longest walk from the pair n ends at e.
 abbrev pub ReachesLongest : (Pair → List Pair) → (Pair → Type 0) → Pair → Pair → Type 0
@@ -91,21 +92,31 @@ pub record IsRacing (g : Setting) (t : Text) (hi root : ℕ) (origin : List Pair
   pub below : AreHeldBelow (length g.places) starts
   pub carries : AreCarried (ways g.places t hi) (Stops g.places) i [] [] starts
   pub known : IsKnown (ways g.places t hi) (Stops g.places) i (begun starts) best
-  pub beside : s.beside ≡ told g.needs t.terminator (byte_of (before_at t i))
-  pub readable : IsReadable g.needs (byte_of (before_at t i))
+  pub beside : s.beside ≡ told_side g.needs t.terminator (before_at t i)
 
 -- Forwards: the match found last is where the longest walk of the least start ends.
 pub record LongestForwardLaw : Type 0 where
   -- Before the first byte.
+  pub begins_beside : (g : Setting) (t : Text) (hi root lo : ℕ) (anchored : Bool) (s : State) → IsSetting g → root < length g.places →
+      g.terminator ≡ t.terminator → IsFirstBeside root (told_side g.needs g.terminator (before_at t lo)) anchored s →
+      IsRacing g t hi root (all_starts anchored root lo hi) lo s None
+  -- Over one byte.
+  pub goes_over : (g : Setting) (t : Text) (hi root : ℕ) (origin : List Pair) (i : ℕ) (s s2 : State) (best : Option Pair) → IsSetting g →
+      IsClosed g.places → root < length g.places → g.terminator ≡ t.terminator → i < hi → IsInside t i hi → IsRacing g t hi root origin i s best →
+      IsNextOfLongestOver g.places root s (sides_ahead g t i) s2 → IsRacing g t hi root origin (i + 1) s2 (best_at i s2.matched best)
+  -- At the bound.
+  pub ends_over : (g : Setting) (t : Text) (hi root : ℕ) (origin : List Pair) (s s2 : State) (best : Option Pair) (far : Seen) → IsSetting g →
+      g.terminator ≡ t.terminator → IsRacing g t hi root origin hi s best →
+      IsNextOfLongestOver g.places root s (sides_near g.needs g.terminator (after_at t hi) far) s2 →
+      GivesLongest (ways g.places t hi) (Stops g.places) origin (best_at hi s2.matched best)
+  -- The same by bytes alone, if they may be read.
   pub begins : (g : Setting) (t : Text) (hi root lo : ℕ) (anchored : Bool) (s : State) → IsSetting g → root < length g.places →
       g.terminator ≡ t.terminator → IsReadable g.needs (byte_of (before_at t lo)) → IsFirst g root (byte_of (before_at t lo)) anchored s →
       IsRacing g t hi root (all_starts anchored root lo hi) lo s None
-  -- Over one byte.
   pub goes : (g : Setting) (t : Text) (hi root : ℕ) (origin : List Pair) (i : ℕ) (s s2 : State) (best : Option Pair) → IsSetting g →
       IsClosed g.places → root < length g.places → g.terminator ≡ t.terminator → i < hi → IsInside t i hi → IsRacing g t hi root origin i s best →
       IsReadable g.needs (byte_of (after_at t i)) → IsNextOfLongest g root s (byte_of (after_at t i)) s2 →
       IsRacing g t hi root origin (i + 1) s2 (best_at i s2.matched best)
-  -- At the bound.
   pub ends : (g : Setting) (t : Text) (hi root : ℕ) (origin : List Pair) (s s2 : State) (best : Option Pair) → IsSetting g →
       g.terminator ≡ t.terminator → IsRacing g t hi root origin hi s best →
       IsReadable g.needs (byte_of (after_at t hi)) → IsNextOfLongest g root s (byte_of (after_at t hi)) s2 →

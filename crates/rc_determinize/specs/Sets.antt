@@ -5,7 +5,7 @@ use Rattle.rc_program.specs.Text.{Text, before_at}
 use Rattle.rc_program.specs.Program.{Place, Way, stays, reads, ways}
 use Rattle.rc_determinize.specs.Steps.{HasPlace, IsRising, HasWay}
 use Rattle.rc_determinize.specs.declared.sides.Sides.{Sides}
-use Rattle.rc_determinize.specs.Sides.{told, sides_of, out_over, byte_of, IsReadable}
+use Rattle.rc_determinize.specs.Sides.{told_side, sides_of, out_over}
 use Rattle.rc_determinize.specs.States.{Setting, State, is_match}
 
 -- Edges lead from one of the pairs to this one.
@@ -60,5 +60,4 @@ ArrivesAt ways origin i q =
 
 pub record IsGathering (g : Setting) (t : Text) (hi : ℕ) (origin : List Pair) (i : ℕ) (s : State) : Type 0 where
   pub list : (q : ℕ) → HasPlace q s.list ↔ ArrivesAt (ways g.places t hi) origin i q
-  pub beside : s.beside ≡ told g.needs t.terminator (byte_of (before_at t i))
-  pub readable : IsReadable g.needs (byte_of (before_at t i))
+  pub beside : s.beside ≡ told_side g.needs t.terminator (before_at t i)

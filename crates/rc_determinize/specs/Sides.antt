@@ -164,6 +164,11 @@ told needs terminator b = told_side needs terminator (side_of b)
 abbrev pub sides_of : Asked → ℕ → Option ℕ → Sides
 sides_of needs terminator b = record { byte = b; near = told needs terminator b; far = told needs terminator b }
 
+-- What a step is told that knows all of the side on which the byte stands: that side, and this of
+-- the one on which the byte stands for the new state.
+abbrev pub sides_near : Asked → ℕ → Side → Seen → Sides
+sides_near needs terminator near far = record { byte = byte_of near; near = told_side needs terminator near; far = far }
+
 -- The ways out of a place, by these facts about the side before, and what is told ahead.
 abbrev pub out_over : List Place → Seen → Sides → ℕ → List Way
 out_over places behind sides = out_by places (holds_by behind sides.near) sides.byte

@@ -2,14 +2,14 @@
 use Rattle.std.specs.Prelude.{◌≡◌, ℕ, ◌+◌, ◌-◌, ◌≤◌, Bool, true, false, not, ◌&&◌, List, [], ◌∷◌, ◌++◌, length, Option, None, is_none, IsTrue}
 use Rattle.std.specs.Option.{option_or, option_map}
 use Rattle.rc_walks.specs.Walks.{Pair}
-use Rattle.rc_program.specs.Text.{Text, before_at}
+use Rattle.rc_program.specs.Text.{Text, before_at, after_at}
 use Rattle.rc_program.specs.Program.{Place, place_at, ways, is_match_place}
 use Rattle.rc_determinize.specs.Gives.{Carries, starts}
 use Rattle.rc_determinize.specs.Steps.{IsByBytes, Adds, IsStep, at}
 use Rattle.rc_determinize.specs.declared.sides.Seen.{Seen}
 use Rattle.rc_determinize.specs.declared.sides.Asked.{Asked}
 use Rattle.rc_determinize.specs.declared.sides.Sides.{Sides}
-use Rattle.rc_determinize.specs.Sides.{Covers, told, sides_of, out_over, byte_of, IsReadable}
+use Rattle.rc_determinize.specs.Sides.{Covers, told, told_side, sides_of, sides_near, out_over}
 
 -- The setting of a DFA: the places of its program, the facts for which its assertions ask, and the
 -- line terminator.
@@ -89,8 +89,14 @@ pub record IsInside (t : Text) (lo hi : ℕ) : Type 0 where
   pub high : hi ≤ t.slice_end
   pub bounded : t.slice_end ≤ length t.content
 
+-- What a step over the byte at i is told, forwards and backwards, that knows both its sides.
+abbrev pub sides_ahead : Setting → Text → ℕ → Sides
+sides_ahead g t i = sides_near g.needs g.terminator (after_at t i) (told_side g.needs g.terminator (before_at t (i + 1)))
+
+abbrev pub sides_behind : Setting → Text → ℕ → Sides
+sides_behind g t i = sides_near g.needs g.terminator (before_at t (i + 1)) (told_side g.needs g.terminator (after_at t i))
+
 -- Before the byte at i, in the state s, if `best` is the last match found.
 pub record IsUnderWay (g : Setting) (t : Text) (hi root : ℕ) (origin : List Pair) (i : ℕ) (s : State) (best : Option Pair) : Type 0 where
   pub carries : Carries (ways g.places t hi) (Stops g.places) origin (at i s.list ++ later_starts s.goes_on root i hi) best
-  pub beside : s.beside ≡ told g.needs t.terminator (byte_of (before_at t i))
-  pub readable : IsReadable g.needs (byte_of (before_at t i))
+  pub beside : s.beside ≡ told_side g.needs t.terminator (before_at t i)

@@ -6,19 +6,22 @@ use Rattle.rc_text.specs.declared.types.Anchored.{Anchored}
 use Rattle.rc_text.specs.declared.types.Anchored.TheVariants.{No, Yes, Pattern}
 use Rattle.rc_text.specs.Plain.{only_pattern}
 use Rattle.rc_walks.specs.Walks.{Pair}
-use Rattle.rc_program.specs.Text.{Text}
+use Rattle.rc_program.specs.Text.{Text, before_at, after_at}
 use Rattle.rc_program.specs.Program.{place_at, ways}
 use Rattle.rc_program.proofs.WayLemmas.{same_pair}
 use Rattle.rc_determinize.specs.Steps.{HasPlace}
-use Rattle.rc_determinize.specs.States.{Setting, IsSetting, State, IsInside, Stops}
-use Rattle.rc_determinize.specs.Backward.{IsFirstRoot, IsPrior, IsLast, IsComing, ReachesEnd, IsLeastSoFar, least_at}
+use Rattle.rc_determinize.specs.declared.sides.Seen.{Seen}
+use Rattle.rc_determinize.specs.Sides.{told_side, sides_near}
+use Rattle.rc_determinize.specs.States.{Setting, IsSetting, State, IsInside, Stops, sides_behind}
+use Rattle.rc_determinize.specs.Backward.{IsFirstRoot, IsLastBeside, IsComing, ReachesEnd, IsLeastSoFar, least_at}
 use Rattle.rc_determinize.proofs.Leads.{Leads, listed, leads}
 use Rattle.rc_determinize.proofs.RunLemmas.{back_decides}
 use Rattle.rc_determinize.proofs.TextLemmas.{near, last}
 use Rattle.rc_determinize.proofs.LawLemmas.{backward_law}
-use Rattle.rc_dfa.specs.Machine.{Machine, backwards, begins_by}
-use Rattle.rc_dfa.specs.Runs.{RunEnd, met_last, ahead_at, behind_at, MayRead, RunsDown, begun, goes_down, EndsDown, at_bound, dead, early, quit, SearchEndsDown, ran, unread}
+use Rattle.rc_dfa.specs.Machine.{Machine, backwards, begins_beside}
+use Rattle.rc_dfa.specs.Runs.{RunEnd, met_last, Alphabet, MayReadSide, BeginsBy, RunsDownOver, begun, goes_down, EndsDownOver, at_bound, dead, early, quit, SearchEndsDownOver, ran, unread}
 use Rattle.rc_dfa.specs.Laws.{ReachesMatch, IsLeastOf}
+use Rattle.rc_dfa.proofs.AlphabetLemmas.{LeadsNear, across_behind, near_behind, begins_back}
 use Rattle.rc_dfa.proofs.StartLemmas.{same_met, stop_no_met}
 use Rattle.rc_dfa.proofs.FirstLemmas.{no_list}
 use Rattle.rc_dfa.proofs.LastLemmas.{accepts}
@@ -32,7 +35,7 @@ no_leads : (W : Pair → List Pair) (i : ℕ) {list : List ℕ} {q : ℕ} → li
 no_leads W i empty (listed q h) = subst (λ l. HasPlace q l) empty h
 no_leads W i empty (leads q p h l) = no_leads W i empty l
 
-module _ (only : Option ℕ) (g : Setting) (entries : List ℕ) (ok : IsSetting g) (t : Text) (same : g.terminator ≡ t.terminator) (hi lo end : ℕ)
+module _ (a : Alphabet) (only : Option ℕ) (g : Setting) (entries : List ℕ) (ok : IsSetting g) (t : Text) (same : g.terminator ≡ t.terminator) (hi lo end : ℕ)
     (inside : IsInside t lo hi) (within : end ≤ hi) where
   abbrev m : Machine
   m = record { setting = g; entries = entries; direction = backwards }
@@ -52,27 +55,28 @@ module _ (only : Option ℕ) (g : Setting) (entries : List ℕ) (ok : IsSetting 
       above : (least ≡ None) ⊎ (lo ≤ i)
 
     -- with what is met here, the least so far
-    lower : (i : ℕ) (s next : State) (least : Option (ℕ × ℕ)) → lo ≤ i → IsDown i s least → MayRead m (behind_at t i) →
-        IsPrior g entries s (behind_at t i) next → IsLeastSoFar n t hi end entries i (least_at i next.matched least)
-    lower i s next least low v may step =
+    lower : (i : ℕ) (s next : State) (least : Option (ℕ × ℕ)) → lo ≤ i → IsDown i s least → LeadsNear m (before_at t i) s next →
+        IsLeastSoFar n t hi end entries i (least_at i next.matched least)
+    lower i s next least low v l =
         let below = v.below in
         let here : IsInside t i hi = record { low = let l = inside.low in omega (arith, l, low); high = inside.high; bounded = inside.bounded } in
         backward_law.lowers n t hi end i entries next.matched least v.below
-        (backward_law.tells n t hi end i entries s next fine same within (omega (arith, below, within)) here v.coming may
-        (narrow_prior only g entries s next (behind_at t i) step))
+        (backward_law.tells_over n t hi end i entries s next l.0 fine same within (omega (arith, below, within)) here v.coming
+        (narrow_prior only g entries s next (sides_near g.needs g.terminator (before_at t i) l.0) l.1))
         v.so_far
 
-    runs_down : {i : ℕ} {s : State} {least : Option (ℕ × ℕ)} → RunsDown m t lo end first i s least → IsDown i s least
+    runs_down : {i : ℕ} {s : State} {least : Option (ℕ × ℕ)} → RunsDownOver a m t lo end first i s least → IsDown i s least
     runs_down begun = record { below = omega arith; coming = begins; so_far = λ y a b. absurd (omega (arith, a, b)); above = inl refl }
     runs_down (goes_down {least} i s next r le may step) =
         let v = runs_down r in
         let below = v.below in
         let here : IsInside t i hi = record { low = let l = inside.low in omega (arith, l, le); high = inside.high; bounded = inside.bounded } in
+        let l = across_behind a m t hi i (omega (arith, below, within)) here may s next step in
         record {
           below = omega (arith, below);
-          coming = backward_law.descends n t hi end i entries s next fine same within (omega (arith, below)) here v.coming may
-              (narrow_prior only g entries s next (behind_at t (i + 1)) step);
-          so_far = lower (i + 1) s next least (omega (arith, le)) v may step;
+          coming = backward_law.descends_over n t hi end i entries s next fine same within (omega (arith, below)) here v.coming
+              (narrow_prior only g entries s next (sides_behind g t i) l);
+          so_far = lower (i + 1) s next least (omega (arith, le)) v (told_side g.needs g.terminator (after_at t i), l);
           above = inr le;
         }
 
@@ -97,10 +101,10 @@ module _ (only : Option ℕ) (g : Setting) (entries : List ℕ) (ok : IsSetting 
       λ y a b. ⊎_elim (λ lt. none_first (ReachesEnd n t hi end y) (none y (omega (arith, lt))) entries) (λ ge. l.3 y ge b) (cases_lt y (i + 1)),
     )
 
-    pub ends : (earliest : Bool) (e : RunEnd) (r : Option (ℕ × ℕ)) → EndsDown m t lo end first earliest e → e ≡ met_last r → (earliest ≡ false) ⊎ (r ≡ None) →
+    pub ends : (earliest : Bool) (e : RunEnd) (r : Option (ℕ × ℕ)) → EndsDownOver a m t lo end first earliest e → e ≡ met_last r → (earliest ≡ false) ⊎ (r ≡ None) →
         IsLeastSoFar n t hi end entries lo r
     ends earliest e r (at_bound {least} s next runs may step) is k =
-        subst (λ x. IsLeastSoFar n t hi end entries lo x) (same_met is) (lower lo s next least (omega arith) (runs_down runs) may step)
+        subst (λ x. IsLeastSoFar n t hi end entries lo x) (same_met is) (lower lo s next least (omega arith) (runs_down runs) (near_behind a m t lo may s next step))
     ends earliest e r (dead {least} i s runs d) is k =
         let v = runs_down runs in
         subst (λ x. IsLeastSoFar n t hi end entries lo x) (same_met is) (stays_least i least v.above (nothing i s least v (no_list s d).0) v.so_far)
@@ -116,7 +120,7 @@ module _ (only : Option ℕ) (g : Setting) (entries : List ℕ) (ok : IsSetting 
     by_least None l = tt
     by_least (Some k) l = (l.0, l.1, l.2)
 
-    pub meets : (earliest : Bool) (e : RunEnd) (k : ℕ × ℕ) → EndsDown m t lo end first earliest e → e ≡ met_last (Some k) → IsMetDown (Some k)
+    pub meets : (earliest : Bool) (e : RunEnd) (k : ℕ × ℕ) → EndsDownOver a m t lo end first earliest e → e ≡ met_last (Some k) → IsMetDown (Some k)
     meets earliest e k (at_bound {least} s next runs may step) is =
         subst IsMetDown (same_met is) (by_least (least_at lo next.matched least) (ends false (met_last (least_at lo next.matched least)) (least_at lo next.matched least) (at_bound s next runs may step) refl (inl refl)))
     meets earliest e k (dead {least} i s runs d) is =
@@ -130,16 +134,16 @@ module _ (only : Option ℕ) (g : Setting) (entries : List ℕ) (ok : IsSetting 
     meets earliest e k (quit p s runs le not_read) is = absurd (stop_no_met is)
 
 -- a search begins at the match places, of the one pattern that is asked for or of all
-comes_at : (g : Setting) (entries : List ℕ) (anchored : Anchored) (beside : Option ℕ) (s : State) → begins_by backwards g entries anchored beside s →
-    IsLast (narrowed (only_pattern anchored) g) beside s
-comes_at g entries No beside s h = narrow_last None g beside s h.list h.rising h.matched h.goes_on h.beside
-comes_at g entries Yes beside s h = narrow_last None g beside s h.list h.rising h.matched h.goes_on h.beside
-comes_at g entries (Pattern p) beside s h =
-    narrow_last (Some p) g beside s
+comes_at : (g : Setting) (entries : List ℕ) (anchored : Anchored) (facts : Seen) (s : State) →
+    begins_beside backwards g.places entries anchored facts s → IsLastBeside (let n = narrowed (only_pattern anchored) g in n.places) facts s
+comes_at g entries No facts s h = narrow_last None g facts s h.list h.rising h.matched h.goes_on h.beside
+comes_at g entries Yes facts s h = narrow_last None g facts s h.list h.rising h.matched h.goes_on h.beside
+comes_at g entries (Pattern p) facts s h =
+    narrow_last (Some p) g facts s
     (λ q. let l = h.list q in let a = accepts p (place_at g.places q) in ((λ x. a.1 (l.0 x)), (λ x. l.1 (a.0 x))))
     h.rising h.matched h.goes_on h.beside
 
-module _ (g : Setting) (entries : List ℕ) (ok : IsSetting g) (t : Text) (same : g.terminator ≡ t.terminator) (hi lo end : ℕ)
+module _ (a : Alphabet) (g : Setting) (entries : List ℕ) (ok : IsSetting g) (t : Text) (same : g.terminator ≡ t.terminator) (hi lo end : ℕ)
     (inside : IsInside t lo hi) (within : end ≤ hi) (anchored : Anchored) where
   abbrev machine : Machine
   machine = record { setting = g; entries = entries; direction = backwards }
@@ -147,10 +151,11 @@ module _ (g : Setting) (entries : List ℕ) (ok : IsSetting g) (t : Text) (same 
   abbrev only : Option ℕ
   only = only_pattern anchored
 
-  begins_down : (s : State) → MayRead machine (ahead_at t end) → begins_by backwards g entries anchored (ahead_at t end) s →
+  begins_down : (s : State) → MayReadSide a machine (after_at t end) → BeginsBy a machine anchored (after_at t end) s →
       IsComing (narrowed only g) t hi end end s
   begins_down s may h =
-      backward_law.comes (narrowed only g) t hi end s (narrow_setting only g ok) same within may (comes_at g entries anchored (ahead_at t end) s h)
+      backward_law.comes_beside (narrowed only g) t hi end s (narrow_setting only g ok) same within
+      (comes_at g entries anchored (told_side g.needs g.terminator (after_at t end)) s (begins_back a machine anchored t end s may h))
 
   least_of : (roots : List ℕ) (i : ℕ) (r : Option (ℕ × ℕ)) → IsLeastSoFar (narrowed only g) t hi end roots i r → IsLeastOf only g t hi end roots i r
   least_of roots i None l =
@@ -159,17 +164,17 @@ module _ (g : Setting) (entries : List ℕ) (ok : IsSetting g) (t : Text) (same 
       subst (λ (R : ℕ → ℕ → Type 0). (i ≤ k.0) × (k.0 ≤ end) × IsFirstRoot (R k.0) roots (Some k.1)
       × ((y : ℕ) → i ≤ y → y < k.0 → IsFirstRoot (R y) roots None)) (reach_is only g t hi end) l
 
-  pub least_run : (earliest : Bool) (e : RunEnd) (r : Option (ℕ × ℕ)) → SearchEndsDown machine t lo end anchored earliest e → e ≡ met_last r →
+  pub least_run : (earliest : Bool) (e : RunEnd) (r : Option (ℕ × ℕ)) → SearchEndsDownOver a machine t lo end anchored earliest e → e ≡ met_last r →
       (earliest ≡ false) ⊎ (r ≡ None) → IsLeastOf only g t hi end entries lo r
   least_run earliest e r (ran s may begins ended) is k =
-      least_of entries lo r (ends only g entries ok t same hi lo end inside within s (begins_down s may begins) earliest e r ended is k)
+      least_of entries lo r (ends a only g entries ok t same hi lo end inside within s (begins_down s may begins) earliest e r ended is k)
   least_run earliest e r (unread may) is k = absurd (stop_no_met is)
 
-  pub met_run : (earliest : Bool) (e : RunEnd) (k : ℕ × ℕ) → SearchEndsDown machine t lo end anchored earliest e → e ≡ met_last (Some k) →
+  pub met_run : (earliest : Bool) (e : RunEnd) (k : ℕ × ℕ) → SearchEndsDownOver a machine t lo end anchored earliest e → e ≡ met_last (Some k) →
       (lo ≤ k.0) × (k.0 ≤ end) × IsFirstRoot (ReachesMatch only g t hi end k.0) entries (Some k.1)
   met_run earliest e k (ran s may begins ended) is =
       subst (λ (R : ℕ → ℕ → Type 0). (lo ≤ k.0) × (k.0 ≤ end) × IsFirstRoot (R k.0) entries (Some k.1)) (reach_is only g t hi end)
-      (meets only g entries ok t same hi lo end inside within s (begins_down s may begins) earliest e k ended is)
+      (meets a only g entries ok t same hi lo end inside within s (begins_down s may begins) earliest e k ended is)
   met_run earliest e k (unread may) is = absurd (stop_no_met is)
 
 pub of_any : (g : Setting) (t : Text) (hi end : ℕ) (roots : List ℕ) (lo : ℕ) (r : Option (ℕ × ℕ)) → IsLeastOf None g t hi end roots lo r →

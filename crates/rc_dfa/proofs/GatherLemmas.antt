@@ -5,27 +5,30 @@ use Rattle.std.proofs.lemmas.Option.{none-some}
 use Rattle.rc_text.specs.declared.types.MatchKind.TheVariants.{All as all_matches}
 use Rattle.rc_walks.specs.Walks.{Pair, IsIn}
 use Rattle.rc_program.specs.Text.{Text, before_at, after_at}
-use Rattle.rc_program.specs.Program.{ways}
+use Rattle.rc_program.specs.Program.{Place, ways}
 use Rattle.rc_determinize.specs.Steps.{HasPlace}
-use Rattle.rc_determinize.specs.Sides.{told, byte_of, IsReadable}
-use Rattle.rc_determinize.specs.States.{Setting, IsSetting, State, IsFirst, IsInside, Stops, all_starts, best_at}
-use Rattle.rc_determinize.specs.Sets.{Comes, ComesHere, IsNextOfAll, IsLeastMatch, IsGathering, ArrivesAt}
+use Rattle.rc_determinize.specs.declared.sides.Seen.{Seen}
+use Rattle.rc_determinize.specs.declared.sides.Sides.{Sides}
+use Rattle.rc_determinize.specs.Sides.{told_side, sides_near}
+use Rattle.rc_determinize.specs.States.{Setting, IsSetting, State, IsFirstBeside, IsInside, Stops, all_starts, best_at, sides_ahead}
+use Rattle.rc_determinize.specs.Sets.{Comes, ComesOver, IsNextOfAllOver, IsLeastMatch, IsGathering, ArrivesAt}
 use Rattle.rc_determinize.specs.Sets as sets
 use Rattle.rc_determinize.specs.Spans.{IsLastSoFar, last_at}
 use Rattle.rc_determinize.proofs.TextLemmas.{near}
 use Rattle.rc_determinize.proofs.LawLemmas.{gather_law}
 use Rattle.rc_determinize.proofs.SpanLemmas.{greatest_span_law}
 use Rattle.rc_dfa.specs.Machine.{Machine, forwards, is_dead}
-use Rattle.rc_dfa.specs.Runs.{RunEnd, met_last, Runs, begun, goes_on, EndsSo, at_bound, dead, early, quit, rests}
+use Rattle.rc_dfa.specs.Runs.{RunEnd, met_last, Alphabet, RunsOver, begun, goes_on, EndsOver, at_bound, dead, early, quit, rests}
 use Rattle.rc_dfa.specs.Laws.{position_of}
+use Rattle.rc_dfa.proofs.AlphabetLemmas.{LeadsNear, across_ahead, near_ahead}
 use Rattle.rc_dfa.proofs.StartLemmas.{same_met, stop_no_met, rest_no_met, starts_at, first_start, later_start, once_start}
 use Rattle.rc_dfa.proofs.FirstLemmas.{no_list}
 
 -- where no walk may begin later, it is all the same where it would
-any_root : (g : Setting) (root : ℕ) (s next : State) (after : Option ℕ) → (root ≡ 0) ⊎ (s.goes_on ≡ false) → IsNextOfAll g 0 s after next →
-    IsNextOfAll g root s after next
-any_root g root s next after (inl e) n = subst (λ r. IsNextOfAll g r s after next) (sym e) n
-any_root g root s next after (inr f) n =
+any_root : (places : List Place) (root : ℕ) (s next : State) (sides : Sides) → (root ≡ 0) ⊎ (s.goes_on ≡ false) → IsNextOfAllOver places 0 s sides next →
+    IsNextOfAllOver places root s sides next
+any_root places root s next sides (inl e) n = subst (λ r. IsNextOfAllOver places r s sides next) (sym e) n
+any_root places root s next sides (inr f) n =
     let d : next.goes_on ≡ false = n.goes_on ∙ f in
     record {
       list = λ q. let l = n.list q in (
@@ -49,9 +52,9 @@ comes_behind W rises origin from after (sets.begins n h) = after n h
 comes_behind W rises origin from after (sets.goes n m c h) =
     let a = comes_behind W rises origin from after c in let b = rises m n h in omega (arith, a, b)
 
-module _ (g : Setting) (entries : List ℕ) (ok : IsSetting g) (t : Text) (same : g.terminator ≡ t.terminator) (hi from root : ℕ) (once : Bool)
-    (inside : IsInside t from hi) (first : State) (f : IsFirst g root (byte_of (before_at t from)) once first)
-    (readable : IsReadable g.needs (byte_of (before_at t from))) (rooted : (root ≡ 0) ⊎ (once ≡ true)) where
+module _ (a : Alphabet) (g : Setting) (entries : List ℕ) (ok : IsSetting g) (t : Text) (same : g.terminator ≡ t.terminator) (hi from root : ℕ) (once : Bool)
+    (inside : IsInside t from hi) (first : State)
+    (f : IsFirstBeside root (told_side g.needs g.terminator (before_at t from)) once first) (rooted : (root ≡ 0) ⊎ (once ≡ true)) where
   abbrev m : Machine
   m = record { setting = g; entries = entries; direction = forwards all_matches }
 
@@ -76,8 +79,7 @@ module _ (g : Setting) (entries : List ℕ) (ok : IsSetting g) (t : Text) (same 
           (⊎_elim (λ i. inl (sym (starts_at once root from hi q from i).0))
           (λ x. let e = x.2 in let b = behind x.3 in absurd (omega (arith, e, b))) h)),
     );
-    beside = f.beside ∙ ap (λ x. told g.needs x (byte_of (before_at t from))) same;
-    readable = readable;
+    beside = f.beside ∙ ap (λ x. told_side g.needs x (before_at t from)) same;
   }
 
   -- Between two bytes.
@@ -108,16 +110,21 @@ module _ (g : Setting) (entries : List ℕ) (ok : IsSetting g) (t : Text) (same 
         (λ h. later_start once root from hi i q low lt o h.1),
       )
 
-  -- with what is met here, the last so far
-  later : (i : ℕ) (s next : State) (met : Option Pair) → IsUp i s met → i ≤ hi → IsReadable g.needs (byte_of (after_at t i)) →
-      IsNextOfAll g 0 s (byte_of (after_at t i)) next → IsLastSoFar g t hi origin (i + 1) (position_of (best_at i next.matched met))
-  later i s next met v le may step =
-      subst (λ o. IsLastSoFar g t hi origin (i + 1) o) (sym (same_position i next.matched met))
-      (greatest_span_law.later g t hi origin i next.matched (position_of met)
-      (gather_law.tells g t hi root origin i s next ok same le (within i v.low) v.gathers may
-      (any_root g root s next (byte_of (after_at t i)) (rooted_so s v.on) step)) v.last)
+  -- what is met here
+  least : (i : ℕ) (s next : State) (met : Option Pair) → IsUp i s met → i ≤ hi → LeadsNear m (after_at t i) s next →
+      IsLeastMatch g.places (λ k. Comes W origin (k, i)) next.matched
+  least i s next met v le l =
+      gather_law.tells_over g t hi root origin i s next l.0 ok same le (within i v.low) v.gathers
+      (any_root g.places root s next (sides_near g.needs g.terminator (after_at t i) l.0) (rooted_so s v.on) l.1)
 
-  runs_up : {i : ℕ} {s : State} {met : Option Pair} → Runs m t hi from first i s met → IsUp i s met
+  -- with it, the last so far
+  later : (i : ℕ) (s next : State) (met : Option Pair) → IsUp i s met → i ≤ hi → LeadsNear m (after_at t i) s next →
+      IsLastSoFar g t hi origin (i + 1) (position_of (best_at i next.matched met))
+  later i s next met v le l =
+      subst (λ o. IsLastSoFar g t hi origin (i + 1) o) (sym (same_position i next.matched met))
+      (greatest_span_law.later g t hi origin i next.matched (position_of met) (least i s next met v le l) v.last)
+
+  runs_up : {i : ℕ} {s : State} {met : Option Pair} → RunsOver a m t hi from first i s met → IsUp i s met
   runs_up begun = record {
     low = omega arith;
     high = inl f.list;
@@ -128,14 +135,15 @@ module _ (g : Setting) (entries : List ℕ) (ok : IsSetting g) (t : Text) (same 
   runs_up (goes_on {met} i s next r lt may step) =
       let v = runs_up r in
       let low = v.low in
-      let n = any_root g root s next (byte_of (after_at t i)) (rooted_so s v.on) step in
+      let l = across_ahead a m t hi i lt (within i v.low) may s next step in
+      let n = any_root g.places root s next (sides_ahead g t i) (rooted_so s v.on) l in
       let on : next.goes_on ≡ not once = n.goes_on ∙ v.on in
       record {
         low = omega (arith, low);
         high = inr (omega (arith, lt));
         on = on;
-        gathers = gather_law.goes g t hi root origin i s next ok same lt (within i v.low) (λ q. next_starts i q next.goes_on v.low lt on) v.gathers may n;
-        last = later i s next met v (omega (arith, lt)) may step;
+        gathers = gather_law.goes_over g t hi root origin i s next ok same lt (within i v.low) (λ q. next_starts i q next.goes_on v.low lt on) v.gathers n;
+        last = later i s next met v (omega (arith, lt)) (told_side g.needs g.terminator (before_at t (i + 1)), l);
       }
 
   -- from where nothing goes on, the last so far is the last
@@ -169,10 +177,10 @@ module _ (g : Setting) (entries : List ℕ) (ok : IsSetting g) (t : Text) (same 
       some_none : root ∷ [] ≡ [] → ⊥
       some_none e = cc
 
-  pub ends : (earliest : Bool) (e : RunEnd) (r : Option Pair) → EndsSo m t hi from first earliest e → e ≡ met_last r → (earliest ≡ false) ⊎ (r ≡ None) →
+  pub ends : (earliest : Bool) (e : RunEnd) (r : Option Pair) → EndsOver a m t hi from first earliest e → e ≡ met_last r → (earliest ≡ false) ⊎ (r ≡ None) →
       IsLastSoFar g t hi origin (hi + 1) (position_of r)
   ends earliest e r (at_bound {met} s next runs may step) is k =
-      subst (λ x. IsLastSoFar g t hi origin (hi + 1) (position_of x)) (same_met is) (later hi s next met (runs_up runs) (omega arith) may step)
+      subst (λ x. IsLastSoFar g t hi origin (hi + 1) (position_of x)) (same_met is) (later hi s next met (runs_up runs) (omega arith) (near_ahead a m t hi may s next step))
   ends earliest e r (dead {met} i s runs d) is k =
       subst (λ x. IsLastSoFar g t hi origin (hi + 1) (position_of x)) (same_met is) (dies i s met (runs_up runs) d)
   ends earliest e r (early {met} i s t2 runs) is (inl z) = absurd (true≢false (sym t2 ∙ z))
@@ -181,27 +189,24 @@ module _ (g : Setting) (entries : List ℕ) (ok : IsSetting g) (t : Text) (same 
   ends earliest e r (rests i s runs le idle) is k = absurd (rest_no_met is)
 
   -- to which places walks come at a position
-  pub comes_here : (i q : ℕ) (s : State) (met : Option Pair) → i ≤ hi → Runs m t hi from first i s met → IsReadable g.needs (byte_of (after_at t i)) →
-      ComesHere g s (byte_of (after_at t i)) q ↔ Comes W origin (q, i)
-  comes_here i q s met le runs may =
-      let v = runs_up runs in gather_law.comes g t hi origin i s ok same le (within i v.low) v.gathers may q
+  pub comes_here : (i q : ℕ) (s : State) (met : Option Pair) (far : Seen) → i ≤ hi → RunsOver a m t hi from first i s met →
+      ComesOver g.places s (sides_near g.needs g.terminator (after_at t i) far) q ↔ Comes W origin (q, i)
+  comes_here i q s met far le runs =
+      let v = runs_up runs in gather_law.comes_over g t hi origin i s far ok same le (within i v.low) v.gathers q
 
   -- from where nothing goes on, none comes to any
-  pub none_comes : (i : ℕ) (s : State) (met : Option Pair) → Runs m t hi from first i s met → is_dead s ≡ true → (q y : ℕ) → i ≤ y → ¬ Comes W origin (q, y)
+  pub none_comes : (i : ℕ) (s : State) (met : Option Pair) → RunsOver a m t hi from first i s met → is_dead s ≡ true → (q y : ℕ) → i ≤ y → ¬ Comes W origin (q, y)
   none_comes i s met runs d = later_none i s met (runs_up runs) d
 
   -- what is met at a position is met by a walk that ends there
-  pub meets : (i q : ℕ) (s next : State) (met : Option Pair) → i ≤ hi → Runs m t hi from first i s met → IsReadable g.needs (byte_of (after_at t i)) →
-      IsNextOfAll g 0 s (byte_of (after_at t i)) next → next.matched ≡ Some q → Comes W origin (q, i) × Stops g.places (q, i)
-  meets i q s next met le runs may step is =
-      let v = runs_up runs in
-      let l = subst (λ o. IsLeastMatch g.places (λ k. Comes W origin (k, i)) o) is
-      (gather_law.tells g t hi root origin i s next ok same le (within i v.low) v.gathers may
-      (any_root g root s next (byte_of (after_at t i)) (rooted_so s v.on) step)) in
+  pub meets : (i q : ℕ) (s next : State) (met : Option Pair) → i ≤ hi → RunsOver a m t hi from first i s met → LeadsNear m (after_at t i) s next →
+      next.matched ≡ Some q → Comes W origin (q, i) × Stops g.places (q, i)
+  meets i q s next met le runs step is =
+      let l = subst (λ o. IsLeastMatch g.places (λ k. Comes W origin (k, i)) o) is (least i s next met (runs_up runs) le step) in
       (l.1, l.0)
 
   -- a search that ends so began within its bound
-  pub bounded : (earliest : Bool) (e : RunEnd) → EndsSo m t hi from first earliest e → e ≡ met_last None → from ≤ hi
+  pub bounded : (earliest : Bool) (e : RunEnd) → EndsOver a m t hi from first earliest e → e ≡ met_last None → from ≤ hi
   bounded earliest e (at_bound s next runs may step) is = (runs_up runs).low
   bounded earliest e (dead i s runs d) is =
       let v = runs_up runs in

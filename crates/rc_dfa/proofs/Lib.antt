@@ -2,6 +2,7 @@ pub mod SampleLemmas
 pub mod LastLemmas
 pub mod AutomatonLemmas
 pub mod WithinLemmas
+pub mod AlphabetLemmas
 pub mod StartLemmas
 pub mod FirstLemmas
 pub mod LongestRunLemmas

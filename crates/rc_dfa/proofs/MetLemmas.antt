@@ -1,10 +1,10 @@
 -- What is met on the way forwards is the end of a walk.
-use Rattle.std.proofs.Common.{◌≡◌, ℕ, zero, suc, ◌-◌, ◌≤◌, Bool, List, [], ◌∷◌, map, take, drop, Option, Some, None, inl, inr, ⊎_elim, subst, refl, arith}
+use Rattle.std.proofs.Common.{◌≡◌, ℕ, zero, suc, ◌+◌, ◌-◌, ◌≤◌, Bool, List, [], ◌∷◌, map, take, drop, Option, Some, None, inl, inr, ⊎_elim, subst, refl, arith}
 use Rattle.std.proofs.lemmas.Option.{none-some, same_Some}
 use Rattle.rc_pattern.specs.declared.hir.Look.{Look}
 use Rattle.rc_walks.specs.Walks.{Pair, IsIn, IsWalk, stops, goes, EndsAt}
 use Rattle.rc_walks.proofs.CutLemmas.{EndsAt-tail, from_other}
-use Rattle.rc_program.specs.Text.{Text, holds}
+use Rattle.rc_program.specs.Text.{Text, holds, before_at, after_at}
 use Rattle.rc_program.specs.Program.{Place, choice, byte, branch, scalar, guard, slot, accept, Way, pair_at, over_byte, ways_out, place_at, ways}
 use Rattle.rc_program.proofs.WayLemmas.{same_pair, ways_within}
 use Rattle.rc_determinize.specs.Gives.{Gives}
@@ -17,49 +17,52 @@ use Rattle.rc_determinize.specs.Sets.{Comes}
 use Rattle.rc_determinize.specs.Sets as sets
 use Rattle.rc_determinize.proofs.RunLemmas.{reach_walks}
 use Rattle.rc_determinize.proofs.TextLemmas.{near, last}
-use Rattle.rc_dfa.specs.Machine.{Machine, Leads}
-use Rattle.rc_dfa.specs.Runs.{RunEnd, met_last, stopped_at, ahead_at, MayRead, Runs, EndsSo, at_bound, dead, early, quit, rests}
+use Rattle.rc_dfa.specs.Machine.{Machine}
+use Rattle.rc_dfa.specs.Runs.{RunEnd, met_last, stopped_at, Alphabet, MayReadSide, LeadsBy, RunsOver, EndsOver, at_bound, dead, early, quit, rests}
 use Rattle.rc_dfa.specs.Runs as runs
+use Rattle.rc_dfa.proofs.AlphabetLemmas.{across_near}
 use Rattle.rc_dfa.proofs.StartLemmas.{same_met, stop_no_met, rest_no_met}
 
 -- WHERE IT WAS MET
 
 module _ (m : Machine) (t : Text) (hi from : ℕ) (first : State) where
   -- a run is within a lower bound too
-  pub runs_below : {i : ℕ} {s : State} {met : Option Pair} → Runs m t hi from first i s met → (bound : ℕ) → i ≤ bound → Runs m t bound from first i s met
+  pub runs_below : {a : Alphabet} {i : ℕ} {s : State} {met : Option Pair} → RunsOver a m t hi from first i s met → (bound : ℕ) → i ≤ bound →
+      RunsOver a m t bound from first i s met
   runs_below runs.begun bound le = runs.begun
   runs_below (runs.goes_on i s next r lt may step) bound le = runs.goes_on i s next (runs_below r bound (omega (arith, le))) (omega (arith, le)) may step
 
-  pub runs_low : {i : ℕ} {s : State} {met : Option Pair} → Runs m t hi from first i s met → from ≤ i
+  pub runs_low : {a : Alphabet} {i : ℕ} {s : State} {met : Option Pair} → RunsOver a m t hi from first i s met → from ≤ i
   runs_low runs.begun = omega arith
   runs_low (runs.goes_on i s next r lt may step) = let low = runs_low r in omega (arith, low)
 
-  pub record IsMetAt (n : Pair) : Type 0 where
+  pub record IsMetAt (a : Alphabet) (n : Pair) : Type 0 where
     pub within : n.1 ≤ hi
     pub state : State
     pub next : State
     pub before : Option Pair
-    pub run : Runs m t hi from first n.1 state before
-    pub may : MayRead m (ahead_at t n.1)
-    pub step : Leads m state (ahead_at t n.1) next
+    pub run : RunsOver a m t hi from first n.1 state before
+    pub may : MayReadSide a m (after_at t n.1)
+    pub step : LeadsBy a m (after_at t n.1) state next
     pub matched : next.matched ≡ Some n.0
 
   -- at this step, or before
-  at_step : (i : ℕ) (s next : State) (met : Option Pair) (n : Pair) → i ≤ hi → Runs m t hi from first i s met → MayRead m (ahead_at t i) →
-      Leads m s (ahead_at t i) next → best_at i next.matched met ≡ Some n → ((met ≡ Some n) → IsMetAt n) → IsMetAt n
-  at_step i s next met n le r may step is before = by_stop next.matched refl is
+  at_step : (a : Alphabet) (i : ℕ) (s next : State) (met : Option Pair) (n : Pair) → i ≤ hi → RunsOver a m t hi from first i s met →
+      MayReadSide a m (after_at t i) → LeadsBy a m (after_at t i) s next → best_at i next.matched met ≡ Some n → ((met ≡ Some n) → IsMetAt a n) → IsMetAt a n
+  at_step a i s next met n le r may step is before = by_stop next.matched refl is
     where
-      by_stop : (o : Option ℕ) → next.matched ≡ o → best_at i o met ≡ Some n → IsMetAt n
+      by_stop : (o : Option ℕ) → next.matched ≡ o → best_at i o met ≡ Some n → IsMetAt a n
       by_stop None e b = before b
-      by_stop (Some q) e b = subst (λ k. IsMetAt k) (same_Some (q, i) n b)
+      by_stop (Some q) e b = subst (λ k. IsMetAt a k) (same_Some (q, i) n b)
           (record { within = le; state = s; next = next; before = met; run = r; may = may; step = step; matched = e })
 
-  run_met : {i : ℕ} {s : State} {met : Option Pair} → Runs m t hi from first i s met → (n : Pair) → met ≡ Some n → IsMetAt n
+  run_met : {a : Alphabet} {i : ℕ} {s : State} {met : Option Pair} → RunsOver a m t hi from first i s met → (n : Pair) → met ≡ Some n → IsMetAt a n
   run_met runs.begun n e = absurd (none-some n e)
-  run_met (runs.goes_on {met} i s next r lt may step) n e = at_step i s next met n (omega (arith, lt)) r may step e (run_met r n)
+  run_met {a} (runs.goes_on {met} i s next r lt may step) n e =
+      at_step a i s next met n (omega (arith, lt)) r may (across_near a m (after_at t i) (before_at t (i + 1)) s next step) e (run_met r n)
 
-  pub end_met : (earliest : Bool) (e : RunEnd) (n : Pair) → EndsSo m t hi from first earliest e → e ≡ met_last (Some n) → IsMetAt n
-  end_met earliest e n (at_bound {met} s next r may step) is = at_step hi s next met n (omega arith) r may step (same_met is) (run_met r n)
+  pub end_met : {a : Alphabet} (earliest : Bool) (e : RunEnd) (n : Pair) → EndsOver a m t hi from first earliest e → e ≡ met_last (Some n) → IsMetAt a n
+  end_met {a} earliest e n (at_bound {met} s next r may step) is = at_step a hi s next met n (omega arith) r may step (same_met is) (run_met r n)
   end_met earliest e n (dead i s r d) is = run_met r n (same_met is)
   end_met earliest e n (early i s t2 r) is = run_met r n (same_met is)
   end_met earliest e n (quit i s r le unread) is = absurd (stop_no_met is)

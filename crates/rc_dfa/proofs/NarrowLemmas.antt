@@ -6,9 +6,11 @@ use Rattle.rc_program.specs.Program.{Place, choice, byte, branch, scalar, guard,
 use Rattle.rc_determinize.specs.Run.{Reaches, IsGoal}
 use Rattle.rc_utf8.specs.Laws.{IsBytePlace}
 use Rattle.rc_determinize.specs.Steps.{HasPlace, HasWay, IsRising}
-use Rattle.rc_determinize.specs.Sides.{HasLook, holds_by, told}
+use Rattle.rc_determinize.specs.declared.sides.Seen.{Seen}
+use Rattle.rc_determinize.specs.declared.sides.Sides.{Sides}
+use Rattle.rc_determinize.specs.Sides.{HasLook, holds_by}
 use Rattle.rc_determinize.specs.States.{Setting, IsSetting, State}
-use Rattle.rc_determinize.specs.Backward.{LeadsBy, LeadsHere, still_out, ReadsTo, IsFirstRoot, IsPrior, IsLast, ReachesEnd}
+use Rattle.rc_determinize.specs.Backward.{LeadsBy, LeadsOver, still_out, ReadsTo, IsFirstRoot, IsPriorOver, IsLastBeside, ReachesEnd}
 use Rattle.rc_dfa.specs.Laws.{ReachesMatch}
 
 -- the place, unless it is another pattern's match place
@@ -108,11 +110,11 @@ module _ (only : Option ℕ) (g : Setting) where
   reads_is b q p = λ i. HasWay (reads 1 p) (sym (ways_are (λ l. false) (b ∷ []) q) i)
 
   -- the steps are the same
-  pub narrow_prior : (roots : List ℕ) (s s2 : State) (before : Option ℕ) → IsPrior g roots s before s2 → IsPrior narrowed roots s before s2
-  narrow_prior roots s s2 before n =
-      let here : LeadsHere g s before ≡ LeadsHere narrowed s before = λ i. LeadsBy (still_is i (told g.needs g.terminator before) s.beside) s.list in
+  pub narrow_prior : (roots : List ℕ) (s s2 : State) (sides : Sides) → IsPriorOver g.places roots s sides s2 → IsPriorOver narrowed.places roots s sides s2
+  narrow_prior roots s s2 sides n =
+      let here : LeadsOver g.places s sides.near ≡ LeadsOver narrowed.places s sides.near = λ i. LeadsBy (still_is i sides.near s.beside) s.list in
       record {
-        list = λ q. subst (λ (X : (ℕ → Type 0) × (ℕ → ℕ → Type 0)). HasPlace q s2.list ↔ ((b : ℕ) × (before ≡ Some b) × (p : ℕ) × X.1 b p × X.0 p))
+        list = λ q. subst (λ (X : (ℕ → Type 0) × (ℕ → ℕ → Type 0)). HasPlace q s2.list ↔ ((b : ℕ) × (sides.byte ≡ Some b) × (p : ℕ) × X.1 b p × X.0 p))
             (λ i. (here i, λ b p. reads_is b q p i)) (n.list q);
         rising = n.rising;
         matched = subst (λ (X : ℕ → Type 0). IsFirstRoot X roots s2.matched) here n.matched;
@@ -128,9 +130,9 @@ module _ (only : Option ℕ) (g : Setting) where
       ways_same = λ i n. map (pair_at n.1) (ways_are (λ l. holds t l n.1) (ahead t hi n.1) n.0 i)
 
   -- at the end of a match of the pattern
-  pub narrow_last : (after : Option ℕ) (s : State) → ((q : ℕ) → HasPlace q s.list ↔ IsTrue (is_match_place only (place_at g.places q))) → IsRising s.list →
-      s.matched ≡ None → s.goes_on ≡ false → s.beside ≡ told g.needs g.terminator after → IsLast narrowed after s
-  narrow_last after s same rising matched goes_on beside = record {
+  pub narrow_last : (facts : Seen) (s : State) → ((q : ℕ) → HasPlace q s.list ↔ IsTrue (is_match_place only (place_at g.places q))) → IsRising s.list →
+      s.matched ≡ None → s.goes_on ≡ false → s.beside ≡ facts → IsLastBeside narrowed.places facts s
+  narrow_last facts s same rising matched goes_on beside = record {
     list = λ q. let l = same q in ((λ h. match_is q ∙ l.0 h), (λ h. l.1 (sym (match_is q) ∙ h)));
     rising = rising;
     matched = matched;

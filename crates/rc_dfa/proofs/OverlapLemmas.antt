@@ -4,17 +4,19 @@ use Rattle.rc_text.specs.declared.types.MatchKind.TheVariants.{All as all_matche
 use Rattle.rc_text.specs.declared.types.Anchored.{Anchored}
 use Rattle.rc_text.specs.declared.types.Anchored.TheVariants.{No, Yes, Pattern}
 use Rattle.rc_walks.specs.Walks.{Pair, IsIn}
-use Rattle.rc_program.specs.Text.{Text}
+use Rattle.rc_program.specs.Text.{Text, after_at}
 use Rattle.rc_program.specs.Program.{ways}
-use Rattle.rc_determinize.specs.Sets.{Comes, ComesHere, EndsHere, IsLeastMatch, IsNextOfAll}
-use Rattle.rc_determinize.specs.States.{Setting, IsSetting, State, IsInside}
-use Rattle.rc_determinize.proofs.TextLemmas.{near}
+use Rattle.rc_determinize.specs.Sets.{Comes, ComesHere, ComesOver, EndsHere, IsLeastMatch}
+use Rattle.rc_determinize.specs.Sides.{told}
+use Rattle.rc_determinize.specs.States.{Setting, IsSetting, State, IsInside, all_starts}
+use Rattle.rc_determinize.proofs.TextLemmas.{near, told_after, near_told}
 use Rattle.rc_dfa.specs.Machine.{Machine, forwards, Leads, Begins, IsMachine, is_dead}
-use Rattle.rc_dfa.specs.Runs.{MayRead, Runs, ahead_at, behind_at}
+use Rattle.rc_dfa.specs.Runs.{bytes, MayRead, Runs, ahead_at, behind_at}
 use Rattle.rc_dfa.specs.Laws.{starts_of, OverlapLaw}
 use Rattle.rc_dfa.proofs.GatherLemmas as gather
 use Rattle.rc_dfa.proofs.MetLemmas.{comes_within}
 use Rattle.rc_dfa.proofs.RunLemmas.{turned}
+use Rattle.rc_dfa.proofs.AlphabetLemmas.{begins_ahead}
 use Rattle.rc_dfa.proofs.StartLemmas.{some_root, starts_at, starts_within}
 
 module _ (g : Setting) (entries : List ℕ) where
@@ -27,15 +29,18 @@ module _ (g : Setting) (entries : List ℕ) where
     comes : i ≤ hi → MayRead machine (ahead_at t i) → (q : ℕ) →
         ComesHere g s (ahead_at t i) q ↔ Comes (ways g.places t hi) (starts_of machine anchored from hi) (q, i)
     comes le read q =
-        let b = some_root all_matches g entries anchored (behind_at t from) from hi first begins in
+        let b = some_root all_matches g entries anchored _ from hi first (begins_ahead bytes machine anchored t from first may begins) in
+        let far = told g.needs g.terminator (ahead_at t i) in
         subst (λ o. ComesHere g s (ahead_at t i) q ↔ Comes (ways g.places t hi) o (q, i)) (sym b.starts)
-        (gather.comes_here g entries ok t same hi from b.root b.once inside first b.is_first may b.rooted i q s met le runs read)
+        (subst (λ x. ComesOver g.places s x q ↔ Comes (ways g.places t hi) (all_starts b.once b.root from hi) (q, i))
+        (sym (near_told g.needs g.terminator (after_at t i) far (told_after g.needs g.terminator t i read) refl))
+        (gather.comes_here bytes g entries ok t same hi from b.root b.once inside first b.is_first b.rooted i q s met far le runs))
 
     dies : is_dead s ≡ true → (q y : ℕ) → i ≤ y → ¬ Comes (ways g.places t hi) (starts_of machine anchored from hi) (q, y)
     dies dead q y le =
-        let b = some_root all_matches g entries anchored (behind_at t from) from hi first begins in
+        let b = some_root all_matches g entries anchored _ from hi first (begins_ahead bytes machine anchored t from first may begins) in
         subst (λ o. ¬ Comes (ways g.places t hi) o (q, y)) (sym b.starts)
-        (gather.none_comes g entries ok t same hi from b.root b.once inside first b.is_first may b.rooted i s met runs dead q y le)
+        (gather.none_comes bytes g entries ok t same hi from b.root b.once inside first b.is_first b.rooted i s met runs dead q y le)
 
 -- no walk comes to a position outside the bounds
 starts_inside : (m : Machine) (anchored : Anchored) (from hi : ℕ) → from ≤ hi → (n : Pair) → IsIn n (starts_of m anchored from hi) → (from ≤ n.1) × (n.1 ≤ hi)

@@ -5,9 +5,10 @@ use Rattle.rc_text.specs.declared.types.Anchored.TheVariants.{No, Yes, Pattern}
 use Rattle.rc_walks.specs.Walks.{Pair, IsIn}
 use Rattle.std.proofs.lemmas.Option.{get_or_from_slice_get}
 use Rattle.rc_determinize.specs.Gives.{starts}
-use Rattle.rc_determinize.specs.States.{Setting, State, IsFirst, all_starts}
+use Rattle.rc_determinize.specs.declared.sides.Seen.{Seen}
+use Rattle.rc_determinize.specs.States.{Setting, State, IsFirstBeside, all_starts}
 use Rattle.rc_determinize.proofs.LawLemmas.{in_starts, starts_in}
-use Rattle.rc_dfa.specs.Machine.{Machine, forwards, begins_by}
+use Rattle.rc_dfa.specs.Machine.{Machine, forwards, begins_beside}
 use Rattle.rc_dfa.specs.Runs.{RunEnd, met_last, stopped_at, idle_at}
 use Rattle.rc_dfa.specs.Laws.{starts_of}
 use Rattle.rc_text.specs.declared.types.MatchKind.{MatchKind}
@@ -33,19 +34,19 @@ pub rest_no_met : {i : ℕ} {x : Option Pair} → idle_at i ≡ met_last x → �
 rest_no_met e = true≢false (sym (ap (λ r. has_met r) e))
 
 -- A search forwards begins at some root: at the first position alone, or at the root 0 at the later ones too.
-pub record IsRoot (m : Machine) (anchored : Anchored) (beside : Option ℕ) (from hi : ℕ) (first : State) : Type 0 where
+pub record IsRoot (m : Machine) (anchored : Anchored) (facts : Seen) (from hi : ℕ) (first : State) : Type 0 where
   pub root : ℕ
   pub once : Bool
-  pub is_first : IsFirst m.setting root beside once first
+  pub is_first : IsFirstBeside root facts once first
   pub starts : starts_of m anchored from hi ≡ all_starts once root from hi
   pub rooted : (root ≡ 0) ⊎ (once ≡ true)
 
-pub some_root : (kind : MatchKind) (g : Setting) (entries : List ℕ) (anchored : Anchored) (beside : Option ℕ) (from hi : ℕ) (first : State) →
-    begins_by (forwards kind) g entries anchored beside first →
-    IsRoot (record { setting = g; entries = entries; direction = forwards kind }) anchored beside from hi first
-some_root kind g entries No beside from hi first h = record { root = 0; once = false; is_first = h; starts = refl; rooted = inl refl }
-some_root kind g entries Yes beside from hi first h = record { root = 0; once = true; is_first = h; starts = refl; rooted = inl refl }
-some_root kind g entries (Pattern p) beside from hi first h =
+pub some_root : (kind : MatchKind) (g : Setting) (entries : List ℕ) (anchored : Anchored) (facts : Seen) (from hi : ℕ) (first : State) →
+    begins_beside (forwards kind) g.places entries anchored facts first →
+    IsRoot (record { setting = g; entries = entries; direction = forwards kind }) anchored facts from hi first
+some_root kind g entries No facts from hi first h = record { root = 0; once = false; is_first = h; starts = refl; rooted = inl refl }
+some_root kind g entries Yes facts from hi first h = record { root = 0; once = true; is_first = h; starts = refl; rooted = inl refl }
+some_root kind g entries (Pattern p) facts from hi first h =
     record { root = h.0; once = true; is_first = h.2; starts = ap (λ e. (e, from) ∷ []) (get_or_from_slice_get entries p h.0 0 h.1); rooted = inr refl }
 
 -- THE STARTS

@@ -10,7 +10,7 @@ use Rattle.rc_determinize.specs.Sides.{byte_of, IsReadable}
 use Rattle.rc_determinize.specs.States.{State, IsInside}
 use Rattle.rc_determinize.proofs.TextLemmas.{get_some, byte_ahead, byte_behind}
 use Rattle.rc_dfa.specs.Machine.{Machine}
-use Rattle.rc_dfa.specs.Runs.{RunEnd, met_last, stopped_at, idle_at, ahead_at, behind_at, MayRead, Runs, EndsSo, SearchEnds, RunsDown, EndsDown, SearchEndsDown}
+use Rattle.rc_dfa.specs.Runs.{RunEnd, met_last, stopped_at, idle_at, symbols, ahead_at, behind_at, MayRead, Runs, EndsSo, SearchEnds, RunsDown, EndsDown, SearchEndsDown}
 use Rattle.rc_dfa.specs.Runs as runs
 use Rattle.rc_dfa.specs.Laws.{IsUnread}
 use Rattle.rc_dfa.proofs.StartLemmas.{has_met}
@@ -180,3 +180,30 @@ stops_down m t hi lo end anchored earliest e p inside below_end within (runs.unr
         first = λ y c r low2 high2 at. let a = r.0 in let z = r.1 in absurd (omega (arith, a, z, same));
       },
     )
+
+-- WHERE ALL IS READ
+
+end_reads : (m : Machine) (t : Text) (hi from : ℕ) (first : State) (earliest : Bool) (e : RunEnd) (p : ℕ) →
+    runs.EndsOver symbols m t hi from first earliest e → e ≡ stopped_at p → ⊥
+end_reads m t hi from first earliest e p (runs.at_bound s next r may step) is = no_stop is
+end_reads m t hi from first earliest e p (runs.dead i s r d) is = no_stop is
+end_reads m t hi from first earliest e p (runs.early i s t2 r) is = no_stop is
+end_reads m t hi from first earliest e p (runs.quit i s r le h) is = h tt
+end_reads m t hi from first earliest e p (runs.rests i s r le d) is = no_rest is
+
+pub reads_all : (m : Machine) (t : Text) (hi from : ℕ) (anchored : Anchored) (earliest : Bool) (e : RunEnd) (p : ℕ) →
+    runs.SearchEndsOver symbols m t hi from anchored earliest e → e ≡ stopped_at p → ⊥
+reads_all m t hi from anchored earliest e p (runs.ran first may begins ends) is = end_reads m t hi from first earliest e p ends is
+reads_all m t hi from anchored earliest e p (runs.unread q one h) is = h tt
+
+end_reads_down : (m : Machine) (t : Text) (lo end : ℕ) (first : State) (earliest : Bool) (e : RunEnd) (p : ℕ) →
+    runs.EndsDownOver symbols m t lo end first earliest e → e ≡ stopped_at p → ⊥
+end_reads_down m t lo end first earliest e p (runs.at_bound s next r may step) is = no_stop is
+end_reads_down m t lo end first earliest e p (runs.dead i s r d) is = no_stop is
+end_reads_down m t lo end first earliest e p (runs.early i s t2 r) is = no_stop is
+end_reads_down m t lo end first earliest e p (runs.quit q s r le h) is = h tt
+
+pub reads_all_down : (m : Machine) (t : Text) (lo end : ℕ) (anchored : Anchored) (earliest : Bool) (e : RunEnd) (p : ℕ) →
+    runs.SearchEndsDownOver symbols m t lo end anchored earliest e → e ≡ stopped_at p → ⊥
+reads_all_down m t lo end anchored earliest e p (runs.ran first may begins ends) is = end_reads_down m t lo end first earliest e p ends is
+reads_all_down m t lo end anchored earliest e p (runs.unread h) is = h tt

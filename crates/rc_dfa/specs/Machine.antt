@@ -8,10 +8,11 @@ use Rattle.rc_program.specs.Laws.{IsClosed}
 use Rattle.rc_program.specs.Program.{Place, accept, place_at}
 use Rattle.rc_determinize.specs.Steps.{HasPlace, AreOnce, AreBelow, IsRising}
 use Rattle.rc_determinize.specs.declared.sides.Seen.{Seen}
-use Rattle.rc_determinize.specs.Sides.{told, IsReadable}
-use Rattle.rc_determinize.specs.States.{Setting, IsSetting, State, IsFirst}
-use Rattle.rc_determinize.specs.Kinds.{IsNextBy, bound_of, longest, IsListOf}
-use Rattle.rc_determinize.specs.Backward.{IsPrior, IsLast}
+use Rattle.rc_determinize.specs.declared.sides.Sides.{Sides}
+use Rattle.rc_determinize.specs.Sides.{told, sides_of, IsReadable}
+use Rattle.rc_determinize.specs.States.{Setting, IsSetting, State, IsFirstBeside}
+use Rattle.rc_determinize.specs.Kinds.{IsNextByOver, bound_of, longest, IsListOf}
+use Rattle.rc_determinize.specs.Backward.{IsPriorOver, IsLastBeside}
 
 -- In which direction bytes are read, and forwards, which kind of match is found.
 pub data Direction : Type 0 where
@@ -25,11 +26,18 @@ pub record Machine : Type 0 where
   pub entries : List ℕ
   pub direction : Direction
 
--- The state to which a byte leads, or the end of what the search sees. Backwards, a state's `matched`
--- is the pattern whose entry was reached.
+-- The state to which a byte leads, or the end of what the search sees, by what is told of its sides.
+-- Backwards, a state's `matched` is the pattern whose entry was reached.
+abbrev pub leads_over : Direction → List Place → List ℕ → State → Sides → State → Type 0
+leads_over (forwards kind) places entries = IsNextByOver kind places 0
+leads_over backwards places entries = IsPriorOver places entries
+
+abbrev pub LeadsOver : Machine → State → Sides → State → Type 0
+LeadsOver m = leads_over m.direction m.setting.places m.entries
+
+-- The same, if the byte is known alone.
 abbrev pub leads_by : Direction → Setting → List ℕ → State → Option ℕ → State → Type 0
-leads_by (forwards kind) g entries = IsNextBy kind g 0
-leads_by backwards g entries = IsPrior g entries
+leads_by d g entries s beside = leads_over d g.places entries s (sides_of g.needs g.terminator beside)
 
 abbrev pub Leads : Machine → State → Option ℕ → State → Type 0
 Leads m = leads_by m.direction m.setting m.entries
@@ -59,21 +67,24 @@ pub record IsLastOfBeside (p : ℕ) (places : List Place) (facts : Seen) (s : St
   pub goes_on : s.goes_on ≡ false
   pub beside : s.beside ≡ facts
 
--- The same, if the byte after is known alone, or none is there.
-abbrev pub IsLastOf : ℕ → Setting → Option ℕ → State → Type 0
-IsLastOf p g after = IsLastOfBeside p g.places (told g.needs g.terminator after)
+-- The state in which a search begins, with these facts about the side beside it. Forwards it enters
+-- the program: only at the first position if it is anchored, and at the entry of the one pattern
+-- that is asked for. Backwards it begins at the match places, of the one pattern that is asked for
+-- or of all.
+abbrev pub begins_beside : Direction → List Place → List ℕ → Anchored → Seen → State → Type 0
+begins_beside (forwards kind) places entries No facts s = IsFirstBeside 0 facts false s
+begins_beside (forwards kind) places entries Yes facts s = IsFirstBeside 0 facts true s
+begins_beside (forwards kind) places entries (Pattern p) facts s = (entry : ℕ) × (slice_get entries p ≡ Some entry) × IsFirstBeside entry facts true s
+begins_beside backwards places entries No facts s = IsLastBeside places facts s
+begins_beside backwards places entries Yes facts s = IsLastBeside places facts s
+begins_beside backwards places entries (Pattern p) facts s = IsLastOfBeside p places facts s
 
--- The state in which a search begins, with this byte beside it, or none. Forwards it enters the
--- program: only at the first position if it is anchored, and at the entry of the one pattern that
--- is asked for. Backwards it begins at the match places, of the one pattern that is asked for or of
--- all.
+abbrev pub BeginsBeside : Machine → Anchored → Seen → State → Type 0
+BeginsBeside m = begins_beside m.direction m.setting.places m.entries
+
+-- The same, if the byte there is known alone, or none is there.
 abbrev pub begins_by : Direction → Setting → List ℕ → Anchored → Option ℕ → State → Type 0
-begins_by (forwards kind) g entries No beside s = IsFirst g 0 beside false s
-begins_by (forwards kind) g entries Yes beside s = IsFirst g 0 beside true s
-begins_by (forwards kind) g entries (Pattern p) beside s = (entry : ℕ) × (slice_get entries p ≡ Some entry) × IsFirst g entry beside true s
-begins_by backwards g entries No beside s = IsLast g beside s
-begins_by backwards g entries Yes beside s = IsLast g beside s
-begins_by backwards g entries (Pattern p) beside s = IsLastOf p g beside s
+begins_by d g entries anchored beside = begins_beside d g.places entries anchored (told g.needs g.terminator beside)
 
 abbrev pub Begins : Machine → Anchored → Option ℕ → State → Type 0
 Begins m = begins_by m.direction m.setting m.entries

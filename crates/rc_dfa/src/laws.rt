@@ -1,5 +1,5 @@
 //! Laws of determinizers and of their runs. The functions do nothing: their contracts are the laws.
-ghost use Rattle.rc_dfa.specs.Laws.{MachineLaw, OverlapLaw, RunLaw};
+ghost use Rattle.rc_dfa.specs.Laws.{MachineLaw, OverlapLaw, RunLaw, SymbolRunLaw};
 
 /// The states of a determinizer list places of its program, each once.
 pub fn machines_keep_places()
@@ -11,6 +11,12 @@ pub fn machines_keep_places()
 /// first byte that may not be read.
 pub fn runs_meet_walks()
     ensures { RunLaw }
+{}
+
+/// A search that knows both sides of each byte finds the same, whatever bytes there are, and never
+/// stops.
+pub fn runs_read_symbols()
+    ensures { SymbolRunLaw }
 {}
 
 /// For `MatchKind::All`, each state of a DFA search tells to which places walks come.

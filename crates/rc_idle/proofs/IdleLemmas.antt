@@ -12,12 +12,12 @@ use Rattle.rc_program.proofs.PlaceLemmas.{program_some}
 use Rattle.rc_determinize.specs.Steps.{HasPlace, HasWay, Steps, Adds, IsStep}
 use Rattle.rc_determinize.specs.Steps as steps
 use Rattle.rc_determinize.specs.Sets.{Comes, begins, goes, ArrivesAt}
-use Rattle.rc_determinize.specs.Sides.{out_seen, byte_of, IsReadable}
+use Rattle.rc_determinize.specs.Sides.{out_over, sides_near, byte_of, IsReadable}
 use Rattle.rc_determinize.specs.States.{Setting, IsSetting, State, is_match, root_if, IsNext, IsFirst, IsInside, IsUnderWay, Stops, all_starts, best_at}
 use Rattle.rc_determinize.proofs.BackwardLemmas.{each_way, same_position, next_position, IsStay}
 use Rattle.rc_determinize.proofs.LawLemmas.{forward_law, gather_law}
 use Rattle.rc_determinize.proofs.MachineLemmas.{has_left, has_right}
-use Rattle.rc_determinize.proofs.TextLemmas.{out_here, same_below, near}
+use Rattle.rc_determinize.proofs.TextLemmas.{out_here, same_below, near, told_after, near_told}
 use Rattle.rc_dfa.specs.Machine.{Machine, forwards, is_root_alone}
 use Rattle.rc_dfa.specs.Runs.{RunEnd, met_last, stopped_at, idle_at, EndsSo, SearchEnds, ran, unread}
 use Rattle.rc_dfa.specs.Runs as runs
@@ -178,17 +178,18 @@ module _ (g : Setting) (ok : IsSetting g) (t : Text) (terminator : g.terminator 
   module _ (i : ℕ) (lt : i < hi) (s s2 : State) (c : IsCovered i s) (may : IsReadable g.needs (byte_of (after_at t i)))
       (n : IsNext g 0 s (byte_of (after_at t i)) s2) (none : s2.matched ≡ None) where
     abbrev out : ℕ → List Way
-    out = out_here g.places g.needs ok.by_bytes ok.covers t i c.under.readable may
+    out = out_here g.places g.needs ok.by_bytes ok.covers t i
 
     each : (q : ℕ) (w : Way) → HasWay w (out q) → IsStay w ⊎ ((k : ℕ) × (w ≡ reads 1 k))
     each q w h = each_way _ (byte_of (after_at t i)) (place_at g.places q) (ok.by_bytes q) w h
 
     over : (q : ℕ) → W (q, i) ≡ map (pair_at i) (out q)
-    over = same_below g.places g.needs ok.by_bytes ok.covers t i c.under.readable may hi lt inside.high inside.bounded
+    over = same_below g.places g.needs ok.by_bytes ok.covers t i hi lt inside.high inside.bounded
 
     step : IsStep out (is_match g.places) s.list n.next s2.matched
     step = subst (λ o. IsStep o (is_match g.places) s.list n.next s2.matched)
-        (ap₂ (λ x b. out_seen g.places g.needs x b (byte_of (after_at t i))) terminator c.under.beside) n.is_step
+        (ap (λ x. out_over g.places s.beside x) (near_told g.needs g.terminator (after_at t i) _ (told_after g.needs g.terminator t i may) refl)
+        ∙ ap₂ (λ x b. out_over g.places b (sides_near g.needs x (after_at t i) s.beside)) terminator c.under.beside) n.is_step
 
     all : IsCollected out (is_match g.places) [] (map stays s.list) step.onward step.visited
     all = collected out (is_match g.places) none step.steps

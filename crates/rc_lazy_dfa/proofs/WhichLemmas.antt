@@ -15,7 +15,7 @@ use Rattle.rc_dfa.specs.Automata.{machine_of, classes_of}
 use Rattle.rc_dfa.specs.declared.automaton.Automaton.{Automaton}
 use Rattle.rc_dfa.specs.declared.automaton.Direction.TheVariants.{Overlapping}
 use Rattle.rc_dfa.specs.Machine.{Machine, IsMachine, Leads, Begins, is_dead}
-use Rattle.rc_dfa.specs.Runs.{MayRead, Runs, ahead_at, behind_at}
+use Rattle.rc_dfa.specs.Runs.{MayRead, RunsOver, ahead_at, behind_at}
 use Rattle.rc_dfa.proofs.OverlapLemmas.{overlap_law}
 use Rattle.rc_table_search.specs.Ways.{IsNext}
 use Rattle.rc_lazy_dfa.specs.Cells.{unknown, met, quit, row_of, has_died, column_of}
@@ -76,7 +76,7 @@ module _ (o : Overlap) (k : IsOverlap o) (machine : IsMachine o.frame.machine) w
       read = c.read;
       begins = c.begins;
       found = best_at i next.matched c.found;
-      runs = Runs.goes_on i s next c.runs lt read leads;
+      runs = RunsOver.goes_on i s next c.runs lt read leads;
     }
 
     -- where nothing goes on, nothing more is met
@@ -103,7 +103,7 @@ module _ (o : Overlap) (k : IsOverlap o) (machine : IsMachine o.frame.machine) w
       absurd (omega (arith, low, below))
 
   pub begun : (first : State) → MayRead m (behind_at t o.from) → Begins m o.anchored (behind_at t o.from) first → ComesTo o o.from first
-  begun first read begins = record { within = k.ordered; first = first; read = read; begins = begins; found = None; runs = Runs.begun }
+  begun first read begins = record { within = k.ordered; first = first; read = read; begins = begins; found = None; runs = RunsOver.begun }
 
 -- COLLECTED CELLS
 

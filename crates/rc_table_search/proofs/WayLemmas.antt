@@ -4,7 +4,7 @@ use Rattle.rc_program.specs.Text.{Text}
 use Rattle.rc_determinize.specs.States.{State, best_at}
 use Rattle.rc_determinize.specs.Backward.{least_at}
 use Rattle.rc_dfa.specs.Machine.{Machine, Leads, Begins, is_dead, is_idle}
-use Rattle.rc_dfa.specs.Runs.{MayRead, behind_at, Runs, RunsDown, met_last, stopped_at, idle_at, EndsDown, SearchEndsDown}
+use Rattle.rc_dfa.specs.Runs.{MayRead, behind_at, RunsOver, Runs, RunsDownOver, RunsDown, met_last, stopped_at, idle_at, EndsDownOver, EndsDown, SearchEndsDownOver, SearchEndsDown}
 use Rattle.rc_dfa.specs.Reads.{EndsBelow, SearchEndsBelow}
 use Rattle.rc_dfa.specs.declared.ended.Ended.TheVariants.{Found, Idle, Quit, GaveUp}
 use Rattle.rc_table_search.specs.Walks.{next_of}
@@ -25,14 +25,14 @@ module _ (m : Machine) (t : Text) (c : Course) where
   runs_on : (backwards : Bool) (first : State) (i : ℕ) (s next : State) (found : Option (ℕ × ℕ)) → RunsBy backwards m t c first i s found → 0 < span backwards i c.bound →
       MayRead m (beside_at backwards t i) → Leads m s (beside_at backwards t i) next →
       RunsBy backwards m t c first (next_of backwards i) next (best_at i next.matched found)
-  runs_on false first i s next found x left read leads = Runs.goes_on i s next x (omega (arith, left)) read leads
+  runs_on false first i s next found x left read leads = RunsOver.goes_on i s next x (omega (arith, left)) read leads
   runs_on true first i s next found x left read leads =
       let e : i ≡ i - 1 + 1 = omega (arith, left) in
       let B : ℕ → Type 0 = λ k. RunsDown m t c.bound c.from first k s (swapped found) → MayRead m (behind_at t k) → Leads m s (behind_at t k) next →
       RunsDown m t c.bound c.from first (i - 1) next (swapped (best_at k next.matched found)) in
       subst B (sym e)
       (λ y r l. subst (λ o. RunsDown m t c.bound c.from first (i - 1) next o) (least_as_best (i - 1 + 1) next.matched found)
-      (RunsDown.goes_down (i - 1) s next y (omega (arith, left)) r l)) x read leads
+      (RunsDownOver.goes_down (i - 1) s next y (omega (arith, left)) r l)) x read leads
 
   pub stands_on : (backwards : Bool) (i : ℕ) (s next : State) (found : Option (ℕ × ℕ)) → IsStanding backwards m t c i s found → 0 < span backwards i c.bound →
       MayRead m (beside_at backwards t i) → Leads m s (beside_at backwards t i) next →
@@ -49,20 +49,20 @@ module _ (m : Machine) (t : Text) (c : Course) where
       Leads m s (beside_at backwards t c.bound) next → EndsBy backwards m t c (c.bound + 1) (met_last (best_at c.bound next.matched found))
   bounded false s next found x read leads = SearchEndsBelow.ran x.first x.read x.begins (EndsBelow.at_bound s next x.runs read leads)
   bounded true s next found x read leads =
-      SearchEndsDown.ran x.first x.read x.begins
-      (subst (λ o. EndsDown m t c.bound c.from x.first c.earliest (met_last o)) (least_as_best c.bound next.matched found) (EndsDown.at_bound s next x.runs read leads))
+      SearchEndsDownOver.ran x.first x.read x.begins
+      (subst (λ o. EndsDown m t c.bound c.from x.first c.earliest (met_last o)) (least_as_best c.bound next.matched found) (EndsDownOver.at_bound s next x.runs read leads))
 
   -- where nothing goes on
   pub dies : (backwards : Bool) (i : ℕ) (s : State) (found : Option (ℕ × ℕ)) → IsStanding backwards m t c i s found → is_dead s ≡ true → EndsBy backwards m t c i (met_last found)
   dies false i s found x e = SearchEndsBelow.ran x.first x.read x.begins (EndsBelow.dead i s x.runs e)
-  dies true i s found x e = SearchEndsDown.ran x.first x.read x.begins (EndsDown.dead i s x.runs e)
+  dies true i s found x e = SearchEndsDownOver.ran x.first x.read x.begins (EndsDownOver.dead i s x.runs e)
 
   -- where the first find is enough
   pub stops_early : (backwards : Bool) (i : ℕ) (s : State) (found : Option (ℕ × ℕ)) → IsStanding backwards m t c i s found → c.earliest ≡ true → is_some found ≡ true →
       EndsBy backwards m t c i (met_last found)
   stops_early backwards i s None x e never = cc never
   stops_early false i s (Some n) x e some = SearchEndsBelow.ran x.first x.read x.begins (EndsBelow.early i s e x.runs)
-  stops_early true i s (Some n) x e some = SearchEndsDown.ran x.first x.read x.begins (EndsDown.early i s e x.runs)
+  stops_early true i s (Some n) x e some = SearchEndsDownOver.ran x.first x.read x.begins (EndsDownOver.early i s e x.runs)
 
   -- at a byte that may not be read
   pub quits : (backwards : Bool) (i r : ℕ) → (backwards ≡ false → r ≡ i + 1) → (s : State) (found : Option (ℕ × ℕ)) → IsStanding backwards m t c i s found → IsOn backwards i c.bound →
@@ -75,7 +75,7 @@ module _ (m : Machine) (t : Text) (c : Course) where
       let e : i ≡ i - 1 + 1 = omega (arith, lt) in
       let B : ℕ → Type 0 = λ k. RunsDown m t c.bound c.from x.first k s (swapped found) → ¬ MayRead m (behind_at t k) → c.bound ≤ k →
       SearchEndsDown m t c.bound c.from c.anchored c.earliest (stopped_at (i - 1)) in
-      subst B (sym e) (λ y u l. SearchEndsDown.ran x.first x.read x.begins (EndsDown.quit (i - 1) s y l u)) x.runs unread within
+      subst B (sym e) (λ y u l. SearchEndsDownOver.ran x.first x.read x.begins (EndsDownOver.quit (i - 1) s y l u)) x.runs unread within
 
   -- where nothing was found, and nothing is under way
   pub rests : (backwards : Bool) → backwards ≡ false → (i : ℕ) (s : State) (found : Option (ℕ × ℕ)) → IsStanding backwards m t c i s found → IsOn backwards i c.bound →
@@ -88,13 +88,13 @@ module _ (m : Machine) (t : Text) (c : Course) where
   -- where a search begins
   pub begins : (backwards : Bool) (s : State) → MayRead m (beside_at (not backwards) t c.from) → Begins m c.anchored (beside_at (not backwards) t c.from) s →
       IsStanding backwards m t c c.from s None
-  begins false s read begun = record { first = s; read = read; begins = begun; runs = Runs.begun }
-  begins true s read begun = record { first = s; read = read; begins = begun; runs = RunsDown.begun }
+  begins false s read begun = record { first = s; read = read; begins = begun; runs = RunsOver.begun }
+  begins true s read begun = record { first = s; read = read; begins = begun; runs = RunsDownOver.begun }
 
   pub never_begins : (backwards : Bool) → (backwards ≡ false → 0 < c.from) → ¬ MayRead m (beside_at (not backwards) t c.from) →
       EndsBy backwards m t c c.from (stopped_at (offset_of (not backwards) c.from))
   never_begins false some unread = let lt = some refl in SearchEndsBelow.unread (c.from - 1) (omega (arith, lt)) unread
-  never_begins true some unread = SearchEndsDown.unread unread
+  never_begins true some unread = SearchEndsDownOver.unread unread
 
   -- HOW A SEARCH ENDS
 
