@@ -11,6 +11,7 @@ pub mod MetLemmas
 pub mod NarrowLemmas
 pub mod DownLemmas
 pub mod StopLemmas
+pub mod ColumnLemmas
 pub mod OverlapLemmas
 pub mod RunLemmas
 pub mod EntryLemmas

@@ -3,6 +3,7 @@ pub mod Runs
 pub mod Samples
 pub mod Props
 pub mod Automata
+pub mod Columns
 pub mod Laws
 pub mod Ended
 pub mod Keys

@@ -1,4 +1,5 @@
 //! Laws of determinizers and of their runs. The functions do nothing: their contracts are the laws.
+ghost use Rattle.rc_dfa.specs.Columns.{ColumnLaw};
 ghost use Rattle.rc_dfa.specs.Laws.{MachineLaw, OverlapLaw, RunLaw, SymbolRunLaw};
 
 /// The states of a determinizer list places of its program, each once.
@@ -17,6 +18,12 @@ pub fn runs_meet_walks()
 /// stops.
 pub fn runs_read_symbols()
     ensures { SymbolRunLaw }
+{}
+
+/// The symbol of a byte tells a step what both sides of it tell. Past ASCII, bytes of one class lead
+/// alike with each symbol, and what ends with the byte is left to one turn.
+pub fn symbols_have_columns()
+    ensures { ColumnLaw }
 {}
 
 /// For `MatchKind::All`, each state of a DFA search tells to which places walks come.
