@@ -6,7 +6,7 @@ use Rattle.rc_program.proofs.PlaceLemmas.{goal_of}
 use Rattle.rc_determinize.specs.Steps.{HasPlace, AreOnce, AreBelow, IsStep}
 use Rattle.rc_determinize.specs.declared.sides.Seen.{Seen}
 use Rattle.rc_determinize.specs.declared.sides.Sides.{Sides}
-use Rattle.rc_determinize.specs.Sides.{holds_by, told, AreAlike, out_seen}
+use Rattle.rc_determinize.specs.Sides.{holds_by, out_over, AreAlike}
 use Rattle.rc_determinize.specs.States.{Setting, State, IsNext, root_if, is_match}
 use Rattle.rc_determinize.specs.Steps.{HasWay}
 use Rattle.rc_determinize.proofs.SidesLemmas.{alike_out}
@@ -66,47 +66,47 @@ read_in n q (stays k ∷ ws) h = ⊎_elim (λ e. absurd (stays_reads e)) (λ z. 
     stays_reads e = let f : 0 ≡ 1 = ap (λ w. kind_of w) e in omega (arith, f)
 read_in n q (reads m k ∷ ws) h = ⊎_elim (λ e. inl (ap (λ w. goal_of w) e)) (λ z. inr (read_in n q ws z)) h
 
-inside : (kind : MatchKind) (g : Setting) (root : ℕ) (s t : State) (after : Option ℕ) → IsClosed g.places → root < length g.places →
-    IsNextBy kind g root s after t → IsListOf kind (length g.places) t.list
-inside leftmost_first g root s t after closed rooted n =
-    let f = limit.next_fits (out_seen g.places g.needs g.terminator s.beside after) (is_match g.places) (length g.places)
-    (out_under g.places closed (holds_by s.beside (told g.needs g.terminator after)) after) n.is_step in
-    (limit.once_kept n.joined f.0, limit.under_kept (length g.places) n.joined f.1 (root_under t.goes_on root (length g.places) rooted))
-inside all_matches g root s t after closed rooted n = (
+inside : (kind : MatchKind) (places : List Place) (root : ℕ) (s t : State) (sides : Sides) → IsClosed places → root < length places →
+    IsNextByOver kind places root s sides t → IsListOf kind (length places) t.list
+inside leftmost_first places root s t sides closed rooted n =
+    let f = limit.next_fits (out_over places s.beside sides) (is_match places) (length places)
+    (out_under places closed (holds_by s.beside sides.near) sides.byte) n.is_step in
+    (limit.once_kept n.joined f.0, limit.under_kept (length places) n.joined f.1 (root_under t.goes_on root (length places) rooted))
+inside all_matches places root s t sides closed rooted n = (
   rising_once t.list n.rising,
   λ q h.
-      ⊎_elim (λ x. subst (λ k. k < length g.places) (sym x.1) rooted)
-      (λ x. out_under g.places closed (holds_by s.beside (told g.needs g.terminator after)) after x.0 q (read_in 1 q _ x.2))
+      ⊎_elim (λ x. subst (λ k. k < length places) (sym x.1) rooted)
+      (λ x. out_under places closed (holds_by s.beside sides.near) sides.byte x.0 q (read_in 1 q _ x.2))
       ((n.list q).0 h),
 )
-inside leftmost_longest g root s t after closed rooted n = longest_step_law.inside g root s t after closed rooted n
+inside leftmost_longest places root s t sides closed rooted n = longest_step_law.inside places root s t sides closed rooted n
 
 below : (kind : MatchKind) (places : ℕ) (list : List ℕ) → IsListOf kind places list → AreBelow (bound_of kind places) list
 below leftmost_first places list i = i.1
 below all_matches places list i = i.1
 below leftmost_longest places list i = longest_step_law.within places list i
 
-short : (kind : MatchKind) (g : Setting) (root : ℕ) (s t : State) (after : Option ℕ) → IsClosed g.places → root < length g.places →
-    IsNextBy kind g root s after t → length t.list ≤ longest kind (length g.places)
-short leftmost_first g root s t after closed rooted n =
-    let f = inside leftmost_first g root s t after closed rooted n in limit.short (length g.places) t.list f.0 f.1
-short all_matches g root s t after closed rooted n =
-    let f = inside all_matches g root s t after closed rooted n in limit.short (length g.places) t.list f.0 f.1
-short leftmost_longest g root s t after closed rooted n = longest_step_law.short g root s t after closed rooted n
+short : (kind : MatchKind) (places : List Place) (root : ℕ) (s t : State) (sides : Sides) → IsClosed places → root < length places →
+    IsNextByOver kind places root s sides t → length t.list ≤ longest kind (length places)
+short leftmost_first places root s t sides closed rooted n =
+    let f = inside leftmost_first places root s t sides closed rooted n in limit.short (length places) t.list f.0 f.1
+short all_matches places root s t sides closed rooted n =
+    let f = inside all_matches places root s t sides closed rooted n in limit.short (length places) t.list f.0 f.1
+short leftmost_longest places root s t sides closed rooted n = longest_step_law.short places root s t sides closed rooted n
 
-forgets : (kind : MatchKind) (g : Setting) (root : ℕ) (s t : State) (after matched : Option ℕ) →
-    IsNextBy kind g root s after t → IsNextBy kind g root (record s { matched = matched }) after t
-forgets leftmost_first g root s t after matched n =
+forgets : (kind : MatchKind) (places : List Place) (root : ℕ) (s t : State) (sides : Sides) (matched : Option ℕ) →
+    IsNextByOver kind places root s sides t → IsNextByOver kind places root (record s { matched = matched }) sides t
+forgets leftmost_first places root s t sides matched n =
     record { next = n.next; is_step = n.is_step; goes_on = n.goes_on; joined = n.joined; beside = n.beside }
-forgets all_matches g root s t after matched n =
+forgets all_matches places root s t sides matched n =
     record { list = n.list; rising = n.rising; matched = n.matched; goes_on = n.goes_on; beside = n.beside }
-forgets leftmost_longest g root s t after matched n = longest_step_law.forgets g root s t after matched n
+forgets leftmost_longest places root s t sides matched n = longest_step_law.forgets places root s t sides matched n
 
-tells : (kind : MatchKind) (g : Setting) (root : ℕ) (s t : State) (after : Option ℕ) →
-    IsNextBy kind g root s after t → t.beside ≡ told g.needs g.terminator after
-tells leftmost_first g root s t after n = n.beside
-tells all_matches g root s t after n = n.beside
-tells leftmost_longest g root s t after n = n.beside
+tells : (kind : MatchKind) (places : List Place) (root : ℕ) (s t : State) (sides : Sides) →
+    IsNextByOver kind places root s sides t → t.beside ≡ sides.far
+tells leftmost_first places root s t sides n = n.beside
+tells all_matches places root s t sides n = n.beside
+tells leftmost_longest places root s t sides n = n.beside
 
 pub kind_law : KindLaw
 kind_law = record { alike = alike; inside = inside; below = below; short = short; forgets = forgets; tells = tells }

@@ -4,11 +4,12 @@ use Rattle.std.proofs.lemmas.Bool.{cases_lt, cases_eq}
 use Rattle.std.proofs.lemmas.Option.{same_Some}
 use Rattle.rc_walks.specs.Walks.{Pair, IsIn}
 use Rattle.rc_program.specs.Text.{before_at, after_at}
-use Rattle.rc_program.specs.Program.{reads, ways, ways_out, place_at, is_match_place}
+use Rattle.rc_program.specs.Program.{Place, reads, ways, ways_out, place_at, is_match_place}
 use Rattle.rc_program.specs.Answer.{Search, is_anchored, ends, next_of}
 use Rattle.rc_program.proofs.WayLemmas.{past_places}
 use Rattle.rc_determinize.specs.Gives.{Gives}
 use Rattle.rc_determinize.specs.Steps.{AreBelow, IsByBytes}
+use Rattle.rc_determinize.specs.declared.sides.Sides.{Sides}
 use Rattle.rc_determinize.specs.Sides.{AreAlike, told, byte_of}
 use Rattle.rc_determinize.proofs.Leads.{IsLeastStart}
 use Rattle.rc_determinize.specs.States.{Setting, State, IsNextOver, IsFirstBeside, Stops, all_starts}
@@ -51,12 +52,12 @@ alike_prior g roots b c s s2 a n =
       beside = n.beside ∙ a.told_same;
     }
 
-prior_below : (g : Setting) (roots : List ℕ) (s s2 : State) (before : Option ℕ) → IsPrior g roots s before s2 → AreBelow (length g.places) s2.list
-prior_below g roots s s2 before p q h =
+prior_below : (places : List Place) (roots : List ℕ) (s s2 : State) (sides : Sides) → IsPriorOver places roots s sides s2 → AreBelow (length places) s2.list
+prior_below places roots s s2 sides p q h =
     let x = (p.list q).0 h in
     ⊎_elim (λ lt. lt)
-    (λ ge. absurd (subst (λ k. HasWay (reads 1 x.2) (ways_out (λ l. false) (x.0 ∷ []) k)) (past_places g.places q ge) x.3))
-    (cases_lt q (length g.places))
+    (λ ge. absurd (subst (λ k. HasWay (reads 1 x.2) (ways_out (λ l. false) (x.0 ∷ []) k)) (past_places places q ge) x.3))
+    (cases_lt q (length places))
 
 pub backward_law : BackwardLaw
 backward_law = record {
@@ -75,9 +76,9 @@ backward_law = record {
       (subst (λ x. IsPriorOver g.places roots s x s2) (behind_told g t hi i (omega (arith, below, le)) inside r) p);
   dies = λ g t hi end i y root s ok c empty le below. backward.nothing_before g ok t hi end i s c empty le (root, y) below;
   alike = alike_prior;
-  inside = λ g roots s s2 before p. (rising_once s2.list p.rising, prior_below g roots s s2 before p);
-  short = λ g roots s s2 before p.
-      limit.short (length g.places) s2.list (rising_once s2.list p.rising) (prior_below g roots s s2 before p);
+  inside = λ places roots s s2 sides p. (rising_once s2.list p.rising, prior_below places roots s s2 sides p);
+  short = λ places roots s s2 sides p.
+      limit.short (length places) s2.list (rising_once s2.list p.rising) (prior_below places roots s s2 sides p);
   lowers = λ g t hi end i roots matched least le f l. backward.lowers g t hi end roots i matched least le f l;
 }
 

@@ -1,9 +1,11 @@
 -- The laws of the step for the longest match.
-use Rattle.std.proofs.Common.{◌≡◌, ℕ, ◌+◌, ◌*◌, ◌<◌, ◌≤◌, ◌⊎◌, Bool, true, false, List, [], ◌∷◌, ◌++◌, length, Option, Some, inl, inr, ⊎_elim, sym, subst, ap, ◌∙◌, refl, arith, append_assoc}
+use Rattle.std.proofs.Common.{◌≡◌, ℕ, ◌+◌, ◌*◌, ◌<◌, ◌≤◌, ◌⊎◌, Bool, true, false, List, [], ◌∷◌, ◌++◌, length, Some, inl, inr, ⊎_elim, sym, subst, ap, ◌∙◌, refl, arith, append_assoc}
 use Rattle.std.proofs.lemmas.List.{append-nil, length-append}
 use Rattle.rc_program.specs.Laws.{IsClosed}
+use Rattle.rc_program.specs.Program.{Place}
 use Rattle.rc_determinize.specs.Steps.{HasPlace, AreOnce, AreBelow}
-use Rattle.rc_determinize.specs.Sides.{holds_by, told, out_seen, AreAlike}
+use Rattle.rc_determinize.specs.declared.sides.Sides.{Sides}
+use Rattle.rc_determinize.specs.Sides.{holds_by, out_over, AreAlike}
 use Rattle.rc_program.specs.Text.{after_at}
 use Rattle.rc_determinize.specs.States.{Setting, State, IsFirstBeside, is_match, all_starts}
 use Rattle.rc_determinize.proofs.TextLemmas.{told_before, told_after, near_told, ahead_told}
@@ -49,12 +51,12 @@ root_below b root n lt = by b
     by true k h = ⊎_elim (λ e. subst (λ x. x < n) e lt) (λ never. absurd never) h
     by false k h = absurd h
 
-inside : (g : Setting) (root : ℕ) (s t : State) (after : Option ℕ) → IsClosed g.places → root < length g.places → IsNextOfLongest g root s after t →
-    IsMarkedList (length g.places) t.list
-inside g root s t after closed rooted n =
-    let mark = length g.places in
-    let onward = groups_below (out_seen g.places g.needs g.terminator s.beside after) (is_match g.places) mark
-    (out_under g.places closed (holds_by s.beside (told g.needs g.terminator after)) after) n.steps in
+inside : (places : List Place) (root : ℕ) (s t : State) (sides : Sides) → IsClosed places → root < length places → IsNextOfLongestOver places root s sides t →
+    IsMarkedList (length places) t.list
+inside places root s t sides closed rooted n =
+    let mark = length places in
+    let onward = groups_below (out_over places s.beside sides) (is_match places) mark
+    (out_under places closed (holds_by s.beside sides.near) sides.byte) n.steps in
     record {
       groups = n.groups;
       is_parted = n.list;
@@ -76,13 +78,13 @@ parted_short mark ((q ∷ g) ∷ gs) = longer (parted mark gs) (parted_short mar
         let f = length-append (q ∷ g) (mark ∷ p ∷ rest) in
         omega (arith, e, f, h)
 
-short : (g : Setting) (root : ℕ) (s t : State) (after : Option ℕ) → IsClosed g.places → root < length g.places → IsNextOfLongest g root s after t →
-    length t.list ≤ 2 * length g.places
-short g root s t after closed rooted n =
-    let i = inside g root s t after closed rooted n in
-    let few = limit.short (length g.places) (flat i.groups) i.once i.below in
-    let l = parted_short (length g.places) i.groups in
-    let e : length t.list ≡ length (parted (length g.places) i.groups) = ap (λ z. length z) i.is_parted in
+short : (places : List Place) (root : ℕ) (s t : State) (sides : Sides) → IsClosed places → root < length places → IsNextOfLongestOver places root s sides t →
+    length t.list ≤ 2 * length places
+short places root s t sides closed rooted n =
+    let i = inside places root s t sides closed rooted n in
+    let few = limit.short (length places) (flat i.groups) i.once i.below in
+    let l = parted_short (length places) i.groups in
+    let e : length t.list ≡ length (parted (length places) i.groups) = ap (λ z. length z) i.is_parted in
     omega (arith, few, l, e)
 
 parted_has : (mark q : ℕ) (gs : List (List ℕ)) → HasPlace q (parted mark gs) → (mark ≡ q) ⊎ HasPlace q (flat gs)
@@ -108,9 +110,9 @@ longest_step_law = record {
   inside = inside;
   short = short;
   within = within;
-  forgets = λ g root s t after matched n.
+  forgets = λ places root s t sides matched n.
       record { onward = n.onward; groups = n.groups; steps = n.steps; goes_on = n.goes_on; once = n.once; list = n.list; beside = n.beside };
-  tells = λ g root s t after n. n.beside;
+  tells = λ places root s t sides n. n.beside;
 }
 
 pub longest_forward_law : LongestForwardLaw

@@ -7,7 +7,7 @@ use Rattle.rc_program.specs.Program.{Place}
 use Rattle.rc_determinize.specs.Steps.{AreOnce, AreBelow}
 use Rattle.rc_determinize.specs.declared.sides.Seen.{Seen}
 use Rattle.rc_determinize.specs.declared.sides.Sides.{Sides}
-use Rattle.rc_determinize.specs.Sides.{AreAlike, told, sides_of}
+use Rattle.rc_determinize.specs.Sides.{AreAlike, sides_of}
 use Rattle.rc_determinize.specs.States.{Setting, State, IsNextOver}
 use Rattle.rc_determinize.specs.Sets.{IsNextOfAllOver}
 use Rattle.rc_determinize.specs.Longest.{IsNextOfLongestOver}
@@ -49,18 +49,18 @@ pub record KindLaw : Type 0 where
   -- A byte stands for all bytes that are alike.
   pub alike : (kind : MatchKind) (g : Setting) (root b c : ℕ) (s t : State) → AreAlike g.places g.needs g.terminator b c →
       IsNextBy kind g root s (Some b) t → IsNextBy kind g root s (Some c) t
-  -- A state has places of the program, each once. So it is no longer than the program, or than
-  -- twice the program if it has marks.
-  pub inside : (kind : MatchKind) (g : Setting) (root : ℕ) (s t : State) (after : Option ℕ) → IsClosed g.places → root < length g.places →
-      IsNextBy kind g root s after t → IsListOf kind (length g.places) t.list
+  -- Whatever is told, a state has places of the program, each once. So it is no longer than the
+  -- program, or than twice the program if it has marks.
+  pub inside : (kind : MatchKind) (places : List Place) (root : ℕ) (s t : State) (sides : Sides) → IsClosed places → root < length places →
+      IsNextByOver kind places root s sides t → IsListOf kind (length places) t.list
   pub below : (kind : MatchKind) (places : ℕ) (list : List ℕ) → IsListOf kind places list → AreBelow (bound_of kind places) list
-  pub short : (kind : MatchKind) (g : Setting) (root : ℕ) (s t : State) (after : Option ℕ) → IsClosed g.places → root < length g.places →
-      IsNextBy kind g root s after t → length t.list ≤ longest kind (length g.places)
+  pub short : (kind : MatchKind) (places : List Place) (root : ℕ) (s t : State) (sides : Sides) → IsClosed places → root < length places →
+      IsNextByOver kind places root s sides t → length t.list ≤ longest kind (length places)
   -- The match found before plays no part.
-  pub forgets : (kind : MatchKind) (g : Setting) (root : ℕ) (s t : State) (after matched : Option ℕ) →
-      IsNextBy kind g root s after t → IsNextBy kind g root (record s { matched = matched }) after t
-  pub tells : (kind : MatchKind) (g : Setting) (root : ℕ) (s t : State) (after : Option ℕ) →
-      IsNextBy kind g root s after t → t.beside ≡ told g.needs g.terminator after
+  pub forgets : (kind : MatchKind) (places : List Place) (root : ℕ) (s t : State) (sides : Sides) (matched : Option ℕ) →
+      IsNextByOver kind places root s sides t → IsNextByOver kind places root (record s { matched = matched }) sides t
+  pub tells : (kind : MatchKind) (places : List Place) (root : ℕ) (s t : State) (sides : Sides) →
+      IsNextByOver kind places root s sides t → t.beside ≡ sides.far
 
 -- The law of turns: what is told of the far side plays no part but in what the new state keeps of it.
 -- So a state turns into the one for another scalar that ends there.

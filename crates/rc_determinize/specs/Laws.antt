@@ -3,11 +3,12 @@ use Rattle.std.specs.Prelude.{◌≡◌, ℕ, ◌+◌, ◌<◌, ◌≤◌, Bool,
 use Rattle.rc_text.specs.Text.{is_boundary}
 use Rattle.rc_walks.specs.Walks.{Pair, EndsAt}
 use Rattle.rc_program.specs.Text.{Text, before_at, after_at}
-use Rattle.rc_program.specs.Program.{ways}
+use Rattle.rc_program.specs.Program.{Place, ways}
 use Rattle.rc_program.specs.Answer.{Search, IsAnswer, HasNoAnswer, IsStart, IsPassed, is_anchored, only}
 use Rattle.rc_determinize.specs.Gives.{Gives}
 use Rattle.rc_determinize.specs.Steps.{AreOnce, AreBelow}
 use Rattle.rc_determinize.specs.declared.sides.Seen.{Seen}
+use Rattle.rc_determinize.specs.declared.sides.Sides.{Sides}
 use Rattle.rc_determinize.specs.Sides.{AreAlike, told_side, sides_near, byte_of, IsReadable}
 use Rattle.rc_determinize.specs.States.{Setting, IsSetting, State, IsNext, IsNextOver, IsFirst, IsFirstBeside, IsInside, IsUnderWay, Stops, all_starts, best_at, sides_ahead, sides_behind}
 use Rattle.rc_walks.specs.Walks.{IsIn}
@@ -72,10 +73,11 @@ pub record BackwardLaw : Type 0 where
   -- A byte stands for all bytes that are alike.
   pub alike : (g : Setting) (roots : List ℕ) (b c : ℕ) (s s2 : State) → AreAlike g.places g.needs g.terminator b c → IsPrior g roots s (Some b) s2 →
       IsPrior g roots s (Some c) s2
-  -- A state has places of the program, each once, so it is no longer than the program.
-  pub inside : (g : Setting) (roots : List ℕ) (s s2 : State) (before : Option ℕ) → IsPrior g roots s before s2 →
-      AreOnce s2.list × AreBelow (length g.places) s2.list
-  pub short : (g : Setting) (roots : List ℕ) (s s2 : State) (before : Option ℕ) → IsPrior g roots s before s2 → length s2.list ≤ length g.places
+  -- Whatever is told, a state has places of the program, each once, so it is no longer than the
+  -- program.
+  pub inside : (places : List Place) (roots : List ℕ) (s s2 : State) (sides : Sides) → IsPriorOver places roots s sides s2 →
+      AreOnce s2.list × AreBelow (length places) s2.list
+  pub short : (places : List Place) (roots : List ℕ) (s s2 : State) (sides : Sides) → IsPriorOver places roots s sides s2 → length s2.list ≤ length places
   -- The root found on the way down is the least so far.
   pub lowers : (g : Setting) (t : Text) (hi end i : ℕ) (roots : List ℕ) (matched : Option ℕ) (least : Option (ℕ × ℕ)) → i ≤ end →
       IsFirstRoot (ReachesEnd g t hi end i) roots matched → IsLeastSoFar g t hi end roots (i + 1) least →

@@ -2,7 +2,7 @@
 use Rattle.std.specs.Prelude.{◌≡◌, ℕ, ◌+◌, ◌*◌, ◌<◌, ◌≤◌, ◌⊎◌, Bool, true, false, List, [], ◌∷◌, ◌++◌, length, map, Option, Some, None}
 use Rattle.rc_walks.specs.Walks.{Pair, HasNoWalk, EndsAt}
 use Rattle.rc_program.specs.Text.{Text, before_at, after_at}
-use Rattle.rc_program.specs.Program.{ways}
+use Rattle.rc_program.specs.Program.{Place, ways}
 use Rattle.rc_program.specs.Laws.{IsClosed}
 use Rattle.rc_program.specs.Answer.{Search, IsStart, is_anchored}
 use Rattle.rc_program.specs.Longest.{IsLongestWalk, IsLongestFrom, IsLongestAnswer, IsPassedOf, HasNoLongestAnswer}
@@ -10,7 +10,8 @@ use Rattle.rc_determinize.specs.Gives.{Gives}
 use Rattle.rc_determinize.specs.Steps.{AreOnce, AreBelow, at}
 use Rattle.rc_determinize.specs.Run.{IsGoal}
 use Rattle.rc_determinize.specs.declared.sides.Seen.{Seen}
-use Rattle.rc_determinize.specs.Sides.{AreAlike, told, told_side, sides_near, byte_of, IsReadable}
+use Rattle.rc_determinize.specs.declared.sides.Sides.{Sides}
+use Rattle.rc_determinize.specs.Sides.{AreAlike, told_side, sides_near, byte_of, IsReadable}
 use Rattle.rc_determinize.specs.States.{Setting, IsSetting, State, IsFirst, IsFirstBeside, IsInside, Stops, later_starts, all_starts, best_at, sides_ahead}
 use Rattle.rc_determinize.specs.Backward.{IsLeastSoFar}
 use Rattle.rc_determinize.specs.Laws.{IsSettingOf, may_end_at}
@@ -141,15 +142,15 @@ pub record IsMarkedList (mark : ℕ) (list : List ℕ) : Type 0 where
 pub record LongestStepLaw : Type 0 where
   pub alike : (g : Setting) (root b c : ℕ) (s t : State) → AreAlike g.places g.needs g.terminator b c →
       IsNextOfLongest g root s (Some b) t → IsNextOfLongest g root s (Some c) t
-  pub inside : (g : Setting) (root : ℕ) (s t : State) (after : Option ℕ) → IsClosed g.places → root < length g.places →
-      IsNextOfLongest g root s after t → IsMarkedList (length g.places) t.list
+  pub inside : (places : List Place) (root : ℕ) (s t : State) (sides : Sides) → IsClosed places → root < length places →
+      IsNextOfLongestOver places root s sides t → IsMarkedList (length places) t.list
   -- There are fewer marks than places.
-  pub short : (g : Setting) (root : ℕ) (s t : State) (after : Option ℕ) → IsClosed g.places → root < length g.places →
-      IsNextOfLongest g root s after t → length t.list ≤ 2 * length g.places
+  pub short : (places : List Place) (root : ℕ) (s t : State) (sides : Sides) → IsClosed places → root < length places →
+      IsNextOfLongestOver places root s sides t → length t.list ≤ 2 * length places
   pub within : (mark : ℕ) (list : List ℕ) → IsMarkedList mark list → AreBelow (mark + 1) list
-  pub forgets : (g : Setting) (root : ℕ) (s t : State) (after matched : Option ℕ) →
-      IsNextOfLongest g root s after t → IsNextOfLongest g root (record s { matched = matched }) after t
-  pub tells : (g : Setting) (root : ℕ) (s t : State) (after : Option ℕ) → IsNextOfLongest g root s after t → t.beside ≡ told g.needs g.terminator after
+  pub forgets : (places : List Place) (root : ℕ) (s t : State) (sides : Sides) (matched : Option ℕ) →
+      IsNextOfLongestOver places root s sides t → IsNextOfLongestOver places root (record s { matched = matched }) sides t
+  pub tells : (places : List Place) (root : ℕ) (s t : State) (sides : Sides) → IsNextOfLongestOver places root s sides t → t.beside ≡ sides.far
 
 -- All starts before `from` were passed over.
 pub record IsLongestRaised (s : Search) (from : ℕ) : Type 0 where

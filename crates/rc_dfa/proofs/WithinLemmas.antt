@@ -10,11 +10,13 @@ use Rattle.rc_determinize.specs.Steps.{HasPlace, AreOnce, AreBelow}
 use Rattle.rc_text.specs.declared.types.MatchKind.{MatchKind}
 use Rattle.rc_text.specs.declared.types.MatchKind.TheVariants.{All as all_matches, LeftmostFirst as leftmost_first, LeftmostLongest as leftmost_longest}
 use Rattle.rc_determinize.specs.Kinds.{longest, IsListOf}
+use Rattle.rc_determinize.specs.declared.sides.Seen.{Seen}
+use Rattle.rc_determinize.specs.declared.sides.Sides.{Sides}
 use Rattle.rc_determinize.specs.States.{Setting, State}
 use Rattle.rc_determinize.proofs.LimitLemmas.{short}
 use Rattle.rc_determinize.proofs.KindLemmas.{kind_law, rising_once}
 use Rattle.rc_determinize.proofs.LawLemmas.{backward_law}
-use Rattle.rc_dfa.specs.Machine.{Direction, forwards, backwards, Machine, leads_by, begins_by, IsMachine}
+use Rattle.rc_dfa.specs.Machine.{Direction, forwards, backwards, Machine, leads_over, begins_beside, IsMachine}
 use Rattle.rc_dfa.specs.Laws.{IsWithin, MachineLaw}
 use Rattle.rc_dfa.proofs.LastLemmas.{accepts}
 
@@ -65,34 +67,36 @@ match_below places q only h = ⊎_elim (λ lt. lt)
     no_place None = refl
     no_place (Some p) = refl
 
-begin_within : (d : Direction) (g : Setting) (entries : List ℕ) (anchored : Anchored) (beside : Option ℕ) (s : State) →
+begin_within : (d : Direction) (g : Setting) (entries : List ℕ) (anchored : Anchored) (facts : Seen) (s : State) →
     let m : Machine = record { setting = g; entries = entries; direction = d } in
-    IsMachine m → begins_by d g entries anchored beside s → IsWithin m s
-begin_within (forwards kind) g entries No beside s k h = one_root kind g entries 0 s k.rooted h.list
-begin_within (forwards kind) g entries Yes beside s k h = one_root kind g entries 0 s k.rooted h.list
-begin_within (forwards kind) g entries (Pattern p) beside s k h =
+    IsMachine m → begins_beside d g.places entries anchored facts s → IsWithin m s
+begin_within (forwards kind) g entries No facts s k h = one_root kind g entries 0 s k.rooted h.list
+begin_within (forwards kind) g entries Yes facts s k h = one_root kind g entries 0 s k.rooted h.list
+begin_within (forwards kind) g entries (Pattern p) facts s k h =
     let m : Machine = record { setting = g; entries = entries; direction = forwards kind } in
     let f = h.2 in one_root kind g entries h.0 s (entry_below m p h.0 k h.1) f.list
-begin_within backwards g entries No beside s k h =
+begin_within backwards g entries No facts s k h =
     both g entries s (rising_once s.list h.rising) (λ q z. match_below g.places q None ((h.list q).0 z))
-begin_within backwards g entries Yes beside s k h =
+begin_within backwards g entries Yes facts s k h =
     both g entries s (rising_once s.list h.rising) (λ q z. match_below g.places q None ((h.list q).0 z))
-begin_within backwards g entries (Pattern p) beside s k h =
+begin_within backwards g entries (Pattern p) facts s k h =
     both g entries s (rising_once s.list h.rising)
     (λ q z. match_below g.places q (Some p) ((accepts p (place_at g.places q)).1 ((h.list q).0 z)))
 
-lead_within : (d : Direction) (g : Setting) (entries : List ℕ) (s t : State) (beside : Option ℕ) →
+lead_within : (d : Direction) (g : Setting) (entries : List ℕ) (s t : State) (sides : Sides) →
     let m : Machine = record { setting = g; entries = entries; direction = d } in
-    IsMachine m → leads_by d g entries s beside t → IsWithin m t
-lead_within (forwards kind) g entries s t beside k h =
-    let i = kind_law.inside kind g 0 s t beside k.closed k.rooted h in
-    record { places = i; below = kind_law.below kind (length g.places) t.list i; short = kind_law.short kind g 0 s t beside k.closed k.rooted h }
-lead_within backwards g entries s t beside k h =
-    let i = backward_law.inside g entries s t beside h in
+    IsMachine m → leads_over d g.places entries s sides t → IsWithin m t
+lead_within (forwards kind) g entries s t sides k h =
+    let i = kind_law.inside kind g.places 0 s t sides k.closed k.rooted h in
+    record { places = i; below = kind_law.below kind (length g.places) t.list i; short = kind_law.short kind g.places 0 s t sides k.closed k.rooted h }
+lead_within backwards g entries s t sides k h =
+    let i = backward_law.inside g.places entries s t sides h in
     both g entries t i.0 i.1
 
 pub machine_law : MachineLaw
 machine_law = record {
-  begins = λ m anchored beside s k h. begin_within m.direction m.setting m.entries anchored beside s k h;
-  leads = λ m s t beside k h. lead_within m.direction m.setting m.entries s t beside k h;
+  begins_beside = λ m anchored facts s k h. begin_within m.direction m.setting m.entries anchored facts s k h;
+  leads_over = λ m s t sides k h. lead_within m.direction m.setting m.entries s t sides k h;
+  begins = λ m anchored beside s k h. begin_within m.direction m.setting m.entries anchored _ s k h;
+  leads = λ m s t beside k h. lead_within m.direction m.setting m.entries s t _ k h;
 }

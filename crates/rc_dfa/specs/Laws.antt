@@ -11,13 +11,15 @@ use Rattle.rc_program.specs.Text.{Text}
 use Rattle.rc_program.specs.Program.{place_at, ways, is_match_place}
 use Rattle.rc_determinize.specs.Gives.{Gives}
 use Rattle.rc_determinize.specs.LongestLaws.{GivesLongest}
+use Rattle.rc_determinize.specs.declared.sides.Seen.{Seen}
+use Rattle.rc_determinize.specs.declared.sides.Sides.{Sides}
 use Rattle.rc_determinize.specs.Run.{Reaches, IsGoal}
 use Rattle.rc_determinize.specs.Steps.{AreBelow}
 use Rattle.rc_determinize.specs.Sets.{Comes, ComesHere, EndsHere}
 use Rattle.rc_determinize.specs.States.{Setting, State, IsInside, Stops, all_starts}
 use Rattle.rc_determinize.specs.Backward.{IsFirstRoot, IsLeastSoFar}
 use Rattle.rc_determinize.specs.Spans.{IsLastSoFar}
-use Rattle.rc_dfa.specs.Machine.{Machine, forwards, backwards, entry_bound, longest_in, IsListIn, Leads, Begins, IsMachine, is_dead}
+use Rattle.rc_dfa.specs.Machine.{Machine, forwards, backwards, entry_bound, longest_in, IsListIn, Leads, LeadsOver, Begins, BeginsBeside, IsMachine, is_dead}
 use Rattle.rc_dfa.specs.Runs.{met_last, stopped_at, MayRead, Alphabet, bytes, symbols, Runs, SearchEndsOver, SearchEndsDownOver, ahead_at, behind_at}
 
 -- The state has places of the program, each once. So it is no longer than the program, or than
@@ -27,8 +29,10 @@ pub record IsWithin (m : Machine) (s : State) : Type 0 where
   pub below : AreBelow (entry_bound m.direction (length m.setting.places)) s.list
   pub short : length s.list ≤ longest_in m.direction (length m.setting.places)
 
--- The law of the states of a determinizer.
+-- The law of the states of a determinizer: by what is told of the sides, or by bytes alone.
 pub record MachineLaw : Type 0 where
+  pub begins_beside : (m : Machine) (anchored : Anchored) (facts : Seen) (s : State) → IsMachine m → BeginsBeside m anchored facts s → IsWithin m s
+  pub leads_over : (m : Machine) (s t : State) (sides : Sides) → IsMachine m → LeadsOver m s sides t → IsWithin m t
   pub begins : (m : Machine) (anchored : Anchored) (beside : Option ℕ) (s : State) → IsMachine m → Begins m anchored beside s → IsWithin m s
   pub leads : (m : Machine) (s t : State) (beside : Option ℕ) → IsMachine m → Leads m s beside t → IsWithin m t
 
