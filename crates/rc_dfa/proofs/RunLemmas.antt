@@ -16,7 +16,7 @@ use Rattle.rc_determinize.specs.Spans.{IsLastSoFar}
 use Rattle.rc_determinize.proofs.LawLemmas.{forward_law}
 use Rattle.rc_dfa.specs.Machine.{Direction, forwards, backwards, Machine, IsMachine}
 use Rattle.rc_dfa.specs.Runs.{RunEnd, met_last, stopped_at, Alphabet, bytes, symbols, MayReadSide, BeginsBy, at_bound, SearchEndsOver, SearchEndsDownOver, ran, unread}
-use Rattle.rc_dfa.specs.Laws.{starts_of, position_of, IsUnread, RunLawOver, RunLaw, SymbolRunLaw}
+use Rattle.rc_dfa.specs.Laws.{starts_of, position_of, IsUnread, RunLawOver, RunLaw}
 use Rattle.rc_dfa.proofs.AlphabetLemmas.{near_ahead, begins_ahead}
 use Rattle.rc_dfa.proofs.StartLemmas.{IsRoot, some_root, stop_no_met, fewer_starts, starts_within}
 use Rattle.rc_dfa.proofs.FirstLemmas as first
@@ -154,7 +154,7 @@ module _ (a : Alphabet) (g : Setting) (entries : List ℕ) (ok : IsSetting g) (t
 pub turned : (m : Machine) (d : Direction) → m.direction ≡ d → (P : Machine → Type 0) → P m → P (record m { direction = d })
 turned m d e P h = subst (λ x. P (record m { direction = x })) e h
 
-run_by : (a : Alphabet) → RunLawOver a
+pub run_by : (a : Alphabet) → RunLawOver a
 run_by a = record {
   first = λ m t hi from anchored r k d same inside s.
       first_run a m.setting m.entries k.setting t same hi from inside anchored false (met_last r) r
@@ -199,10 +199,3 @@ run_by a = record {
 
 pub run_law : RunLaw
 run_law = run_by bytes
-
-pub symbol_run_law : SymbolRunLaw
-symbol_run_law = record {
-  finds = run_by symbols;
-  reads_all = λ m t hi from anchored earliest p s. matched.reads_all m t hi from anchored earliest (stopped_at p) p s refl;
-  reads_all_down = λ m t lo end anchored earliest p s. matched.reads_all_down m t lo end anchored earliest (stopped_at p) p s refl;
-}

@@ -7,7 +7,8 @@ use Rattle.rc_text.specs.declared.types.Anchored.{Anchored}
 use Rattle.rc_text.specs.declared.types.Anchored.TheVariants.{No, Yes, Pattern}
 use Rattle.rc_text.specs.Plain.{only_pattern}
 use Rattle.rc_walks.specs.Walks.{Pair}
-use Rattle.rc_program.specs.Text.{Text}
+use Rattle.rc_program.specs.Looks.{Side}
+use Rattle.rc_program.specs.Text.{Text, before_at, after_at}
 use Rattle.rc_program.specs.Program.{place_at, ways, is_match_place}
 use Rattle.rc_determinize.specs.Gives.{Gives}
 use Rattle.rc_determinize.specs.LongestLaws.{GivesLongest}
@@ -15,12 +16,13 @@ use Rattle.rc_determinize.specs.declared.sides.Seen.{Seen}
 use Rattle.rc_determinize.specs.declared.sides.Sides.{Sides}
 use Rattle.rc_determinize.specs.Run.{Reaches, IsGoal}
 use Rattle.rc_determinize.specs.Steps.{AreBelow}
-use Rattle.rc_determinize.specs.Sets.{Comes, ComesHere, EndsHere}
+use Rattle.rc_determinize.specs.Sides.{byte_of, told_side, sides_near}
+use Rattle.rc_determinize.specs.Sets.{Comes, ComesHere, ComesOver, EndsHere, EndsOver}
 use Rattle.rc_determinize.specs.States.{Setting, State, IsInside, Stops, all_starts}
 use Rattle.rc_determinize.specs.Backward.{IsFirstRoot, IsLeastSoFar}
 use Rattle.rc_determinize.specs.Spans.{IsLastSoFar}
 use Rattle.rc_dfa.specs.Machine.{Machine, forwards, backwards, entry_bound, longest_in, IsListIn, Leads, LeadsOver, Begins, BeginsBeside, IsMachine, is_dead}
-use Rattle.rc_dfa.specs.Runs.{met_last, stopped_at, MayRead, Alphabet, bytes, symbols, Runs, SearchEndsOver, SearchEndsDownOver, ahead_at, behind_at}
+use Rattle.rc_dfa.specs.Runs.{met_last, stopped_at, Alphabet, bytes, symbols, MayReadSide, BeginsBy, RunsOver, SearchEndsOver, SearchEndsDownOver}
 
 -- The state has places of the program, each once. So it is no longer than the program, or than
 -- twice the program if it has marks.
@@ -117,29 +119,41 @@ pub record RunLawOver (a : Alphabet) : Type 0 where
 abbrev pub RunLaw : Type 0
 RunLaw = RunLawOver bytes
 
--- The law of runs over symbols: they find the same, whatever bytes there are, and never stop.
-pub record SymbolRunLaw : Type 0 where
-  pub finds : RunLawOver symbols
-  pub reads_all : (m : Machine) (t : Text) (hi from : ℕ) (anchored : Anchored) (earliest : Bool) (p : ℕ) →
-      ¬ SearchEndsOver symbols m t hi from anchored earliest (stopped_at p)
-  pub reads_all_down : (m : Machine) (t : Text) (lo end : ℕ) (anchored : Anchored) (earliest : Bool) (p : ℕ) →
-      ¬ SearchEndsDownOver symbols m t lo end anchored earliest (stopped_at p)
+-- Some walk comes to the place at the state's position, by what stands ahead.
+abbrev pub ComesOn : Alphabet → Machine → Side → State → ℕ → Type 0
+ComesOn bytes m side s = ComesHere m.setting s (byte_of side)
+ComesOn symbols m side s =
+    ComesOver m.setting.places s (sides_near m.setting.needs m.setting.terminator side (told_side m.setting.needs m.setting.terminator side))
 
--- The law of what runs for `MatchKind::All` tell of walks at each position.
-pub record OverlapLaw : Type 0 where
+-- The law of what runs for `MatchKind::All` tell of walks at each position, whatever they read.
+pub record OverlapLawOver (a : Alphabet) : Type 0 where
   -- To which places walks come.
   pub comes : (m : Machine) (t : Text) (hi from : ℕ) (anchored : Anchored) (first s : State) (i : ℕ) (met : Option Pair) → IsMachine m →
-      m.direction ≡ forwards all_matches → m.setting.terminator ≡ t.terminator → IsInside t from hi → MayRead m (behind_at t from) →
-      Begins m anchored (behind_at t from) first → Runs m t hi from first i s met → i ≤ hi → MayRead m (ahead_at t i) →
-      (q : ℕ) → ComesHere m.setting s (ahead_at t i) q ↔ Comes (ways m.setting.places t hi) (starts_of m anchored from hi) (q, i)
+      m.direction ≡ forwards all_matches → m.setting.terminator ≡ t.terminator → IsInside t from hi → MayReadSide a m (before_at t from) →
+      BeginsBy a m anchored (before_at t from) first → RunsOver a m t hi from first i s met → i ≤ hi → MayReadSide a m (after_at t i) →
+      (q : ℕ) → ComesOn a m (after_at t i) s q ↔ Comes (ways m.setting.places t hi) (starts_of m anchored from hi) (q, i)
   -- From where nothing goes on, none comes to any.
   pub dies : (m : Machine) (t : Text) (hi from : ℕ) (anchored : Anchored) (first s : State) (i : ℕ) (met : Option Pair) → IsMachine m →
-      m.direction ≡ forwards all_matches → m.setting.terminator ≡ t.terminator → IsInside t from hi → MayRead m (behind_at t from) →
-      Begins m anchored (behind_at t from) first → Runs m t hi from first i s met → is_dead s ≡ true →
+      m.direction ≡ forwards all_matches → m.setting.terminator ≡ t.terminator → IsInside t from hi → MayReadSide a m (before_at t from) →
+      BeginsBy a m anchored (before_at t from) first → RunsOver a m t hi from first i s met → is_dead s ≡ true →
       (q y : ℕ) → i ≤ y → ¬ Comes (ways m.setting.places t hi) (starts_of m anchored from hi) (q, y)
   -- None comes to a position outside the bounds.
   pub within : (m : Machine) (t : Text) (hi from : ℕ) (anchored : Anchored) (q y : ℕ) → IsMachine m → from ≤ hi →
       Comes (ways m.setting.places t hi) (starts_of m anchored from hi) (q, y) → (from ≤ y) × (y ≤ hi)
   -- On the way to a state with nothing met, no walk ended.
+  pub unmet_over : (m : Machine) (s next : State) (sides : Sides) → m.direction ≡ forwards all_matches → LeadsOver m s sides next → next.matched ≡ None →
+      (q : ℕ) → ¬ EndsOver m.setting.places s sides q
   pub unmet : (m : Machine) (s next : State) (beside : Option ℕ) → m.direction ≡ forwards all_matches → Leads m s beside next → next.matched ≡ None →
       (q : ℕ) → ¬ EndsHere m.setting s beside q
+
+abbrev pub OverlapLaw : Type 0
+OverlapLaw = OverlapLawOver bytes
+
+-- The law of runs over symbols: they find the same, whatever bytes there are, and never stop.
+pub record SymbolRunLaw : Type 0 where
+  pub finds : RunLawOver symbols
+  pub overlaps : OverlapLawOver symbols
+  pub reads_all : (m : Machine) (t : Text) (hi from : ℕ) (anchored : Anchored) (earliest : Bool) (p : ℕ) →
+      ¬ SearchEndsOver symbols m t hi from anchored earliest (stopped_at p)
+  pub reads_all_down : (m : Machine) (t : Text) (lo end : ℕ) (anchored : Anchored) (earliest : Bool) (p : ℕ) →
+      ¬ SearchEndsDownOver symbols m t lo end anchored earliest (stopped_at p)

@@ -12,14 +12,15 @@ use Rattle.rc_program.proofs.PlaceLemmas.{program_some}
 use Rattle.rc_determinize.specs.Steps.{HasPlace, HasWay, Steps, Adds, IsStep}
 use Rattle.rc_determinize.specs.Steps as steps
 use Rattle.rc_determinize.specs.Sets.{Comes, begins, goes, ArrivesAt}
-use Rattle.rc_determinize.specs.Sides.{out_over, sides_near, byte_of, IsReadable}
-use Rattle.rc_determinize.specs.States.{Setting, IsSetting, State, is_match, root_if, IsNext, IsFirst, IsInside, IsUnderWay, Stops, all_starts, best_at}
+use Rattle.rc_determinize.specs.Sides.{out_over, told_side, sides_near, byte_of}
+use Rattle.rc_determinize.specs.States.{Setting, IsSetting, State, is_match, root_if, IsNextOver, IsFirstBeside, sides_ahead, IsInside, IsUnderWay, Stops, all_starts, best_at}
 use Rattle.rc_determinize.proofs.BackwardLemmas.{each_way, same_position, next_position, IsStay}
 use Rattle.rc_determinize.proofs.LawLemmas.{forward_law, gather_law}
 use Rattle.rc_determinize.proofs.MachineLemmas.{has_left, has_right}
-use Rattle.rc_determinize.proofs.TextLemmas.{out_here, same_below, near, told_after, near_told}
-use Rattle.rc_dfa.specs.Machine.{Machine, forwards, is_root_alone}
-use Rattle.rc_dfa.specs.Runs.{RunEnd, met_last, stopped_at, idle_at, EndsSo, SearchEnds, ran, unread}
+use Rattle.rc_determinize.proofs.TextLemmas.{out_here, same_below, near}
+use Rattle.rc_dfa.specs.Machine.{Machine, forwards, is_root_alone, IsMachine}
+use Rattle.rc_dfa.specs.Runs.{Alphabet, bytes, RunEnd, met_last, stopped_at, idle_at, EndsOver, SearchEndsOver, ran}
+use Rattle.rc_dfa.proofs.AlphabetLemmas.{across_ahead, begins_ahead}
 use Rattle.rc_dfa.specs.Runs as runs
 use Rattle.rc_idle.specs.Idle.{LeadOn, IdleLaw}
 use Rattle.rc_idle.proofs.EnteredLemmas.{program_leads_on, bytes_lead_on, leads_on}
@@ -165,9 +166,9 @@ module _ (g : Setting) (ok : IsSetting g) (t : Text) (terminator : g.terminator 
     pub unmet : (q e : ℕ) → e < i → Comes W origin (q, e) → ¬ IsTrue (is_match g.places q)
     pub goes_on : s.goes_on ≡ true
 
-  begun_so : (first : State) → IsReadable g.needs (byte_of (before_at t from)) → IsFirst g 0 (byte_of (before_at t from)) false first → IsCovered from first
-  begun_so first may f = record {
-    under = forward_law.begins g t hi 0 from false first ok terminator may f;
+  begun_so : (first : State) → IsFirstBeside 0 (told_side g.needs g.terminator (before_at t from)) false first → IsCovered from first
+  begun_so first f = record {
+    under = forward_law.begins_beside g t hi 0 from false first ok terminator f;
     above = omega arith;
     list = λ q h. subst (λ l. HasPlace q l) (sym f.list)
         (⊎_elim (λ x. inl (sym (is_start q from x).0)) (λ x. let low = comes_low x.3 in let e = x.2 in absurd (omega (arith, low, e))) h);
@@ -175,8 +176,8 @@ module _ (g : Setting) (ok : IsSetting g) (t : Text) (terminator : g.terminator 
     goes_on = f.goes_on;
   }
 
-  module _ (i : ℕ) (lt : i < hi) (s s2 : State) (c : IsCovered i s) (may : IsReadable g.needs (byte_of (after_at t i)))
-      (n : IsNext g 0 s (byte_of (after_at t i)) s2) (none : s2.matched ≡ None) where
+  module _ (i : ℕ) (lt : i < hi) (s s2 : State) (c : IsCovered i s)
+      (n : IsNextOver g.places 0 s (sides_ahead g t i) s2) (none : s2.matched ≡ None) where
     abbrev out : ℕ → List Way
     out = out_here g.places g.needs ok.by_bytes ok.covers t i
 
@@ -188,8 +189,8 @@ module _ (g : Setting) (ok : IsSetting g) (t : Text) (terminator : g.terminator 
 
     step : IsStep out (is_match g.places) s.list n.next s2.matched
     step = subst (λ o. IsStep o (is_match g.places) s.list n.next s2.matched)
-        (ap (λ x. out_over g.places s.beside x) (near_told g.needs g.terminator (after_at t i) _ (told_after g.needs g.terminator t i may) refl)
-        ∙ ap₂ (λ x b. out_over g.places b (sides_near g.needs x (after_at t i) s.beside)) terminator c.under.beside) n.is_step
+        (ap₂ (λ x b. out_over g.places b (sides_near g.needs x (after_at t i) (told_side g.needs g.terminator (before_at t (i + 1))))) terminator
+        c.under.beside) n.is_step
 
     all : IsCollected out (is_match g.places) [] (map stays s.list) step.onward step.visited
     all = collected out (is_match g.places) none step.steps
@@ -213,7 +214,7 @@ module _ (g : Setting) (ok : IsSetting g) (t : Text) (terminator : g.terminator 
     goes_so : IsCovered (i + 1) s2
     goes_so = record {
       under = subst (λ b. IsUnderWay g t hi 0 origin (i + 1) s2 (best_at i b None)) none
-          (forward_law.goes g t hi 0 origin i s s2 None ok terminator lt here c.under may n);
+          (forward_law.goes_over g t hi 0 origin i s s2 None ok terminator lt here c.under n);
       above = let above = c.above in omega (arith, above);
       list = λ q h. ⊎_elim
           (λ x. added_right q n.joined (subst (λ b. HasPlace q (root_if b 0)) (sym on) (inl (sym (is_start q (i + 1) x).0))))
@@ -240,14 +241,16 @@ module _ (g : Setting) (ok : IsSetting g) (t : Text) (terminator : g.terminator 
 abbrev ahead_by : Setting → List ℕ → Machine
 ahead_by g entries = record { setting = g; entries = entries; direction = forwards leftmost_first }
 
-module _ (g : Setting) (entries : List ℕ) (ok : IsSetting g) (on : LeadOn g.places) (t : Text) (terminator : g.terminator ≡ t.terminator) (hi from : ℕ)
+module _ (a : Alphabet) (g : Setting) (entries : List ℕ) (ok : IsSetting g) (on : LeadOn g.places) (t : Text) (terminator : g.terminator ≡ t.terminator) (hi from : ℕ)
     (inside : IsInside t from hi) where
   covered : {first : State} {i : ℕ} {s : State} {met : Option Pair} → met ≡ None → IsCovered g ok t terminator hi from inside from first →
-      runs.Runs (ahead_by g entries) t hi from first i s met → IsCovered g ok t terminator hi from inside i s
+      runs.RunsOver a (ahead_by g entries) t hi from first i s met → IsCovered g ok t terminator hi from inside i s
   covered none c runs.begun = c
   covered none c (runs.goes_on {met} i s next run lt may leads) =
       let b = best_none i next.matched met none in
-      goes_so g ok t terminator hi from inside i lt s next (covered b.1 c run) may leads b.0
+      let d = covered b.1 c run in
+      let here : IsInside t i hi = let low = inside.low in let above = d.above in record { low = omega (arith, low, above); high = inside.high; bounded = inside.bounded } in
+      goes_so g ok t terminator hi from inside i lt s next d (across_ahead a (ahead_by g entries) t hi i lt here may s next leads) b.0
 
   -- from a place before that of rest no walk leads on to it
   module _ (i : ℕ) (s : State) (c : IsCovered g ok t terminator hi from inside i s) (rests : s.list ≡ 0 ∷ []) where
@@ -294,7 +297,7 @@ module _ (g : Setting) (entries : List ℕ) (ok : IsSetting g) (on : LeadOn g.pl
   rest_of (idle_at i) = Some i
 
   none_ends : (earliest : Bool) (first : State) (e : RunEnd) (i : ℕ) → IsCovered g ok t terminator hi from inside from first →
-      EndsSo (ahead_by g entries) t hi from first earliest e → rest_of e ≡ Some i → (z : ℕ) → from ≤ z → z < i →
+      EndsOver a (ahead_by g entries) t hi from first earliest e → rest_of e ≡ Some i → (z : ℕ) → from ≤ z → z < i →
       HasNoWalk (ways g.places t hi) (Stops g.places) [] ((0, z) ∷ [])
   none_ends earliest first e i c (runs.at_bound s next run may leads) is = absurd (none-some i is)
   none_ends earliest first e i c (runs.dead k s run dead) is = absurd (none-some i is)
@@ -309,18 +312,25 @@ module _ (g : Setting) (entries : List ℕ) (ok : IsSetting g) (on : LeadOn g.pl
       (omega (arith, lt, at), begins (0, z) (a_start g ok t terminator hi from inside z low (omega (arith, lt, at, le)))))
       (λ never. absurd never) here) walk
 
-  none_in : (earliest : Bool) (i : ℕ) → SearchEnds (ahead_by g entries) t hi from No earliest (idle_at i) → (z : ℕ) → from ≤ z → z < i →
+  none_in : (earliest : Bool) (i : ℕ) → SearchEndsOver a (ahead_by g entries) t hi from No earliest (idle_at i) → (z : ℕ) → from ≤ z → z < i →
       HasNoWalk (ways g.places t hi) (Stops g.places) [] ((0, z) ∷ [])
   none_in earliest i (ran first may begin so) =
-      none_ends earliest first (idle_at i) i (begun_so g ok t terminator hi from inside first may begin) so refl
+      none_ends earliest first (idle_at i) i (begun_so g ok t terminator hi from inside first
+      (begins_ahead a (ahead_by g entries) No t from first may begin)) so refl
 
 turned : (m : Machine) → m.direction ≡ forwards leftmost_first → (P : Machine → Type 0) → P m → P (ahead_by m.setting m.entries)
 turned m e P h = subst (λ d. P (record m { direction = d })) e h
 
+none_before : (a : Alphabet) (m : Machine) (t : Text) (hi from i : ℕ) (earliest : Bool) → IsMachine m → m.direction ≡ forwards leftmost_first →
+    m.setting.terminator ≡ t.terminator → IsInside t from hi → LeadOn m.setting.places → SearchEndsOver a m t hi from No earliest (idle_at i) →
+    (z : ℕ) → from ≤ z → z < i → HasNoWalk (ways m.setting.places t hi) (Stops m.setting.places) [] ((0, z) ∷ [])
+none_before a m t hi from i earliest k d terminator inside on h =
+    none_in a m.setting m.entries k.setting on t terminator hi from inside earliest i
+    (turned m d (λ x. SearchEndsOver a x t hi from No earliest (idle_at i)) h)
+
 pub idle_law : IdleLaw
 idle_law = record {
   leads_on = λ hs. bytes_lead_on (program hs) (program_some hs) (program_leads_on hs);
-  none_before = λ m t hi from i earliest k d terminator inside on h.
-      none_in m.setting m.entries k.setting on t terminator hi from inside earliest i
-      (turned m d (λ x. SearchEnds x t hi from No earliest (idle_at i)) h);
+  none_before_over = none_before;
+  none_before = none_before bytes;
 }
