@@ -6,7 +6,7 @@ use Rattle.rc_onepass.specs.Rows.{GrowsLinks, Names, none, one}
 use Rattle.rc_onepass.specs.Walked.{Marks, has}
 use Rattle.rc_onepass.specs.declared.row.Link.{Link}
 
-get_pushed : {X : Type 0} (xs : List X) (x : X) → slice_get (xs ++ x ∷ []) (length xs) ≡ Some x
+pub get_pushed : {X : Type 0} (xs : List X) (x : X) → slice_get (xs ++ x ∷ []) (length xs) ≡ Some x
 get_pushed [] x = refl
 get_pushed (y ∷ xs) x = get_pushed xs x
 
@@ -18,7 +18,7 @@ names_within : (xs : List Link) {j : ℕ} {ks : List ℕ} → Names xs j ks → 
 names_within xs none = omega arith
 names_within xs (one i link at lt rest) = let l = slice_get_within xs i link at in omega (arith, l)
 
-get_kept : {X : Type 0} (xs ys : List X) (i : ℕ) (x : X) → slice_get xs i ≡ Some x → slice_get (xs ++ ys) i ≡ Some x
+pub get_kept : {X : Type 0} (xs ys : List X) (i : ℕ) (x : X) → slice_get xs i ≡ Some x → slice_get (xs ++ ys) i ≡ Some x
 get_kept [] ys i x e = absurd (none-some x e)
 get_kept (y ∷ xs) ys zero x e = e
 get_kept (y ∷ xs) ys (suc i) x e = get_kept xs ys i x e

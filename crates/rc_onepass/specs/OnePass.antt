@@ -21,6 +21,11 @@ pub data Leads (places : List Place) : List ℕ → ℕ → List ℕ → ℕ →
 abbrev pub Takes : Place → ℕ → ℕ → Type 0
 Takes q b n = Contains (ways_out (λ l. true) (b ∷ []) q) (reads 1 n)
 
+-- The place q is entered first, or after a byte.
+pub data IsEntered (places : List Place) : ℕ → Type 0 where
+  at_first : IsEntered places 0
+  by_byte : {q : ℕ} (m b : ℕ) → Takes (place_at places m) b q → IsEntered places q
+
 -- Over an ASCII byte, and to a match place, at most one way leads from q, whatever assertions say.
 pub record IsOnePass (places : List Place) (q : ℕ) : Type 0 where
   pub over : (b : ℕ) → b < 128 → (js ks : List ℕ) (l m i n : ℕ) → Leads places [] q js l → Takes (place_at places l) b i →

@@ -1,10 +1,10 @@
 -- Only proofs use this file.
 -- Rows: what a one-pass DFA tells of the ways from a place.
-use Rattle.std.specs.Prelude.{◌≡◌, ℕ, suc, ◌<◌, ◌⊎◌, List, [], ◌∷◌, length, Option, Some, None, slice_get, slice_index_or}
+use Rattle.std.specs.Prelude.{◌≡◌, ℕ, suc, ◌+◌, ◌*◌, ◌<◌, ◌⊎◌, List, [], ◌∷◌, length, Option, Some, None, slice_get, slice_index_or}
 use Rattle.std.specs.List.{Contains}
 use Rattle.rc_program.specs.Program.{Place, accept, place_at}
 use Rattle.rc_program.specs.Heads.{silent}
-use Rattle.rc_onepass.specs.OnePass.{IsOnePass, Leads, Takes, named}
+use Rattle.rc_onepass.specs.OnePass.{IsEntered, IsOnePass, Leads, Takes, named}
 use Rattle.rc_onepass.specs.declared.row.Link.{Link}
 use Rattle.rc_onepass.specs.declared.row.Row.{Row}
 use Rattle.rc_onepass.specs.declared.row.Transition.{Transition}
@@ -45,12 +45,26 @@ pub record TellsRow (places : List Place) (q : ℕ) (row : Row) : Type 0 where
 abbrev pub AreRows : List Place → List (Option Row) → Type 0
 AreRows places rows = (q : ℕ) (row : Row) → slice_get rows q ≡ Some (Some row) → TellsRow places q row
 
-abbrev pub IsOnePassOf : List Place → OnePass → Type 0
-IsOnePassOf places dfa = AreRows places dfa.rows.items
+-- Each place that is entered first or after a byte has a row.
+abbrev pub HasRows : List Place → List (Option Row) → Type 0
+HasRows places rows = (q : ℕ) → q < length places → IsEntered places q → (row : Row) × (slice_get rows q ≡ Some (Some row))
+
+pub record IsOnePassOf (places : List Place) (dfa : OnePass) : Type 0 where
+  pub rows : AreRows places dfa.rows.items
+  pub whole : HasRows places dfa.rows.items
 
 -- From each place that has a row, at most one way leads on.
 abbrev pub LeadOneWay : List Place → OnePass → Type 0
 LeadOneWay places dfa = (q : ℕ) (row : Row) → slice_get dfa.rows.items q ≡ Some (Some row) → IsOnePass places q
+
+-- How many bytes the transitions and links of the rows take.
+abbrev pub bytes_of_row : Option Row → ℕ
+bytes_of_row None = 0
+bytes_of_row (Some row) = 24 * length row.transitions.items + 16 * length row.links.items
+
+abbrev pub bytes_of_rows : List (Option Row) → ℕ
+bytes_of_rows [] = 0
+bytes_of_rows (row ∷ rows) = bytes_of_row row + bytes_of_rows rows
 
 -- While a row is made.
 

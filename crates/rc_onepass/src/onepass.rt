@@ -1,11 +1,12 @@
 //! One-pass DFA: the rows of a program, and the slots of a match by them.
-ghost use Rattle.std.specs.Prelude.{◌≡◌, ◌+◌, ◌≤◌, IfOk, IfSome, List, Option, Some, length, slice_get, slice_index_or, slice_range, true, ℕ, None, ◌<◌};
+ghost use Rattle.std.specs.Prelude.{◌≡◌, ◌≢◌, ◌+◌, ◌≤◌, IfOk, IfSome, List, MatchOption, Option, Some, length, min, slice_get, slice_index_or, slice_range, true, false, ℕ, None, ◌<◌};
 ghost use Rattle.rc_text.specs.Text.{Keeps};
 ghost use Rattle.rc_walks.specs.Walks.{Pair};
 ghost use Rattle.rc_program.specs.Answer.{Chosen, Search, last_of};
-ghost use Rattle.rc_program.specs.Places.{places_of};
-ghost use Rattle.rc_onepass.specs.Rows.{IsOnePassOf, LeadOneWay, Names};
-ghost use Rattle.rc_onepass.specs.Walked.{HasVisits, IsWalkOver, Marks, Stands};
+ghost use Rattle.rc_program.specs.Places.{place_of, places_of};
+ghost use Rattle.rc_onepass.specs.OnePass.{IsEntered, Takes};
+ghost use Rattle.rc_onepass.specs.Rows.{IsOnePassOf, LeadOneWay, Names, bytes_of_rows};
+ghost use Rattle.rc_onepass.specs.Walked.{HasVisits, HasWide, IsWalkOver, Marks, Stands};
 
 use crate::closure::row_of;
 use crate::row::{Link, Row, Transition, bytes_of};
@@ -23,18 +24,30 @@ pub struct OnePass {
     pub rows: Vec<Option<Row>>,
 }
 
+/// Returns the place to which a place leads over what it reads, or None if it reads nothing.
+fn read_to(place: &Place) -> Option<usize>
+    ensures { (b n : ℕ) → Takes (place_of place.now) b n → result ≡ Some n }
+{
+    match place {
+        Place::Byte(_, next) | Place::Bytes(_, next) | Place::Scalar(_, next) => Some(*next),
+        _ => None,
+    }
+}
+
 /// Returns for each place whether it is entered after a byte, or first. `Err` means out of memory.
 fn entered(alloc: Global, places: &[Place]) -> Result<Vec<bool>, AllocError>
-    ensures { IfOk result (λ flags. length flags.items ≡ length places.now) }
+    ensures long { IfOk result (λ flags. length flags.items ≡ length places.now) }
+    ensures entered { IfOk result (λ flags. (q : ℕ) → q < length places.now
+        → IsEntered (places_of places.now) q → slice_index_or flags.items q false ≡ true) }
 {
     let mut flags = vec![in alloc; false; places.len()]?;
     if !flags.is_empty() {
         flags[0] = true;
     }
     for place in places {
-        if let Place::Byte(_, next) | Place::Bytes(_, next) | Place::Scalar(_, next) = place {
-            if *next < flags.len() {
-                flags[*next] = true;
+        if let Some(next) = read_to(place) {
+            if next < flags.len() {
+                flags[next] = true;
             }
         }
     }
@@ -108,10 +121,25 @@ impl OnePass {
         Ok(Some(OnePass { rows }))
     }
 
+    /// Returns how many bytes the rows take, or `usize::MAX` if that is more.
+    pub fn memory_usage(&self) -> usize
+        ensures { result ≡ min (bytes_of_rows self.now.rows.items) usize.MAX }
+    {
+        let mut bytes = 0usize;
+        for row in &self.rows {
+            if let Some(row) = row {
+                bytes = bytes.saturating_add(bytes_of(row));
+            }
+        }
+        bytes
+    }
+
     /// Returns the place's row.
     #[inline(always)]
     fn row(&self, place: usize) -> Option<&Row>
-        ensures { IfSome result (λ row. slice_get self.now.rows.items place ≡ Some (Some row.now)) }
+        ensures { MatchOption result
+            ((row : Row) → slice_get self.now.rows.items place ≢ Some (Some row))
+            (λ row. slice_get self.now.rows.items place ≡ Some (Some row.now)) }
     {
         match self.rows.get(place) {
             Some(Some(row)) => Some(row),
@@ -136,6 +164,11 @@ impl OnePass {
             → piece.now ≡ slice_range s.text.content start (start + length piece.now)
             → start + length piece.now ≤ (last_of w).1 → Stands s w before start from slots.old
             → Stands s w before (start + length piece.now) to slots.new) }
+        ensures wide { result ≡ None → (s : Search) (w : List Pair)
+            (before : List (Option ℕ)) → IsOnePassOf s.places self.now
+            → piece.now ≡ slice_range s.text.content start (start + length piece.now)
+            → start + length piece.now ≤ (last_of w).1 → Stands s w before start from slots.old
+            → HasWide s.text.content start (start + length piece.now) }
     {
         let mut place = from;
         for i in 0..piece.len() {
@@ -162,6 +195,11 @@ impl OnePass {
             → s.text.content ≡ input.old.content → span.end ≡ (last_of w).1
             → Stands s w before span.start 0 slots.old
             → span.start ≤ span.end → Stands s w before span.end to slots.new) }
+        ensures wide { result ≡ None → (s : Search) (w : List Pair)
+            (before : List (Option ℕ)) → IsOnePassOf s.places self.now
+            → s.text.content ≡ input.old.content → span.end ≡ (last_of w).1
+            → Stands s w before span.start 0 slots.old
+            → span.start ≤ span.end → HasWide s.text.content span.start span.end }
     {
         let mut at = span.start;
         let mut place = 0;
@@ -176,8 +214,8 @@ impl OnePass {
         Some(place)
     }
 
-    /// Sets the slots of the groups of a match, and leaves the others as they are. Returns false if
-    /// the match contains a byte past ASCII; then some slots may be set.
+    /// Sets the slots of the groups of a match, and leaves the others as they are. Returns false only
+    /// if the match contains a byte past ASCII; then some slots may be set.
     pub fn set_groups<C: Cursor>(
         &self,
         input: &mut Input<C>,
@@ -189,6 +227,9 @@ impl OnePass {
         ensures slots { result ≡ true → (s : Search) (c : Chosen) → IsOnePassOf s.places self.now
             → s.text.content ≡ input.old.content → IsWalkOver s c found
             → HasVisits s c.walk slots.old slots.new }
+        ensures wide { result ≡ false → (s : Search) (c : Chosen) → IsOnePassOf s.places self.now
+            → s.text.content ≡ input.old.content → IsWalkOver s c found
+            → HasWide s.text.content found.start found.end }
     {
         let span = Span {
             start: found.start(),

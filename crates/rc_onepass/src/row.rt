@@ -1,14 +1,13 @@
 //! Rows: to where each ASCII byte leads from a place, and which slots are set on the way.
-ghost use Rattle.std.specs.Prelude.{◌≡◌, ◌<◌, ◌≤◌, ℕ, IsTrue, None, Some, length, map, slice_index_or, true};
+ghost use Rattle.std.specs.Prelude.{◌≡◌, ◌<◌, ◌≤◌, ℕ, IsTrue, None, Some, length, map, min, slice_index_or, true};
 ghost use Rattle.rc_pattern.specs.Meaning.{byte_range, char_range};
 ghost use Rattle.rc_program.specs.Places.{place_of};
 ghost use Rattle.rc_program.specs.Program.{in_ranges};
 ghost use Rattle.rc_onepass.specs.OnePass.{Takes};
-ghost use Rattle.rc_onepass.specs.Rows.{Fills};
+ghost use Rattle.rc_onepass.specs.Rows.{Fills, bytes_of_row};
 
 use rc_pattern::hir::{ClassBytesRange, ClassUnicodeRange};
 use rc_program::place::Place;
-use std::mem::size_of;
 
 /// How many ASCII bytes there are.
 pub(crate) const ASCII: usize = 128;
@@ -134,12 +133,11 @@ pub(crate) fn enter(transitions: &mut [Option<Transition>], place: &Place, slots
     }
 }
 
-/// Returns about how many bytes the row takes, or `usize::MAX` if that is more.
-pub(crate) fn bytes_of(row: &Row) -> usize {
-    let transitions = row
-        .transitions
-        .len()
-        .saturating_mul(size_of::<Option<Transition>>());
-    let links = row.links.len().saturating_mul(size_of::<Link>());
+/// Returns how many bytes the row's transitions and links take, or `usize::MAX` if that is more.
+pub(crate) fn bytes_of(row: &Row) -> usize
+    ensures { result ≡ min (bytes_of_row (Some row.now)) usize.MAX }
+{
+    let transitions = row.transitions.len().saturating_mul(24);
+    let links = row.links.len().saturating_mul(16);
     transitions.saturating_add(links)
 }
