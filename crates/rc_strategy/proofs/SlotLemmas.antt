@@ -1,6 +1,8 @@
 -- The slots of a match without its groups.
-use Rattle.std.proofs.Common.{◌≡◌, ◌≢◌, ℕ, ◌+◌, ◌*◌, ◌<◌, ◌≤◌, true, false, true≢false, List, [], ◌∷◌, length, Option, Some, None, ⊎_elim, sym, subst, ap, ap₂, ◌∙◌, refl, arith, if◌then◌else◌, slice_set, slice_index_or, replicate, get_or-set_same, get_or-set_other, length-set, eq-eqb, ne_eqb, MatchOption, min, max}
+use Rattle.std.proofs.Common.{◌≡◌, ◌≢◌, IsTrue, ℕ, ◌+◌, ◌*◌, ◌<◌, ◌≤◌, true, false, true≢false, List, [], ◌∷◌, length, Option, Some, None, ⊎_elim, sym, subst, ap, ap₂, ◌∙◌, refl, arith, if◌then◌else◌, slice_set, slice_index_or, replicate, get_or-set_same, get_or-set_other, length-set, eq-eqb, ne_eqb, MatchOption, min, max}
 use Rattle.std.specs.Option.{option_map, option_or}
+use Rattle.std.proofs.Math.Logic.{∥∥₁_elim}
+use denote.Struct.Props.{props}
 use Rattle.std.proofs.lemmas.Bool.{cases_eq, cases_lt}
 use Rattle.std.proofs.lemmas.List.{length-replicate, get_or-replicate}
 use Rattle.std.proofs.lemmas.List.FromFn.{fill_by_all}
@@ -10,11 +12,12 @@ use Rattle.rc_pattern.specs.WellFormed.{group_numbers, group_count}
 use Rattle.rc_text.specs.Found.{Found}
 use Rattle.rc_walks.specs.Walks.{Pair}
 use Rattle.rc_program.specs.Program.{Place, choice, byte, branch, scalar, guard, slot, accept, place_at, program}
-use Rattle.rc_program.specs.Answer.{Search, Chosen, answer, found, groups, last_of, last_visit, names, pattern_of, slot_of, slots_of}
+use Rattle.rc_program.specs.Answer.{Search, Chosen, answer, ends, found, groups, last_of, last_visit, names, next_of, only, pattern_of, slot_of, slots_of}
 use Rattle.rc_program.specs.Longest.{longest, longest_groups}
-use Rattle.rc_program.proofs.AnswerLemmas.{answer_law, chosen_law}
+use Rattle.rc_program.proofs.AnswerLemmas.{answer_law, answer_within, chosen_law, match_place_is, walk_ends}
+use Rattle.rc_program.proofs.GreatestLemmas.{spelled_within}
 use Rattle.rc_program.proofs.ReachLemmas.{longest_law}
-use Rattle.rc_program.proofs.PlaceLemmas.{AnyNumber, LiesInPart, NamesGroup, Suit, each_always, program_sound}
+use Rattle.rc_program.proofs.PlaceLemmas.{accept_below, AnyNumber, LiesInPart, NamesGroup, Suit, each_always, program_sound}
 use Rattle.rc_program.proofs.WayLemmas.{past_places}
 use Rattle.rc_pikevm.specs.KindSlots.{span_slots}
 use Rattle.rc_pikevm.specs.KindSlots.{slots_by}
@@ -26,7 +29,8 @@ use Rattle.rc_text.specs.declared.types.MatchKind.TheVariants.{All as all_matche
 use Rattle.rc_pikevm_search.specs.Engine.{engine_search}
 use Rattle.rc_pikevm_search.specs.declared.engine.Engine.{Engine}
 use Rattle.rc_strategy.specs.Narrow.{narrowed}
-use Rattle.rc_strategy.specs.Slots.{NamesGroups}
+use Rattle.rc_onepass.specs.Walked.{HasVisits, IsWalkOver}
+use Rattle.rc_strategy.specs.Slots.{IsOfPatterns, NamesGroups}
 use Rattle.rc_strategy.specs.Lengths.{is_leftmost}
 use Rattle.rc_strategy.proofs.NarrowLemmas.{narrow_law}
 
@@ -91,7 +95,7 @@ slot_at s c n k l bare =
     (cases_eq k (2 * p + 1))))
     (cases_eq k (2 * p))
 
-length-span : (m : Found) (n : ℕ) → length (span_slots n m) ≡ n
+pub length-span : (m : Found) (n : ℕ) → length (span_slots n m) ≡ n
 length-span m n =
     length-set (slice_set (replicate n None) (2 * m.pattern) (Some m.start)) (2 * m.pattern + 1) (Some m.end)
     ∙ length-set (replicate n None) (2 * m.pattern) (Some m.start) ∙ length-replicate n None
@@ -125,6 +129,13 @@ span_told all_matches s m n patterns slots k numbered le e w = absurd (true≢fa
 span_told leftmost_longest s m n patterns slots k numbered le e w = ap (λ xs. Some xs) w ∙ span_longest s m n patterns numbered le e
 span_told leftmost_first s m n patterns slots k numbered le e w = ap (λ xs. Some xs) w ∙ span_groups s m n patterns numbered le e
 
+-- so where all matches count
+pub span_all : (kind : MatchKind) (s : Search) (m : Found) (n : ℕ) (slots : List (Option ℕ)) → kind ≡ all_matches → answer_by kind s ≡ Some m →
+    slots ≡ span_slots n m → Some slots ≡ slots_by kind s n
+span_all kind s m n slots all e w =
+    subst (λ k. Some slots ≡ slots_by k s n) (sym all)
+    (ap (λ xs. Some xs) w ∙ sym (ap (λ o. option_map (span_slots n) o) (subst (λ k. answer_by k s ≡ Some m) all e)))
+
 -- the groups that the search over the match's span tells are those of the match
 pub narrow_told : (s t : Search) (m : Found) (p : Option ℕ) (before after : List (Option ℕ)) (n : ℕ) → t ≡ narrowed s m → answer s ≡ Some m →
     p ≡ option_map (λ (f : Found). f.pattern) (answer t) → MatchOption p (after ≡ before) (λ _. Some after ≡ groups t n) → Some after ≡ groups s n
@@ -157,3 +168,75 @@ narrow_input e a b m below ordered above k start end slice =
     let lo : max m.start a.slice.start ≡ m.start = omega (arith, below) in
     let hi : min (min m.end a.slice.end) (length a.content) ≡ m.end = omega (arith, above) in
     rw (k.content, slice, start, end) (ap₂ bounded lo hi)
+
+-- A slot of a group comes after those of whole matches of each pattern.
+groups_apart : (places : List Place) → IsOfPatterns places → (q k n r p : ℕ) → place_at places q ≡ slot k n → place_at places r ≡ accept p → 2 * p + 1 < k
+groups_apart places of q k n r p named ended =
+    ∥∥₁_elim of (hlevel props)
+    (λ h. let low = program_names h.0 q k n (subst (λ ps. place_at ps q ≡ slot k n) h.1 named) in
+    let below = accept_below h.0 r p (subst (λ ps. place_at ps r ≡ accept p) h.1 ended) in
+    omega (arith, low, below))
+
+or_none : (o : Option ℕ) → option_or o None ≡ o
+or_none None = refl
+or_none (Some x) = refl
+
+-- what stands in a slot once the walk's visits are written over the whole match
+visited_slot : (s : Search) (c : Chosen) (n : ℕ) (after : List (Option ℕ)) → IsOfPatterns s.places →
+    place_at s.places (last_of c.walk).0 ≡ accept (pattern_of s c) → HasVisits s c.walk (span_slots n (found s c)) after → (k : ℕ) → k < n →
+    slice_index_or after k None ≡ slot_of s c k
+visited_slot s c n after of ended visits k l =
+    let p : ℕ = pattern_of s c in
+    let end : ℕ = (last_of c.walk).1 in
+    let empty : List (Option ℕ) = replicate n None in
+    let told = visits k (omega (arith, l, length-span (found s c) n)) in
+    ⊎_elim
+    (λ above. let ne : k ≢ 2 * p = omega (arith, above) in
+    let nf : k ≢ 2 * p + 1 = omega (arith, above) in
+    let bare : slice_index_or (span_slots n (found s c)) k None ≡ None =
+    get_or-set_other (slice_set empty (2 * p) (Some c.start)) (2 * p + 1) k (Some end) None nf
+    ∙ get_or-set_other empty (2 * p) k (Some c.start) None ne ∙ get_or-replicate n k None None l in
+    rw (ne_eqb k (2 * p) ne) (rw (ne_eqb k (2 * p + 1) nf)
+    (told ∙ ap (λ o. option_or (last_visit s.places k c.walk) o) bare ∙ or_none (last_visit s.places k c.walk))))
+    (λ low. let none =
+    not_visited s.places k (λ q j here. absurd (let far = groups_apart s.places of q k j (last_of c.walk).0 p here ended in omega (arith, far, low))) c.walk in
+    told ∙ ap (λ o. option_or o (slice_index_or (span_slots n (found s c)) k None)) none ∙ slot_at s c n k l none)
+    (cases_lt (2 * p + 1) k)
+
+-- so they are the walk's slots
+pub visits_told : (s : Search) (c : Chosen) (m : Found) (n : ℕ) (before after : List (Option ℕ)) → IsOfPatterns s.places → IsWalkOver s c m →
+    before ≡ span_slots n m → HasVisits s c.walk before after → length after ≡ n → after ≡ slots_of s n c
+visits_told s c m n before after of over span visits long =
+    let ended = match_place_is (only s.anchoring) (place_at s.places (last_of c.walk).0) (walk_ends (next_of s) (λ q. IsTrue (ends s q)) over.walk) in
+    let same : before ≡ span_slots n (found s c) = span ∙ ap (λ f. span_slots n f) (sym over.found) in
+    fill_by_all (slot_of s c) after n None long
+    (visited_slot s c n after of ended (subst (λ xs. HasVisits s c.walk xs after) same visits))
+
+-- the slots of the walk are those of the match of a leftmost kind
+pub walk_told : (kind : MatchKind) (s : Search) (m : Found) (n : ℕ) (slots : List (Option ℕ)) → is_leftmost kind ≡ true →
+    s.hi ≤ length s.text.content → answer_by kind s ≡ Some m → ((c : Chosen) → IsWalkOver s c m → slots ≡ slots_of s n c) → Some slots ≡ slots_by kind s n
+unfolding groups longest_groups
+walk_told all_matches s m n slots k inside e told = absurd (true≢false (sym k))
+walk_told leftmost_first s m n slots k inside e told =
+    let r = (answer_law.answer_some s m).0 e in
+    let end = ap (λ (f : Found). f.end) r.2 in
+    let within = (answer_within s m e).2 in
+    ap (λ xs. Some xs) (told r.0 (record {
+      walk = r.1.is_first.is_walk;
+      found = r.2;
+      within = omega (arith, end, within);
+      inside = omega (arith, end, within, inside);
+    })) ∙ ap (λ o. option_map (slots_of s n) o) (sym ((chosen_law s r.0).1 r.1))
+walk_told leftmost_longest s m n slots k inside e told =
+    let r = (longest_law.answer_some s m).0 e in
+    let end = ap (λ (f : Found). f.end) r.2 in
+    let within = (spelled_within s m (longest_law.spelled s m e)).2 in
+    ap (λ xs. Some xs) (told r.0 (record {
+      walk = r.1.counts.is_walk;
+      found = r.2;
+      within = omega (arith, end, within);
+      inside = omega (arith, end, within, inside);
+    })) ∙ ap (λ o. option_map (slots_of s n) o) (sym ((longest_law.chosen_some s r.0).1 r.1))
+
+pub search_inside : (e : Engine) (a : Searched) → (engine_search e a).hi ≤ length a.content
+search_inside e a = omega arith

@@ -9,6 +9,8 @@ use Rattle.rc_dense_dfa.specs.Halves.{AreHalves, bytes_of}
 use Rattle.rc_dense_dfa.specs.declared.dense.Dense.{Dense}
 use Rattle.rc_lazy_dfa.specs.Caches as lazy
 use Rattle.rc_lazy_dfa.specs.declared.lazy.Lazy.{Lazy}
+use Rattle.rc_onepass.specs.Rows.{bytes_of_rows}
+use Rattle.rc_onepass.specs.declared.onepass.OnePass.{OnePass}
 use Rattle.rc_dfa_search.specs.Aims.{AreHalvesOf}
 use Rattle.rc_dfa_search.specs.declared.search.Aim.{Aim}
 use Rattle.rc_pikevm_search.specs.declared.engine.Engine.{Engine}
@@ -37,7 +39,16 @@ MayBeTablesFor engine patterns tables = IfSome tables (λ d. AreHalvesFor engine
 abbrev pub MayBeLazyFor : Engine → ℕ → Option Lazy → Type 0
 MayBeLazyFor engine patterns tables = IfSome tables (λ l. AreHalvesFor engine patterns (lazy.AreHalves l))
 
--- How many bytes the DFA takes, at most `usize.MAX`.
-abbrev pub bytes_taken : Option Dense → ℕ
-bytes_taken None = 0
-bytes_taken (Some d) = min (bytes_of d.forward + bytes_of d.reverse + 8 * length d.patterns.items) 18446744073709551615
+-- How many bytes the DFA takes.
+abbrev pub bytes_of_tables : Option Dense → ℕ
+bytes_of_tables None = 0
+bytes_of_tables (Some d) = bytes_of d.forward + bytes_of d.reverse + 8 * length d.patterns.items
+
+-- How many bytes the one-pass DFA takes.
+abbrev pub bytes_of_onepass : Option OnePass → ℕ
+bytes_of_onepass None = 0
+bytes_of_onepass (Some d) = bytes_of_rows d.rows.items
+
+-- How many bytes both take, at most `usize.MAX`.
+abbrev pub bytes_taken : Option Dense → Option OnePass → ℕ
+bytes_taken tables onepass = min (bytes_of_tables tables + bytes_of_onepass onepass) 18446744073709551615

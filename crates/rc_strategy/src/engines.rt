@@ -3,15 +3,15 @@ ghost use Rattle.rc_text.specs.declared.types.Anchored.TheVariants.{No};
 ghost use Rattle.rc_program.specs.Places.{places_of};
 ghost use Rattle.rc_strategy.specs.Needed.{NeedsConfine};
 ghost use Rattle.rc_strategy.specs.Routes.{AreLongest, Serves, ServesAll};
-ghost use Rattle.rc_strategy.specs.Slots.{IsOfPatterns, NamesGroups};
+ghost use Rattle.rc_strategy.specs.Slots.{IsOfPatterns, MayBeOnePass, NamesGroups};
 ghost use Rattle.rc_strategy.specs.Lengths.{BoundsWalks};
 ghost use Rattle.rc_strategy.specs.Tables.{MayBeLazyFor, MayBeTablesFor};
 
 use crate::cache::Cache;
 use crate::lengths::Lengths;
+use crate::onepass::onepass_of;
 use crate::question::{Question, half_of};
 use crate::route::{LongestLiterals, Route, anchored_route, free_route};
-use crate::slots::fill_slots;
 use crate::tables::{are_fast, tables_of};
 use rc_captures::captures;
 use rc_captures::captures::Captures;
@@ -19,6 +19,7 @@ use rc_dense_dfa::dense::Dense;
 use rc_dfa_search::search::Aim;
 use rc_lazy_dfa::lazy::Lazy;
 use rc_literals::guard::Needs;
+use rc_onepass::onepass::OnePass;
 use rc_pikevm_search::engine::Engine;
 use rc_pikevm_search::literals::literals_of;
 use rc_program::matches::is_again;
@@ -54,6 +55,8 @@ pub struct Engines {
     pub engine: Engine,
     pub(crate) tables: Option<Dense>,
     pub(crate) lazy: Option<Lazy>,
+    /// The one-pass DFA, if there are groups whose slots it can set.
+    pub(crate) onepass: Option<OnePass>,
     pub(crate) patterns: usize,
     pub(crate) spans: Lengths,
     /// Literals of which each match contains one, if searches go by them.
@@ -68,6 +71,7 @@ pub struct Engines {
     pub(crate) anchored_route: Route,
     ghost fit: { ∥ MayBeTablesFor engine patterns tables ∥₁ },
     ghost lazy_fit: { ∥ MayBeLazyFor engine patterns lazy ∥₁ },
+    ghost single: { ∥ MayBeOnePass (places_of engine.program.places.items) onepass ∥₁ },
     ghost numbered: { NamesGroups patterns (places_of engine.program.places.items) },
     ghost programmed: { IsOfPatterns (places_of engine.program.places.items) },
     ghost bound: { BoundsWalks spans (places_of engine.program.places.items) },
@@ -112,8 +116,9 @@ impl Engines {
     /// The DFA is built if `dfa` is set, the byte program has at most `state_limit` places, and its
     /// states weigh at most `size_limit` bytes in each direction. Without it, the lazy DFA is built
     /// if `hybrid` is set and `capacity` suffices. Neither is built if literals alone decide each
-    /// answer. `spans` has the lengths and anchors of the patterns' matches. `needs` has their
-    /// required literals, by which searches go unless fast prefix literals guard them.
+    /// answer. The one-pass DFA is built if there are groups and the program is one-pass, and its
+    /// rows aren't large. `spans` has the lengths and anchors of the patterns' matches. `needs` has
+    /// their required literals, by which searches go unless fast prefix literals guard them.
     pub fn new(
         alloc: Global,
         engine: Engine,
@@ -142,6 +147,7 @@ impl Engines {
             → IsLazyBarred engine limits engines.tables ⊎ IsShortFor (plan_of engine hs limits)) }
     {
         let tables = tables_of(alloc, &engine, needs.is_some(), patterns, limits)?;
+        let onepass = onepass_of(alloc, &engine)?;
         let sought_fast = are_fast(&engine.literals);
         let longest = LongestLiterals::new(&engine.literals, &needs);
         let free_route = free_route(engine.kind, &spans);
@@ -150,6 +156,7 @@ impl Engines {
             engine,
             tables: tables.dense,
             lazy: tables.lazy,
+            onepass,
             patterns,
             spans,
             needs,
@@ -160,13 +167,18 @@ impl Engines {
         })
     }
 
-    /// Returns how many bytes the DFA takes, or `usize::MAX` if that is more; 0 if there is none.
+    /// Returns how many bytes the DFA and the one-pass DFA take, or `usize::MAX` if that is more; 0
+    /// if there are none.
     pub fn memory_usage(&self) -> usize
-        ensures { result ≡ bytes_taken self.now.tables }
+        ensures { result ≡ bytes_taken self.now.tables self.now.onepass }
     {
-        match &self.tables {
+        let tables = match &self.tables {
             Some(tables) => tables.memory_usage(),
             None => 0,
+        };
+        match &self.onepass {
+            Some(dfa) => tables.saturating_add(dfa.memory_usage()),
+            None => tables,
         }
     }
 
@@ -339,9 +351,9 @@ impl Engines {
     /// Returns the pattern that a search finds, and writes the first of its slots. Without a match
     /// the slots stay as they are. It allocates only what `find` does.
     ///
-    /// If a DFA finds the match and its groups are asked for, a pass of the Pike VM over its span
-    /// finds them. So do searches without a DFA if literals decide the match, or if there are many
-    /// patterns.
+    /// If a DFA finds the match and its groups are asked for, the one-pass DFA finds them, or else a
+    /// pass of the Pike VM over its span. So do searches without a DFA if literals decide the match,
+    /// or if there are many patterns.
     pub fn find_slots<C: Cursor>(
         &self,
         cache: &mut Cache,
@@ -365,14 +377,14 @@ impl Engines {
         if let Some(found) = self.ask_tables(&mut cache.lazy, input, Question::Match) {
             let found = found?;
             let pass = &mut cache.pass;
-            fill_slots(&self.engine, pass, input, self.patterns, found, slots);
+            self.fill_slots(pass, input, found, slots);
             return Some(found.pattern());
         }
         if self.finds_first() {
             let pass = &mut cache.pass;
             let found = self.engine.find(pass, input)?;
             let pattern = found.pattern();
-            fill_slots(&self.engine, pass, input, self.patterns, found, slots);
+            self.fill_slots(pass, input, found, slots);
             return Some(pattern);
         }
         self.engine.find_slots(&mut cache.pass, input, slots)

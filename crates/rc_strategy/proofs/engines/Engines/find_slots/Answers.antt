@@ -5,10 +5,6 @@ use Rattle.rc_strategy.proofs.CacheLemmas.{same_in}
 use Rattle.rc_strategy.proofs.SpanLemmas.{early_none}
 use Rattle.rc_strategy.proofs.engines.Engines.find_slots.Goals as goal
 
-pub fill_slots-requires-clause-numbered : goal.fill_slots-requires-clause-numbered
-fill_slots-requires-clause-numbered g c =
-    c.args.self.now.numbered
-
 pub returns-then-leave_none-clause-pattern : goal.returns-then-leave_none-clause-pattern
 returns-then-leave_none-clause-pattern g c =
     let e = c.args.self.now in

@@ -1,6 +1,9 @@
 use Rattle.rc_strategy.proofs.TableLemmas.{names_groups}
 use Rattle.rc_strategy.proofs.engines.Engines.new.Goals as goal
 
+pub invariant_of-result-clause-single : goal.invariant_of-result-clause-single
+invariant_of-result-clause-single g c = c.in_ok-onepass.ensures
+
 pub invariant_of-result-clause-numbered : goal.invariant_of-result-clause-numbered
 invariant_of-result-clause-numbered g c = names_groups c.args.engine c.args.patterns g.hs c.requires.1.1.0 c.requires.1.1.1.0
 
