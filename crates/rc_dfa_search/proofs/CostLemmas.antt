@@ -1,17 +1,30 @@
 -- What a search spends, and how it is given up.
-use Rattle.std.proofs.Common.{◌≡◌, ℕ, ◌+◌, ◌-◌, ◌*◌, ◌≤◌, Result, Ok, Err, IfErr, subst, sym, arith}
+use Rattle.std.proofs.Common.{◌≡◌, ℕ, ◌+◌, ◌-◌, ◌*◌, ◌≤◌, Result, Ok, Err, IfErr, subst, sym, refl, arith, Bool, List}
 use Rattle.std.specs.Result.{IsErrAnd}
 use Rattle.std.proofs.Math.Nat.{add-mul, mul-le-mul, mul-le-mul_right}
 use Rattle.rc_text.specs.Text.{Searched, Keeps, low, high}
 use Rattle.rc_text.specs.declared.types.MatchError as error
-use Rattle.rc_dfa_search.specs.Aims.{cost}
+use Rattle.rc_dfa_search.specs.Aims.{cost, search_for}
+use Rattle.rc_dfa_search.specs.declared.search.Aim.{Aim}
+use Rattle.rc_dfa_search.specs.Faults.{IsFault}
+use Rattle.rc_pattern.specs.Re.{Re}
 use Rattle.rc_dfa_search.specs.Ends.{cost_forwards}
-use Rattle.rc_dfa_search.proofs.ToldLemmas.{kept_high, kept_low}
+use Rattle.rc_dfa_search.proofs.ToldLemmas.{kept_high, kept_low, kept_search}
 
 -- the exit of a `?` answers with the error
 pub refused : {T : Type 0} → (r : Result T error.MatchError) (e : error.MatchError) → IsErrAnd r (λ f. f ≡ e) → (P : error.MatchError → Type 0) → P e → IfErr r P
 refused (Ok x) e h P p = tt
 refused (Err f) e h P p = subst P (sym h) p
+
+-- where the shown chunk and the position alone change, a search costs the same, and fails alike
+pub kept_cost : (a b : Searched) → Keeps a b → cost b ≡ cost a
+kept_cost a b k = rw (kept_high a b k, kept_low a b k) refl
+
+pub kept_fault : {T : Type 0} → (aim : Aim) (hs : List Re) (terminator : ℕ) (a b : Searched) → Keeps a b → (Gives : ℕ → Bool → Type 0) (r : Result T error.MatchError) →
+    IfErr r (IsFault hs (search_for aim hs terminator b) (Gives (cost b))) → IfErr r (IsFault hs (search_for aim hs terminator a) (Gives (cost a)))
+kept_fault aim hs terminator a b k Gives r h =
+    subst (λ n. IfErr r (IsFault hs (search_for aim hs terminator a) (Gives n))) (kept_cost a b k)
+    (subst (λ q. IfErr r (IsFault hs q (Gives (cost b)))) (kept_search aim hs terminator a b k) h)
 
 step_cost : (n j k : ℕ) → k ≤ n + 2 → j * (n + 2) + k ≤ (j + 1) * (n + 2)
 step_cost n j k le = let e = add-mul j 1 (n + 2) in omega (arith, e, le)

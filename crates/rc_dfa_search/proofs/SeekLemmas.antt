@@ -31,7 +31,7 @@ use Rattle.rc_dfa_search.specs.Machines.{IsCase}
 use Rattle.rc_dfa_search.specs.Laws.{met_from}
 use Rattle.rc_dfa_search.specs.Reverse.{HasNoStart}
 use Rattle.rc_dfa_search.specs.declared.search.Aim.{Aim}
-use Rattle.rc_dfa_search.specs.Aims.{AreHalvesOf, is_early, search_for}
+use Rattle.rc_dfa_search.specs.Aims.{AreHalvesOf, is_early, search_from}
 use Rattle.rc_dfa_search.specs.Ends.{Asks, HasMet, Stands, IsEnd, may_end}
 use Rattle.rc_dfa_search.proofs.ToldLemmas.{kept_text, kept_high}
 use Rattle.rc_dfa_search.proofs.LeftmostLemmas.{leftmost_law}
@@ -216,8 +216,8 @@ early_free true true e = cc
 early_free false true e = cc
 
 module _ (AreOf : Machine → Machine → Type 0) (aim : Aim) (hs : List Re) (terminator : ℕ) (of : AreHalvesOf AreOf aim hs terminator) (s b : Searched)
-    (kept : Keeps s b) (from : ℕ)
-    (stands : Stands hs aim.kind (is_early aim) of.ahead of.back s.anchored (search_for aim hs terminator s) from) (o : Option Met)
+    (kept : Keeps s b) (lo from : ℕ)
+    (stands : Stands hs aim.kind (is_early aim) of.ahead of.back s.anchored (search_from aim hs terminator s lo) from) (o : Option Met)
     (met_there : HasMet of.ahead (text_of terminator b) (high b) from b.anchored (is_early aim) o) where
   met_so : (p : Option Met) → o ≡ p → HasMet of.ahead (text_of terminator s) (high s) from s.anchored (is_early aim) p
   met_so p is =
@@ -226,22 +226,22 @@ module _ (AreOf : Machine → Machine → Type 0) (aim : Aim) (hs : List Re) (te
       (subst (λ x. HasMet of.ahead (text_of terminator b) x from s.anchored (is_early aim) o) (kept_high s b kept)
       (subst (λ a. HasMet of.ahead (text_of terminator b) (high b) from a (is_early aim) o) kept.anchored met_there)))
 
-  pub run_none : o ≡ None → IsAnswerWhere (is_early aim) aim.kind (search_for aim hs terminator s) None
-  run_none is = none_met hs aim.kind (is_early aim) of.ahead of.back s.anchored (search_for aim hs terminator s) from stands (met_so None is)
+  pub run_none : o ≡ None → IsAnswerWhere (is_early aim) aim.kind (search_from aim hs terminator s lo) None
+  run_none is = none_met hs aim.kind (is_early aim) of.ahead of.back s.anchored (search_from aim hs terminator s lo) from stands (met_so None is)
 
   pub run_end : (met : Met) (at : ℕ) → o ≡ Some met → may_end aim.kind aim.passes_over s.content met.at ≡ true → at ≡ min (max met.at from) (high s) →
-      IsEnd hs aim.kind (is_early aim) of.ahead of.back s.anchored (search_for aim hs terminator s) (record { from = from; pattern = met.pattern; at = at })
+      IsEnd hs aim.kind (is_early aim) of.ahead of.back s.anchored (search_from aim hs terminator s lo) (record { from = from; pattern = met.pattern; at = at })
   run_end met at is ok clamped =
-      let h = end_met hs aim.kind (is_early aim) of.ahead of.back s.anchored (search_for aim hs terminator s) from met stands (met_so (Some met) is) ok in
-      let w = end_within hs aim.kind (is_early aim) of.ahead of.back s.anchored (search_for aim hs terminator s) (record { from = from; pattern = met.pattern; at = met.at }) h in
+      let h = end_met hs aim.kind (is_early aim) of.ahead of.back s.anchored (search_from aim hs terminator s lo) from met stands (met_so (Some met) is) ok in
+      let w = end_within hs aim.kind (is_early aim) of.ahead of.back s.anchored (search_from aim hs terminator s lo) (record { from = from; pattern = met.pattern; at = met.at }) h in
       let low = w.0 in
       let high = w.1 in
       let e : met.at ≡ at = omega (arith, low, high, clamped) in
-      subst (λ x. IsEnd hs aim.kind (is_early aim) of.ahead of.back s.anchored (search_for aim hs terminator s) (record { from = from; pattern = met.pattern; at = x })) e h
+      subst (λ x. IsEnd hs aim.kind (is_early aim) of.ahead of.back s.anchored (search_from aim hs terminator s lo) (record { from = from; pattern = met.pattern; at = x })) e h
 
   pub run_raised : (met : Met) → o ≡ Some met → may_end aim.kind aim.passes_over s.content met.at ≡ false →
-      (from < high s → anchors s.anchored ≡ false → Stands hs aim.kind (is_early aim) of.ahead of.back s.anchored (search_for aim hs terminator s) (from + 1))
-      × ((anchors s.anchored ≡ true) ⊎ (high s ≤ from) → IsAnswerWhere (is_early aim) aim.kind (search_for aim hs terminator s) None)
+      (from < high s → anchors s.anchored ≡ false → Stands hs aim.kind (is_early aim) of.ahead of.back s.anchored (search_from aim hs terminator s lo) (from + 1))
+      × ((anchors s.anchored ≡ true) ⊎ (high s ≤ from) → IsAnswerWhere (is_early aim) aim.kind (search_from aim hs terminator s lo) None)
   run_raised met is passed =
-      raised hs aim.kind (is_early aim) of.ahead of.back s.anchored (search_for aim hs terminator s) from met stands (met_so (Some met) is) passed
+      raised hs aim.kind (is_early aim) of.ahead of.back s.anchored (search_from aim hs terminator s lo) from met stands (met_so (Some met) is) passed
       (early_free aim.earliest aim.passes_over)

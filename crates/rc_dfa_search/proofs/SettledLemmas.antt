@@ -1,7 +1,7 @@
 -- How many bytes settle what searches find that go from needle to needle.
-use Rattle.std.proofs.Common.{◌≡◌, ℕ, ◌+◌, ◌-◌, ◌<◌, ◌≤◌, Bool, true, false, not, ◌&&◌, true≢false, List, [], ◌∷◌, length, Option, Some, None, Result, IfOk, max, min, sym, subst, ap, ◌∙◌, refl, arith, inr, ⊎_elim, take, drop, take-take, slice_range}
+use Rattle.std.proofs.Common.{◌≡◌, ℕ, ◌+◌, ◌-◌, ◌<◌, ◌≤◌, Bool, true, false, not, ◌&&◌, true≢false, List, [], ◌∷◌, length, Option, Some, None, Result, IfOk, max, min, sym, subst, ap, ◌∙◌, refl, arith, inr, ⊎_elim, take, drop, take-take, length-take, slice_range}
 use Rattle.std.specs.Prelude.{slice_index}
-use Rattle.std.proofs.lemmas.List.{get_or-take, length-take-le}
+use Rattle.std.proofs.lemmas.List.{get_or-take, length-take-le, take_all}
 use Rattle.std.specs.Prelude.{is_some}
 use Rattle.std.proofs.lemmas.Option.{same_Some, none-some}
 use Rattle.std.specs.List.{slice_get}
@@ -9,6 +9,8 @@ use Rattle.std.specs.Option.{option_map}
 use Rattle.rc_text.specs.Found.{Found}
 use Rattle.rc_text.specs.Text.{Searched, Keeps, low, high, slice_end}
 use Rattle.rc_text.specs.declared.types.Span.{Span}
+use Rattle.rc_text.specs.Plain.{is_anchored as anchors}
+use Rattle.rc_text.specs.declared.types.Anchored.{Anchored}
 use Rattle.rc_text.specs.declared.types.Anchored.TheVariants.{No, Yes}
 use Rattle.rc_text.specs.declared.types.MatchKind.{MatchKind}
 use Rattle.rc_text.specs.declared.types.MatchError as error
@@ -49,13 +51,13 @@ use Rattle.rc_dfa_search.specs.Firsts.{starting_at}
 use Rattle.rc_dfa_search.specs.Leftmost.{IsRaisedBy}
 use Rattle.rc_dfa_search.specs.Legs.{GoesByNeedles, HasRun, IsGiven, leg_of}
 use Rattle.rc_dfa_search.specs.Machines.{IsCase}
-use Rattle.rc_dfa_search.specs.Reaches.{GivesBelow, HasRunBelow, IsAnswerBelow, IsGivenBelow, NoneBeginBelow}
+use Rattle.rc_dfa_search.specs.Reaches.{GivesBelow, HasRunBelow, IsAnswerBelow, IsGivenBelow, NoneBeginBelow, TellsReach}
 use Rattle.rc_dfa_search.specs.Rests.{GivesToo, HasNoWalkBetween}
 use Rattle.rc_dfa_search.proofs.BeginLemmas.{case_here, found_here, may as may_here, none_first as none_first_near}
 use Rattle.rc_dfa_search.proofs.LeftmostLemmas.{leftmost_law}
 use Rattle.rc_dfa_search.proofs.JumpLemmas.{not_early}
 use Rattle.rc_dfa_search.proofs.LegLemmas.{free_case}
-use Rattle.rc_dfa_search.proofs.ReachLemmas.{itself, none_below, same_case, some_held}
+use Rattle.rc_dfa_search.proofs.ReachLemmas.{is_no, itself, none_below, same_case, some_held}
 use Rattle.rc_dfa_search.proofs.RestLemmas.{given_law, rest_law, rests_between}
 use Rattle.rc_dfa_search.proofs.ToldLemmas.{kept_text}
 
@@ -516,6 +518,59 @@ module _ (AreOf : Machine → Machine → Type 0) (aim : Aim) (hs : List Re) (te
         (subst (λ e. HasMetDown of.back Z.text (low s) e cur.anchored (is_early aim) o) is_end
         (subst (λ x. HasMetDown of.back Z.text x end cur.anchored (is_early aim) o) is_lo
         (subst (λ (x : Text). HasMetDown of.back x lo end cur.anchored (is_early aim) o) (kept_text terminator s cur keeps) h))))
+
+-- a search that isn't anchored and tells its reach
+pub goes_free : (aim : Aim) (anchored given : Anchored) (b : Bool) → TellsReach aim → given ≡ anchored → b ≡ anchors given → b ≡ false → GoesByNeedles aim anchored
+goes_free aim anchored given b tells same is free = record {
+  kind = tells.kind;
+  late = tells.late;
+  all = tells.all;
+  free = is_no anchored (sym (ap anchors same) ∙ sym is ∙ free);
+}
+
+-- a search that agrees past the end of the content is the same
+whole_parts : (t : Search) (places : List Place) (content : List ℕ) (start stop terminator lo hi : ℕ) (anchoring : Anchoring) (over : Bool) → places ≡ t.places →
+    content ≡ t.text.content → start ≡ t.text.slice_start → stop ≡ t.text.slice_end → terminator ≡ t.text.terminator → lo ≡ t.lo → hi ≡ t.hi →
+    anchoring ≡ t.anchoring → over ≡ t.passes_over →
+    (let q : Search = record {
+      places = places;
+      text = record { content = content; slice_start = start; slice_end = stop; terminator = terminator };
+      lo = lo;
+      hi = hi;
+      anchoring = anchoring;
+      passes_over = over;
+    } in q) ≡ t
+whole_parts t places content start stop terminator lo hi anchoring over a b c d e f g h i = rw (a, b, c, d, e, f, g, h, i) refl
+
+far_same : (s t : Search) (r : ℕ) → IsInside s → IsInside t → AgreesBelow r s t → length s.text.content + 1 ≤ r → s ≡ t
+far_same s t r in1 in2 agrees far =
+    let xs = s.text.content in
+    let ys = t.text.content in
+    let all = ap length agrees.content in
+    let a = length-take r xs in
+    let b = length-take r ys in
+    let short : length ys + 1 ≤ r = omega (arith, all, a, b, far) in
+    let seen = ap length agrees.seen in
+    let c = length-take r (take s.text.slice_end xs) in
+    let d = length-take r (take t.text.slice_end ys) in
+    let e = length-take s.text.slice_end xs in
+    let f = length-take t.text.slice_end ys in
+    let bound = same_bound s t r in1 in2 agrees in
+    let h1 = in1.hi in
+    let h2 = in2.hi in
+    let e1 = in1.slice_end in
+    let e2 = in2.slice_end in
+    whole_parts t s.places xs s.text.slice_start s.text.slice_end s.text.terminator s.lo s.hi s.anchoring s.passes_over (sym agrees.places)
+    (sym (take_all r xs (omega (arith, far))) ∙ sym agrees.content ∙ take_all r ys (omega (arith, short))) (sym agrees.slice_start)
+    (omega (arith, seen, c, d, e, f, e1, e2, far, short)) (sym agrees.terminator) (sym agrees.lo)
+    (omega (arith, bound, h1, h2, e1, e2, far, short)) (sym agrees.anchoring) (sym agrees.passes_over)
+
+-- what is known of the search is known of all that agree so far
+pub none_far : (aim : Aim) (hs : List Re) (terminator : ℕ) (s : Searched) (r from : ℕ) → length s.content + 1 ≤ r →
+    ((x : ℕ) → low s ≤ x → x < from → HasNoWalkFrom (search_for aim hs terminator s) x) → NoneBeginBelow (search_for aim hs terminator s) r from
+none_far aim hs terminator s r from far none t in2 agrees z above lt =
+    let lo = agrees.lo in
+    subst (λ q. HasNoWalkFrom q z) (far_same (search_for aim hs terminator s) t r (inside_of aim hs terminator s) in2 agrees far) (none z (omega (arith, above, lo)) lt)
 
 -- no match begins before the search does
 pub none_yet : (s : Search) (r at : ℕ) → at ≤ s.lo → NoneBeginBelow s r at

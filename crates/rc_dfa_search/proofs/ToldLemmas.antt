@@ -1,5 +1,5 @@
 -- What one run of a half tells.
-use Rattle.std.proofs.Common.{◌≡◌, ℕ, ◌+◌, ◌<◌, ◌≤◌, Bool, true, false, true≢false, IsTrue, List, length, Option, Some, None, Result, IfOk, IfErr, sym, subst, ap, ◌∙◌, refl, arith, slice_get}
+use Rattle.std.proofs.Common.{◌≡◌, ℕ, ◌+◌, ◌<◌, ◌≤◌, Bool, true, false, true≢false, IsTrue, List, length, Option, Some, None, Result, IfOk, IfErr, sym, subst, ap, ◌∙◌, refl, arith, slice_get, ◌↔◌}
 use Rattle.rc_text.specs.Text.{Searched, Keeps, low, high}
 use Rattle.rc_text.specs.declared.types.Anchored.{Anchored}
 use Rattle.rc_text.specs.declared.types.Anchored.TheVariants.{No, Yes, Pattern}
@@ -24,7 +24,7 @@ use Rattle.rc_dfa_search.specs.declared.search.Aim.{Aim}
 use Rattle.rc_dfa_search.specs.Machines.{IsCase, entries_of}
 use Rattle.rc_dfa_search.specs.Faults.{SpeaksOfUnicode, speaks_of_unicode, MayQuit, IsFault}
 use Rattle.rc_dfa_search.specs.Aims
-use Rattle.rc_dfa_search.specs.Aims.{AreHalvesOf, is_early, search_for}
+use Rattle.rc_dfa_search.specs.Aims.{AreHalvesOf, is_early, search_for, search_from}
 use Rattle.rc_dfa_search.specs.Ends.{Asks, HasMet, HasMetDown, told_of}
 use Rattle.rc_dfa_search.proofs.CaseLemmas.{length-entries, same_setting}
 use Rattle.rc_dfa_search.proofs.UnreadLemmas.{unread_law}
@@ -38,22 +38,40 @@ asked_so m hs patterns Yes e f a = tt
 asked_so m hs patterns (Pattern p) e f a =
     let len = ap length e in let own = length-entries 0 hs in omega (arith, len, own, f, a)
 
-pub case_of : (AreOf : Machine → Machine → Type 0) (aim : Aim) (hs : List Re) (terminator : ℕ) (s : Searched) (of : AreHalvesOf AreOf aim hs terminator) →
-    low s ≤ high s → Asks aim.patterns s.anchored → IsCase hs aim.kind of.ahead of.back s.anchored (search_for aim hs terminator s)
-case_of AreOf aim hs terminator s of le asks =
+pub case_from : (AreOf : Machine → Machine → Type 0) (aim : Aim) (hs : List Re) (terminator : ℕ) (s : Searched) (of : AreHalvesOf AreOf aim hs terminator) →
+    (lo : ℕ) → low s ≤ lo → lo ≤ high s → Asks aim.patterns s.anchored → IsCase hs aim.kind of.ahead of.back s.anchored (search_from aim hs terminator s lo)
+case_from AreOf aim hs terminator s of lo above le asks =
     let ms = of.machines in
     record {
       machines = ms;
       places = refl;
       anchoring = refl;
-      inside = record { low = omega arith; high = omega arith; bounded = omega arith };
+      inside = record { low = omega (arith, above); high = omega arith; bounded = omega arith };
       ordered = le;
       asked = asked_so of.ahead hs aim.patterns s.anchored (ap (λ (m : Machine). m.entries) ms.ahead) of.counted asks;
     }
 
+pub case_of : (AreOf : Machine → Machine → Type 0) (aim : Aim) (hs : List Re) (terminator : ℕ) (s : Searched) (of : AreHalvesOf AreOf aim hs terminator) →
+    low s ≤ high s → Asks aim.patterns s.anchored → IsCase hs aim.kind of.ahead of.back s.anchored (search_for aim hs terminator s)
+case_of AreOf aim hs terminator s of le asks = case_from AreOf aim hs terminator s of (low s) (omega arith) le asks
+
 -- where the shown chunk and the position alone change, the search is the same
 pub kept_search : (aim : Aim) (hs : List Re) (terminator : ℕ) (a b : Searched) → Keeps a b → search_for aim hs terminator b ≡ search_for aim hs terminator a
 kept_search aim hs terminator a b k = rw (k.content, k.span, k.slice, k.anchored) refl
+
+pub kept_from : (aim : Aim) (hs : List Re) (terminator : ℕ) (a b : Searched) (lo : ℕ) → Keeps a b → search_from aim hs terminator b lo ≡ search_from aim hs terminator a lo
+kept_from aim hs terminator a b lo k = ap (λ (q : Search). let r : Search = record q { lo = lo } in r) (kept_search aim hs terminator a b k)
+
+-- from the lower bound on it is the whole search
+pub kept_whole : (aim : Aim) (hs : List Re) (terminator : ℕ) (a b : Searched) (lo : ℕ) → Keeps a b → lo ≡ low a → search_from aim hs terminator b lo ≡ search_for aim hs terminator a
+kept_whole aim hs terminator a b lo k is = kept_from aim hs terminator a b lo k ∙ ap (search_from aim hs terminator a) is
+
+-- a pattern that is asked for, or is not
+pub asks_so : (patterns : ℕ) (anchored given : Anchored) (b : Bool) → (IsTrue b ↔ Asks patterns given) → given ≡ anchored → b ≡ true → Asks patterns anchored
+asks_so patterns anchored given b is same so = subst (Asks patterns) same (is.0 so)
+
+pub asks_none : (patterns : ℕ) (anchored given : Anchored) (b : Bool) → (IsTrue b ↔ Asks patterns given) → given ≡ anchored → b ≡ false → ¬ Asks patterns anchored
+asks_none patterns anchored given b is same so asks = true≢false (sym (is.1 (subst (Asks patterns) (sym same) asks)) ∙ so)
 
 pub kept_text : (terminator : ℕ) (a b : Searched) → Keeps a b → text_of terminator b ≡ text_of terminator a
 kept_text terminator a b k = rw (k.content, k.slice) refl
@@ -63,6 +81,9 @@ kept_high a b k = rw (k.content, k.span, k.slice) refl
 
 pub kept_low : (a b : Searched) → Keeps a b → low b ≡ low a
 kept_low a b k = rw (k.span, k.slice) refl
+
+pub kept_same : (s : Searched) → Keeps s s
+kept_same s = record { content = refl; span = refl; slice = refl; anchored = refl; earliest = refl }
 
 pub kept_then : (a b c : Searched) → Keeps a b → Keeps b c → Keeps a c
 kept_then a b c k l = record {

@@ -10,10 +10,19 @@ use Rattle.rc_program.specs.Sought.{search_over}
 use Rattle.rc_dfa.specs.Machine.{Machine}
 use Rattle.rc_dfa_search.specs.Machines.{AreMachines}
 use Rattle.rc_dfa_search.specs.declared.search.Aim.{Aim}
+use Rattle.rc_dfa_search.specs.declared.search.Bounds.{Bounds}
 
 -- The search of an input for patterns.
 abbrev pub search_for : Aim → List Re → ℕ → Searched → Search
 search_for aim hs terminator s = search_over (program hs) terminator aim.passes_over s
+
+-- The search from a position on.
+abbrev pub search_from : Aim → List Re → ℕ → Searched → ℕ → Search
+search_from aim hs terminator s lo = record (search_for aim hs terminator s) { lo = lo }
+
+-- These are the bounds of the input, and a position lies between them.
+abbrev pub AreBounds : Searched → Bounds → Type 0
+AreBounds s bounds = (bounds.low ≡ low s) × (bounds.high ≡ high s) × (bounds.low ≤ bounds.high)
 
 -- Any match is enough.
 abbrev pub is_early : Aim → Bool

@@ -2,7 +2,7 @@
 //! Positions are in bytes of the whole content.
 ghost use Rattle.std.specs.Prelude.{◌≡◌, ◌<◌, ◌≤◌, ℕ, Bool, List, MatchOption, IfOk, IfSome, length, slice_index};
 ghost use Rattle.rc_text.specs.Bounds.{IsWithinBounds};
-ghost use Rattle.rc_text.specs.Text.{Keeps, low, high};
+ghost use Rattle.rc_text.specs.Text.{Keeps, high};
 ghost use Rattle.rc_pattern.specs.Re.{Re};
 ghost use Rattle.rc_program.specs.Program.{Place, program};
 ghost use Rattle.rc_program.specs.Answer.{HasNoWalkFrom};
@@ -10,19 +10,19 @@ ghost use Rattle.rc_program.specs.Sought.{search_over};
 ghost use Rattle.rc_needles.specs.Guards.{Guards};
 ghost use Rattle.rc_needles.specs.Prefilters.{needles_of};
 ghost use Rattle.rc_needles.specs.Tables.{BeginsWithByte, numbered};
-ghost use Rattle.rc_program.specs.Kinds.{IsAnswerBy, answer_by};
-ghost use Rattle.rc_dfa_search.specs.Aims.{AreHalvesOf, search_for};
+ghost use Rattle.rc_program.specs.Kinds.{answer_by};
+ghost use Rattle.rc_dfa_search.specs.Aims.{AreBounds, AreHalvesOf, search_for};
 ghost use Rattle.rc_dfa_search.specs.Legs.{GoesByNeedles};
 ghost use Rattle.rc_dfa_search.specs.Reaches.{IsAnswerBelow, TellsReach};
 
-use crate::guarded::find_by_needles;
+use crate::needles::{Left, find_by_needles};
 use crate::reach::{Settled, find_settled, settle_here};
-use crate::search::{Aim, find_later};
+use crate::search::{Aim, Bounds, find_between};
 use rc_dfa::halves::Halves;
 use rc_literals::guard::{Guard, next_start};
 use rc_needles::prefilter::Prefilter;
 use rc_text::cursor::Cursor;
-use rc_text::input::{Input, high, low, piece_from};
+use rc_text::input::{Input, content_fits, piece_from};
 use rc_text::types::{Match, MatchError};
 
 /// How many bytes are checked one by one, before the next needle is looked for.
@@ -129,44 +129,10 @@ fn start_by<C: Cursor>(
     first_start(input, needles, from, end)
 }
 
-/// Returns the match that `find_later` returns, if each match begins with a needle. If the search
-/// for these is fast, it goes from needle to needle.
-#[inline(never)]
-fn find_on<H: Halves, C: Cursor>(
-    halves: &H,
-    cache: &mut H::Cache,
-    input: &mut Input<C>,
-    aim: Aim,
-    needles: &Prefilter,
-    are_fast: bool,
-    from: usize,
-) -> Result<Option<Match>, MatchError>
-    requires cache { H.IsCache halves.now cache.old }
-    requires low { low input.old ≤ from }
-    requires high { from ≤ high input.old }
-    requires goes { GoesByNeedles aim input.old.anchored }
-    ensures cache { H.IsCache halves.now cache.new }
-    ensures keeps { Keeps input.old input.new }
-    ensures found { (hs : List Re) (terminator : ℕ)
-        → AreHalvesOf (H.AreOf halves.now) aim hs terminator
-        → Guards (program hs) terminator (needles_of needles.now)
-        → IfOk result (IsAnswerBy aim.kind aim.earliest
-        (record (search_for aim hs terminator input.old) { lo = from })) }
-    ensures within { IfOk result (λ found. IfSome found (IsWithinBounds input.old)) }
-{
-    if !are_fast {
-        return find_later(halves, cache, input, aim, from);
-    }
-    let span = input.get_span();
-    input.set_start(from);
-    let found = find_by_needles(halves, cache, input, aim, Guard::Begins(needles));
-    input.set_span(span);
-    found
-}
-
 /// Returns the leftmost match, if each match begins with a needle. It first tries an anchored run
 /// where the first match may begin, and with many needles some more, where the next ones may. If
-/// none begins there, it searches on from the last of these positions.
+/// none begins there, it searches on from the last of these positions, from needle to needle if the
+/// search for these is fast.
 #[inline(always)]
 pub(crate) fn find_by_first<H: Halves, C: Cursor>(
     halves: &H,
@@ -175,8 +141,10 @@ pub(crate) fn find_by_first<H: Halves, C: Cursor>(
     aim: Aim,
     needles: &Prefilter,
     are_fast: bool,
+    bounds: Bounds,
 ) -> Result<Option<Match>, MatchError>
     requires cache { H.IsCache halves.now cache.old }
+    requires bounds { AreBounds input.old bounds }
     requires goes { GoesByNeedles aim input.old.anchored }
     ensures cache { H.IsCache halves.now cache.new }
     ensures keeps { Keeps input.old input.new }
@@ -187,72 +155,35 @@ pub(crate) fn find_by_first<H: Halves, C: Cursor>(
         (search_for aim hs terminator input.old)) }
     ensures within { IfOk result (λ found. IfSome found (IsWithinBounds input.old)) }
 {
-    let hi = high(input);
-    let lo = low(input);
-    if lo > hi {
-        return Ok(None);
-    }
-    let mut at = lo;
-    let mut left = more_runs(needles);
+    content_fits(input);
+    let high = bounds.high;
+    let mut at = bounds.low;
+    let mut more = more_runs(needles);
     'runs: loop {
-        let Some(from) = start_by(input, needles, are_fast, at, hi) else {
+        let Some(from) = start_by(input, needles, are_fast, at, high) else {
             return Ok(None);
         };
-        let here = settle_here(halves, cache, input, from, hi)?;
+        let here = settle_here(halves, cache, input, from, high)?;
         if let Some(found) = here.found {
             return Ok(Some(found));
         }
-        if left == 0 || from >= hi {
-            return find_on(halves, cache, input, aim, needles, are_fast, from);
+        if more == 0 || from >= high {
+            if !are_fast {
+                return find_between(halves, cache, input, aim, Bounds { low: from, high });
+            }
+            let (at, reach) = (from, usize::MAX);
+            let left = Left { at, reach, bounds };
+            return find_by_needles(halves, cache, input, aim, Guard::Begins(needles), left);
         }
-        left -= 1;
+        more -= 1;
         at = from + 1;
     }
 }
 
-/// Returns the match, and how many bytes settle it, if each match begins with a needle. If a byte
-/// that begins one is near, it first tries an anchored run there.
-#[inline(always)]
-fn settle_near<H: Halves, C: Cursor>(
-    halves: &H,
-    cache: &mut H::Cache,
-    input: &mut Input<C>,
-    aim: Aim,
-    needles: &Prefilter,
-) -> Result<Settled, MatchError>
-    requires cache { H.IsCache halves.now cache.old }
-    requires goes { GoesByNeedles aim input.old.anchored }
-    requires ordered { low input.old < high input.old }
-    ensures cache { H.IsCache halves.now cache.new }
-    ensures keeps { Keeps input.old input.new }
-    ensures settled { (hs : List Re) (terminator : ℕ)
-        → AreHalvesOf (H.AreOf halves.now) aim hs terminator
-        → Guards (program hs) terminator (needles_of needles.now)
-        → IfOk result (λ o. IsAnswerBelow aim.kind
-        (search_for aim hs terminator input.old) o.reach o.found) }
-    ensures bounded { IfOk result (λ o. IfSome o.found (IsWithinBounds input.old)) }
-{
-    let bound = high(input);
-    let from = low(input);
-    let piece = piece_from(input, from, bound);
-    let near = piece.len().min(NEAR);
-    let passed = begin_none(needles, &piece[..near]);
-    if passed < near {
-        let at = from + passed;
-        let here = settle_here(halves, cache, input, at, bound)?;
-        if here.found.is_some() {
-            return Ok(Settled {
-                found: here.found,
-                reach: here.reach.max(at),
-            });
-        }
-    }
-    find_settled(halves, cache, input, aim)
-}
-
 /// Returns the match that `find` returns, and how many bytes settle it, if each match begins with a
-/// needle and the search for these is slow. It goes along the text. These are the bytes at which
-/// the run forwards looked. An `Err` says why the DFA has no answer.
+/// needle and the search for these is slow. If a byte that begins one is near, it first tries an
+/// anchored run there. Else it goes along the text. These are the bytes at which the run forwards
+/// looked. An `Err` says why the DFA has no answer.
 #[inline(always)]
 pub fn find_settled_near<H: Halves, C: Cursor>(
     halves: &H,
@@ -260,8 +191,10 @@ pub fn find_settled_near<H: Halves, C: Cursor>(
     input: &mut Input<C>,
     aim: Aim,
     needles: &Prefilter,
+    bounds: Bounds,
 ) -> Result<Settled, MatchError>
     requires cache { H.IsCache halves.now cache.old }
+    requires bounds { AreBounds input.old bounds }
     requires tells { TellsReach aim }
     ensures cache { H.IsCache halves.now cache.new }
     ensures keeps { Keeps input.old input.new }
@@ -272,10 +205,22 @@ pub fn find_settled_near<H: Halves, C: Cursor>(
         (search_for aim hs terminator input.old) o.reach o.found) }
     ensures within { IfOk result (λ o. IfSome o.found (IsWithinBounds input.old)) }
 {
-    let bound = high(input);
-    let from = low(input);
-    if from >= bound || input.get_anchored().is_anchored() {
-        return find_settled(halves, cache, input, aim);
+    let from = bounds.low;
+    if from >= bounds.high || input.get_anchored().is_anchored() {
+        return find_settled(halves, cache, input, aim, bounds);
     }
-    settle_near(halves, cache, input, aim, needles)
+    let piece = piece_from(input, from, bounds.high);
+    let near = piece.len().min(NEAR);
+    let passed = begin_none(needles, &piece[..near]);
+    if passed < near {
+        let at = from + passed;
+        let here = settle_here(halves, cache, input, at, bounds.high)?;
+        if here.found.is_some() {
+            return Ok(Settled {
+                found: here.found,
+                reach: here.reach.max(at),
+            });
+        }
+    }
+    find_settled(halves, cache, input, aim, bounds)
 }

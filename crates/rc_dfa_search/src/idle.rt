@@ -3,7 +3,7 @@
 ghost use Rattle.std.specs.Prelude.{◌≡◌, ◌≤◌, ℕ, List, IfOk};
 ghost use Rattle.rc_text.specs.Text.{Keeps, low, high};
 ghost use Rattle.rc_pattern.specs.Re.{Re};
-ghost use Rattle.rc_dfa_search.specs.Aims.{AreHalvesOf, search_for};
+ghost use Rattle.rc_dfa_search.specs.Aims.{AreBounds, AreHalvesOf, search_for};
 ghost use Rattle.rc_dfa_search.specs.Legs.{GoesByNeedles};
 ghost use Rattle.rc_dfa_search.specs.Reaches.{NoneBeginBelow};
 ghost use Rattle.rc_text.specs.declared.types.MatchKind.TheVariants.{LeftmostFirst};
@@ -12,7 +12,7 @@ use crate::needles::{Leg, read_leg};
 use crate::search::{Aim, Bounds};
 use rc_dfa::halves::Halves;
 use rc_text::cursor::Cursor;
-use rc_text::input::{Input, content_fits, high, low};
+use rc_text::input::{Input, content_fits};
 use rc_text::types::MatchError;
 
 /// Returns a position at which nothing is under way: no match begins before it, in this content and
@@ -27,11 +27,12 @@ pub fn last_idle<H: Halves, C: Cursor>(
     cache: &mut H::Cache,
     input: &mut Input<C>,
     aim: Aim,
+    bounds: Bounds,
 ) -> Result<usize, MatchError>
     requires cache { H.IsCache halves.now cache.old }
+    requires bounds { AreBounds input.old bounds }
     requires goes { GoesByNeedles aim input.old.anchored }
     requires preferred { aim.kind ≡ LeftmostFirst }
-    requires ordered { low input.old ≤ high input.old }
     ensures cache { H.IsCache halves.now cache.new }
     ensures keeps { Keeps input.old input.new }
     ensures idle { (hs : List Re) (terminator : ℕ)
@@ -40,8 +41,8 @@ pub fn last_idle<H: Halves, C: Cursor>(
     ensures within { IfOk result (λ k. (low input.old ≤ k) × (k ≤ high input.old)) }
 {
     content_fits(input);
-    let bound = high(input);
-    let mut at = low(input);
+    let bound = bounds.high;
+    let mut at = bounds.low;
     let mut stride = (bound - at + 1) / 2;
     'runs: loop {
         let rest_from = at.saturating_add(stride.saturating_sub(1));

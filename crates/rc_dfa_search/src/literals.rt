@@ -9,12 +9,12 @@ ghost use Rattle.rc_program.specs.Kinds.{IsAnswerBy};
 ghost use Rattle.rc_needles.specs.Guards.{Guards};
 ghost use Rattle.rc_needles.specs.Prefilters.{needles_of};
 ghost use Rattle.rc_literals.specs.Guard.{IsGuard};
-ghost use Rattle.rc_dfa_search.specs.Aims.{AreHalvesOf, search_for};
+ghost use Rattle.rc_dfa_search.specs.Aims.{AreBounds, AreHalvesOf, search_for};
 
 use crate::first::find_by_first;
-use crate::guarded::{find_by_needles, find_early};
-use crate::needles::goes_by_needles;
-use crate::search::{Aim, find};
+use crate::guarded::find_early;
+use crate::needles::{Left, find_by_needles, goes_by_needles};
+use crate::search::{Aim, Bounds, find_between};
 use rc_dfa::halves::Halves;
 use rc_literals::guard::Guard;
 use rc_needles::prefilter::Prefilter;
@@ -33,8 +33,10 @@ pub fn find_by_guard<H: Halves, C: Cursor>(
     input: &mut Input<C>,
     aim: Aim,
     guard: Guard,
+    bounds: Bounds,
 ) -> Result<Option<Match>, MatchError>
     requires cache { H.IsCache halves.now cache.old }
+    requires bounds { AreBounds input.old bounds }
     ensures cache { H.IsCache halves.now cache.new }
     ensures keeps { Keeps input.old input.new }
     ensures found { (hs : List Re) (terminator : ℕ)
@@ -48,15 +50,20 @@ pub fn find_by_guard<H: Halves, C: Cursor>(
         ..aim
     };
     if !goes_by_needles(late, input.get_anchored()) {
-        return find(halves, cache, input, aim);
+        return find_between(halves, cache, input, aim, bounds);
     }
     if aim.earliest {
-        return find_early(halves, cache, input, aim, guard);
+        return find_early(halves, cache, input, aim, guard, bounds);
     }
-    match guard {
-        Guard::Begins(needles) => find_by_first(halves, cache, input, aim, needles, true),
-        Guard::Holds(_) => find_by_needles(halves, cache, input, aim, guard),
+    if let Guard::Begins(needles) = guard {
+        return find_by_first(halves, cache, input, aim, needles, true, bounds);
     }
+    let left = Left {
+        at: bounds.low,
+        reach: bounds.low,
+        bounds,
+    };
+    find_by_needles(halves, cache, input, aim, guard, left)
 }
 
 /// Returns the match that `find` returns, if each match begins with a needle and the search for
@@ -70,8 +77,10 @@ pub fn find_past_quit<H: Halves, C: Cursor>(
     input: &mut Input<C>,
     aim: Aim,
     needles: &Prefilter,
+    bounds: Bounds,
 ) -> Result<Option<Match>, MatchError>
     requires cache { H.IsCache halves.now cache.old }
+    requires bounds { AreBounds input.old bounds }
     ensures cache { H.IsCache halves.now cache.new }
     ensures keeps { Keeps input.old input.new }
     ensures found { (hs : List Re) (terminator : ℕ)
@@ -81,11 +90,16 @@ pub fn find_past_quit<H: Halves, C: Cursor>(
     ensures within { IfOk result (λ found. IfSome found (IsWithinBounds input.old)) }
 {
     if !goes_by_needles(aim, input.get_anchored()) {
-        return find(halves, cache, input, aim);
+        return find_between(halves, cache, input, aim, bounds);
     }
-    let found = find_by_first(halves, cache, input, aim, needles, false);
+    let found = find_by_first(halves, cache, input, aim, needles, false, bounds);
     if let Err(MatchError::Quit { .. }) = found {
-        return find_by_needles(halves, cache, input, aim, Guard::Begins(needles));
+        let left = Left {
+            at: bounds.low,
+            reach: bounds.low,
+            bounds,
+        };
+        return find_by_needles(halves, cache, input, aim, Guard::Begins(needles), left);
     }
     found
 }

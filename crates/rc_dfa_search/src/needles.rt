@@ -5,10 +5,11 @@ ghost use Rattle.rc_text.specs.Bounds.{IsWithinBounds};
 ghost use Rattle.rc_text.specs.Text.{Keeps, low, high};
 ghost use Rattle.rc_pattern.specs.Re.{Re};
 ghost use Rattle.rc_program.specs.Program.{program};
+ghost use Rattle.rc_program.specs.Kinds.{answer_by};
 ghost use Rattle.rc_program.specs.Sought.{text_of};
 ghost use Rattle.rc_needles.specs.Needles.{longest};
 ghost use Rattle.rc_literals.specs.Guard.{IsGuard, guard_needles};
-ghost use Rattle.rc_dfa_search.specs.Aims.{AreHalvesOf, search_for};
+ghost use Rattle.rc_dfa_search.specs.Aims.{AreBounds, AreHalvesOf, search_for};
 ghost use Rattle.rc_dfa_search.specs.Legs.{ComesOn, GoesByNeedles, leg_of};
 ghost use Rattle.rc_dfa_search.specs.Reaches.{BeginsWithin, HasRunBelow, IsAnswerBelow, IsGivenBelow, IsEnding, NoneBeginBelow};
 
@@ -18,7 +19,7 @@ use rc_dfa::ended::{Ended, Met};
 use rc_dfa::halves::{Halves, Run};
 use rc_literals::guard::{Guard, next_start};
 use rc_text::cursor::Cursor;
-use rc_text::input::{Input, content_fits, low};
+use rc_text::input::{Input, content_fits};
 use rc_text::types::{Anchored, Match, MatchError, MatchKind, Span};
 
 /// How far a forward run came.
@@ -45,8 +46,8 @@ pub(crate) struct Left {
     pub(crate) at: usize,
     /// How many bytes of the content tell so.
     pub(crate) reach: usize,
-    /// The upper bound of the search.
-    pub(crate) high: usize,
+    /// The bounds of the search.
+    pub(crate) bounds: Bounds,
 }
 
 /// What a search from needle to needle came to.
@@ -145,9 +146,9 @@ pub(crate) fn seek_by_needles<H: Halves, C: Cursor>(
 ) -> Result<Ending, MatchError>
     requires cache { H.IsCache halves.now cache.old }
     requires longest { min (longest (guard_needles guard)) usize.MAX ≤ longest_len }
-    requires low { low input.old ≤ left.at }
-    requires ordered { left.at ≤ left.high }
-    requires high { left.high ≡ high input.old }
+    requires bounds { AreBounds input.old left.bounds }
+    requires low { left.bounds.low ≤ left.at }
+    requires ordered { left.at ≤ left.bounds.high }
     requires far { left.at ≤ left.reach }
     ensures cache { H.IsCache halves.now cache.new }
     ensures keeps { Keeps input.old input.new }
@@ -160,17 +161,15 @@ pub(crate) fn seek_by_needles<H: Halves, C: Cursor>(
     ensures within { IfOk result (BeginsWithin (low input.old) (high input.old)) }
 {
     content_fits(input);
+    let high = left.bounds.high;
     let mut at = left.at;
     let mut reach = left.reach;
     'runs: loop {
-        let Some(start) = next_start(input, guard, at, left.high) else {
+        let Some(start) = next_start(input, guard, at, high) else {
             return Ok(Ending::Nowhere);
         };
         let from = start.from;
-        let bounds = Bounds {
-            low: from,
-            high: left.high,
-        };
+        let bounds = Bounds { low: from, high };
         let came = read_leg(halves, cache, input, bounds, earliest, start.needle)?;
         let sought = start.needle.saturating_add(longest_len);
         reach = reach.max(sought).max(came.read);
@@ -200,12 +199,11 @@ pub(crate) fn settle_back<H: Halves, C: Cursor>(
     aim: Aim,
     met: Met,
     reach: usize,
-    bound: usize,
+    bounds: Bounds,
 ) -> Result<Settled, MatchError>
     requires cache { H.IsCache halves.now cache.old }
     requires goes { GoesByNeedles aim input.old.anchored }
-    requires bound { bound ≡ high input.old }
-    requires ordered { low input.old ≤ bound }
+    requires bounds { AreBounds input.old bounds }
     ensures cache { H.IsCache halves.now cache.new }
     ensures keeps { Keeps input.old input.new }
     ensures settled { (hs : List Re) (terminator : ℕ)
@@ -216,8 +214,8 @@ pub(crate) fn settle_back<H: Halves, C: Cursor>(
         (search_for aim hs terminator input.old) o.reach o.found) }
     ensures within { IfOk result (λ o. IfSome o.found (IsWithinBounds input.old)) }
 {
-    let low = low(input);
-    let end = met.at.max(low).min(bound);
+    let low = bounds.low;
+    let end = met.at.max(low).min(bounds.high);
     let before = Bounds { low, high: end };
     let Some(first) = run_backwards(halves, cache, input, aim, before)? else {
         return Ok(Settled { found: None, reach });
@@ -242,9 +240,9 @@ pub(crate) fn settle_by_needles<H: Halves, C: Cursor>(
     requires cache { H.IsCache halves.now cache.old }
     requires goes { GoesByNeedles aim input.old.anchored }
     requires longest { min (longest (guard_needles guard)) usize.MAX ≤ longest_len }
-    requires low { low input.old ≤ left.at }
-    requires ordered { left.at ≤ left.high }
-    requires high { left.high ≡ high input.old }
+    requires bounds { AreBounds input.old left.bounds }
+    requires low { left.bounds.low ≤ left.at }
+    requires ordered { left.at ≤ left.bounds.high }
     requires far { left.at ≤ left.reach }
     ensures cache { H.IsCache halves.now cache.new }
     ensures keeps { Keeps input.old input.new }
@@ -262,11 +260,41 @@ pub(crate) fn settle_by_needles<H: Halves, C: Cursor>(
             from: _,
             met,
             reach,
-        } => { settle_back(halves, cache, input, aim, met, reach, left.high) }
-        Ending::Stuck => find_settled(halves, cache, input, aim),
+        } => { settle_back(halves, cache, input, aim, met, reach, left.bounds) }
+        Ending::Stuck => find_settled(halves, cache, input, aim, left.bounds),
         Ending::Nowhere => Ok(Settled {
             found: None,
             reach: usize::MAX,
         }),
     }
+}
+
+/// Returns the match, from needle to needle.
+#[inline(always)]
+pub(crate) fn find_by_needles<H: Halves, C: Cursor>(
+    halves: &H,
+    cache: &mut H::Cache,
+    input: &mut Input<C>,
+    aim: Aim,
+    guard: Guard,
+    left: Left,
+) -> Result<Option<Match>, MatchError>
+    requires cache { H.IsCache halves.now cache.old }
+    requires goes { GoesByNeedles aim input.old.anchored }
+    requires bounds { AreBounds input.old left.bounds }
+    requires low { left.bounds.low ≤ left.at }
+    requires ordered { left.at ≤ left.bounds.high }
+    requires far { left.at ≤ left.reach }
+    ensures cache { H.IsCache halves.now cache.new }
+    ensures keeps { Keeps input.old input.new }
+    ensures found { (hs : List Re) (terminator : ℕ)
+        → AreHalvesOf (H.AreOf halves.now) aim hs terminator
+        → IsGuard (program hs) terminator guard.entry
+        → NoneBeginBelow (search_for aim hs terminator input.old) left.reach left.at
+        → IfOk result (λ found. found ≡ answer_by aim.kind
+        (search_for aim hs terminator input.old)) }
+    ensures within { IfOk result (λ found. IfSome found (IsWithinBounds input.old)) }
+{
+    let settled = settle_by_needles(halves, cache, input, aim, guard, usize::MAX, left)?;
+    Ok(settled.found)
 }

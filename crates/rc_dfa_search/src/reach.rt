@@ -6,13 +6,13 @@ ghost use Rattle.rc_text.specs.Bounds.{IsWithinBounds};
 ghost use Rattle.rc_text.specs.Text.{Keeps, low, high};
 ghost use Rattle.rc_pattern.specs.Re.{Re};
 ghost use Rattle.rc_program.specs.Sought.{text_of};
-ghost use Rattle.rc_dfa_search.specs.Aims.{AreHalvesOf, search_for};
+ghost use Rattle.rc_dfa_search.specs.Aims.{AreBounds, AreHalvesOf, search_for};
 ghost use Rattle.rc_dfa_search.specs.Ends.{Asks};
 ghost use Rattle.rc_dfa_search.specs.Firsts.{starting_at};
 ghost use Rattle.rc_dfa_search.specs.Legs.{GoesByNeedles};
 ghost use Rattle.rc_dfa_search.specs.Reaches.{BeginsBy, IsAnswerBelow, TellsReach};
 
-use crate::search::{Aim, Bounds, bounds_of, id_of, run_backwards, told};
+use crate::search::{Aim, Bounds, asks, id_of, run_backwards, told};
 use rc_dfa::halves::{Halves, Run};
 use rc_text::cursor::Cursor;
 use rc_text::input::{Input, content_fits};
@@ -126,8 +126,10 @@ pub fn find_settled<H: Halves, C: Cursor>(
     cache: &mut H::Cache,
     input: &mut Input<C>,
     aim: Aim,
+    bounds: Bounds,
 ) -> Result<Settled, MatchError>
     requires cache { H.IsCache halves.now cache.old }
+    requires bounds { AreBounds input.old bounds }
     requires tells { TellsReach aim }
     ensures cache { H.IsCache halves.now cache.new }
     ensures keeps { Keeps input.old input.new }
@@ -141,12 +143,13 @@ pub fn find_settled<H: Halves, C: Cursor>(
     ensures within { IfOk result (λ o. IfSome o.found (IsWithinBounds input.old)) }
 {
     content_fits(input);
-    let Some(Bounds { low, high }) = bounds_of(input, aim) else {
+    if !asks(input.get_anchored(), aim.patterns) {
         return Ok(Settled {
             found: None,
             reach: usize::MAX,
         });
-    };
+    }
+    let Bounds { low, high } = bounds;
     let run = Run {
         anchored: input.get_anchored(),
         low,

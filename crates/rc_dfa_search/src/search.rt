@@ -12,7 +12,7 @@ ghost use Rattle.rc_program.specs.Answer.{Search};
 ghost use Rattle.rc_program.specs.Kinds.{IsAnswerBy};
 ghost use Rattle.rc_program.specs.Sought.{text_of};
 ghost use Rattle.rc_dfa.specs.Machine.{Machine};
-ghost use Rattle.rc_dfa_search.specs.Aims.{AreHalvesOf, is_early, search_for, cost};
+ghost use Rattle.rc_dfa_search.specs.Aims.{AreBounds, AreHalvesOf, is_early, search_for, search_from, cost};
 ghost use Rattle.rc_dfa_search.specs.Ends.{Asks, HasMet, HasMetDown, IsEnd, begins_there, cost_forwards, keeps_pattern, match_by, may_end, start_by, told_of};
 ghost use Rattle.rc_dfa_search.specs.Faults.{IsFault};
 ghost use Rattle.rc_dfa_search.specs.Halves.{IsForwardHalf};
@@ -38,11 +38,11 @@ pub struct Aim {
     pub earliest: bool,
 }
 
-/// The bounds of a search, in bytes.
+/// The bounds of a search, in bytes. They are computed once, and handed down.
 #[derive(Clone, Copy)]
-pub(crate) struct Bounds {
-    pub(crate) low: usize,
-    pub(crate) high: usize,
+pub struct Bounds {
+    pub low: usize,
+    pub high: usize,
 }
 
 /// The end of a match.
@@ -66,7 +66,7 @@ fn is_early(aim: Aim) -> bool
 
 /// Whether the pattern that the search asks for, if any, is one of this many.
 #[inline(always)]
-fn asks(anchored: Anchored, patterns: usize) -> bool
+pub(crate) fn asks(anchored: Anchored, patterns: usize) -> bool
     ensures { IsTrue result ↔ Asks patterns anchored }
 {
     match anchored {
@@ -76,23 +76,16 @@ fn asks(anchored: Anchored, patterns: usize) -> bool
     }
 }
 
-/// Returns the bounds of a search in bytes. Returns None if the search finds nothing, since it has
-/// no position, or the pattern that is asked for doesn't exist.
+/// Returns the bounds of a search in bytes, or None if no position lies between them.
 #[inline(always)]
-pub(crate) fn bounds_of<C: Cursor>(input: &mut Input<C>, aim: Aim) -> Option<Bounds>
+pub fn bounds_of<C: Cursor>(input: &mut Input<C>) -> Option<Bounds>
     ensures keeps { Keeps input.old input.new }
-    ensures some { IfSome result (λ bounds. (bounds.low ≡ low input.old)
-        × (bounds.high ≡ high input.old)
-        × (low input.old ≤ high input.old) × Asks aim.patterns input.old.anchored) }
-    ensures none { IfNone result ((high input.old < low input.old)
-        ⊎ (¬ Asks aim.patterns input.old.anchored)) }
+    ensures some { IfSome result (AreBounds input.old) }
+    ensures none { IfNone result (high input.old < low input.old) }
 {
     let high = high(input);
     let low = low(input);
     if low > high {
-        return None;
-    }
-    if !asks(input.get_anchored(), aim.patterns) {
         return None;
     }
     Some(Bounds { low, high })
@@ -202,7 +195,7 @@ fn may_end<C: Cursor>(input: &mut Input<C>, aim: Aim, at: usize) -> bool
     }
 }
 
-/// Returns the end of the match: a run from the beginning of the search finds it, or, if matches
+/// Returns the end of the match from the lower bound on: a run from there finds it, or, if matches
 /// are passed over, a run from a later start.
 #[inline(always)]
 fn seek_end<H: Halves, C: Cursor>(
@@ -210,21 +203,25 @@ fn seek_end<H: Halves, C: Cursor>(
     cache: &mut H::Cache,
     input: &mut Input<C>,
     aim: Aim,
+    bounds: Bounds,
 ) -> Result<Option<End>, MatchError>
     requires cache { H.IsCache halves.now cache.old }
+    requires low { low input.old ≤ bounds.low }
+    requires ordered { bounds.low ≤ bounds.high }
+    requires high { bounds.high ≡ high input.old }
     ensures cache { H.IsCache halves.now cache.new }
     ensures keeps { Keeps input.old input.new }
     ensures none { (hs : List Re) (terminator : ℕ)
         → AreHalvesOf (H.AreOf halves.now) aim hs terminator
-        → IfOk result (λ end. IfNone end
-        (IsAnswerBy aim.kind aim.earliest (search_for aim hs terminator input.old) None)) }
+        → IfOk result (λ end. IfNone end (IsAnswerBy aim.kind aim.earliest
+        (search_from aim hs terminator input.old bounds.low) None)) }
     ensures some { (hs : List Re) (terminator : ℕ)
         (of : AreHalvesOf (H.AreOf halves.now) aim hs terminator)
         → IfOk result (λ end. IfSome end
         (IsEnd hs aim.kind (is_early aim) of.ahead of.back input.old.anchored
-        (search_for aim hs terminator input.old))) }
+        (search_from aim hs terminator input.old bounds.low))) }
     ensures within { IfOk result (λ end. IfSome end
-        (λ e. (low input.old ≤ e.from) × (e.from ≤ e.at) × (e.at ≤ high input.old)
+        (λ e. (bounds.low ≤ e.from) × (e.from ≤ e.at) × (e.at ≤ high input.old)
         × Asks aim.patterns input.old.anchored)) }
     ensures fault { (hs : List Re) (terminator : ℕ)
         → AreHalvesOf (H.AreOf halves.now) aim hs terminator
@@ -232,11 +229,13 @@ fn seek_end<H: Halves, C: Cursor>(
         (H.GivesUp halves.now cache.old cache.new (cost_forwards input.old))) }
     ensures spends { H.Spends halves.now cache.old cache.new (cost_forwards input.old) }
 {
-    let Some(Bounds { low, high }) = bounds_of(input, aim) else {
+    let anchoring = input.get_anchored();
+    if !asks(anchoring, aim.patterns) {
         return Ok(None);
-    };
-    let anchored = input.get_anchored().is_anchored();
-    let mut from = low;
+    }
+    let anchored = anchoring.is_anchored();
+    let high = bounds.high;
+    let mut from = bounds.low;
     'starts: loop {
         let Some(met) = run_forwards(halves, cache, input, aim, Bounds { low: from, high })? else {
             return Ok(None);
@@ -320,12 +319,12 @@ fn seek_start<H: Halves, C: Cursor>(
     requires asked { Asks aim.patterns input.old.anchored }
     ensures cache { H.IsCache halves.now cache.new }
     ensures keeps { Keeps input.old input.new }
-    ensures found { (hs : List Re) (terminator : ℕ)
+    ensures found { (hs : List Re) (terminator lo : ℕ)
         (of : AreHalvesOf (H.AreOf halves.now) aim hs terminator)
         → IsEnd hs aim.kind (is_early aim) of.ahead of.back input.old.anchored
-        (search_for aim hs terminator input.old) end
+        (search_from aim hs terminator input.old lo) end
         → IfOk result (λ start. IsAnswerBy aim.kind aim.earliest
-        (search_for aim hs terminator input.old) (option_map (match_by end) start)) }
+        (search_from aim hs terminator input.old lo) (option_map (match_by end) start)) }
     ensures within { IfOk result (λ start. IfSome start
         (λ m. (end.from ≤ m.at) × (m.at ≤ end.at))) }
     ensures fault { (hs : List Re) (terminator : ℕ)
@@ -372,14 +371,52 @@ pub fn id_of(pattern: usize, offset: usize) -> Result<PatternID, MatchError>
     }
 }
 
-/// Returns the match of a search: a forward run finds its end, and from there a reverse run its
-/// start, unless that is known, as that of an empty match is. If any match is enough, it is some
-/// match. If a match is passed over that ends off a boundary, another forward run begins at the
-/// next start.
+/// Returns the match that begins at the lower bound or later: a forward run finds its end, and from
+/// there a reverse run its start, unless that is known, as that of an empty match is. If any match
+/// is enough, it is some match. If a match is passed over that ends off a boundary, another forward
+/// run begins at the next start.
 ///
 /// It fails if the patterns depend on Unicode words and a byte above 127 would have to be read, or
 /// if the lazy DFA gives up.
-#[inline(always)]
+pub fn find_between<H: Halves, C: Cursor>(
+    halves: &H,
+    cache: &mut H::Cache,
+    input: &mut Input<C>,
+    aim: Aim,
+    bounds: Bounds,
+) -> Result<Option<Match>, MatchError>
+    requires cache { H.IsCache halves.now cache.old }
+    requires low { low input.old ≤ bounds.low }
+    requires ordered { bounds.low ≤ bounds.high }
+    requires high { bounds.high ≡ high input.old }
+    ensures cache { H.IsCache halves.now cache.new }
+    ensures keeps { Keeps input.old input.new }
+    ensures found { (hs : List Re) (terminator : ℕ)
+        → AreHalvesOf (H.AreOf halves.now) aim hs terminator
+        → IfOk result (IsAnswerBy aim.kind aim.earliest
+        (search_from aim hs terminator input.old bounds.low)) }
+    ensures within { IfOk result (λ found. IfSome found (IsWithinBounds input.old)) }
+    ensures fault { (hs : List Re) (terminator : ℕ)
+        → AreHalvesOf (H.AreOf halves.now) aim hs terminator
+        → IfErr result (IsFault hs (search_for aim hs terminator input.old)
+        (H.GivesUp halves.now cache.old cache.new (cost input.old))) }
+    ensures spends { H.Spends halves.now cache.old cache.new (cost input.old) }
+{
+    let Some(end) = seek_end(halves, cache, input, aim, bounds)? else {
+        return Ok(None);
+    };
+    let Some(start) = seek_start(halves, cache, input, aim, end)? else {
+        return Ok(None);
+    };
+    let pattern = id_of(start.pattern, end.at)?;
+    let span = Span {
+        start: start.at,
+        end: end.at,
+    };
+    Ok(Some(Match::new(pattern, span)))
+}
+
+/// Returns the match of a search. It fails as `find_between` does.
 pub fn find<H: Halves, C: Cursor>(
     halves: &H,
     cache: &mut H::Cache,
@@ -399,51 +436,46 @@ pub fn find<H: Halves, C: Cursor>(
         (H.GivesUp halves.now cache.old cache.new (cost input.old))) }
     ensures spends { H.Spends halves.now cache.old cache.new (cost input.old) }
 {
-    let Some(end) = seek_end(halves, cache, input, aim)? else {
+    let Some(bounds) = bounds_of(input) else {
         return Ok(None);
     };
-    let Some(start) = seek_start(halves, cache, input, aim, end)? else {
-        return Ok(None);
-    };
-    let pattern = id_of(start.pattern, end.at)?;
-    let span = Span {
-        start: start.at,
-        end: end.at,
-    };
-    Ok(Some(Match::new(pattern, span)))
-}
-
-/// Returns the match that `find` returns if the span begins at `from`. The input's span stays as it
-/// is.
-#[inline(never)]
-pub(crate) fn find_later<H: Halves, C: Cursor>(
-    halves: &H,
-    cache: &mut H::Cache,
-    input: &mut Input<C>,
-    aim: Aim,
-    from: usize,
-) -> Result<Option<Match>, MatchError>
-    requires cache { H.IsCache halves.now cache.old }
-    requires low { low input.old ≤ from }
-    requires high { from ≤ high input.old }
-    ensures cache { H.IsCache halves.now cache.new }
-    ensures keeps { Keeps input.old input.new }
-    ensures found { (hs : List Re) (terminator : ℕ)
-        → AreHalvesOf (H.AreOf halves.now) aim hs terminator
-        → IfOk result (IsAnswerBy aim.kind aim.earliest
-        (record (search_for aim hs terminator input.old) { lo = from })) }
-    ensures within { IfOk result (λ found. IfSome found (IsWithinBounds input.old)) }
-{
-    let span = input.get_span();
-    input.set_start(from);
-    let found = find(halves, cache, input, aim);
-    input.set_span(span);
-    found
+    find_between(halves, cache, input, aim, bounds)
 }
 
 /// Returns the end of the match that `find` returns, and its pattern. With `MatchKind::All`, that
 /// is the number of some pattern with a match that ends there. It only searches forwards, and fails
 /// as `find` does.
+pub fn find_end_between<H: Halves, C: Cursor>(
+    halves: &H,
+    cache: &mut H::Cache,
+    input: &mut Input<C>,
+    aim: Aim,
+    bounds: Bounds,
+) -> Result<Option<HalfMatch>, MatchError>
+    requires cache { H.IsCache halves.now cache.old }
+    requires bounds { AreBounds input.old bounds }
+    ensures cache { H.IsCache halves.now cache.new }
+    ensures keeps { Keeps input.old input.new }
+    ensures found { (hs : List Re) (terminator : ℕ)
+        → AreHalvesOf (H.AreOf halves.now) aim hs terminator
+        → IfOk result (IsForwardHalf aim.kind aim.earliest
+        (search_for aim hs terminator input.old)) }
+    ensures within { IfOk result (λ found. IfSome found
+        (λ half. (low input.old ≤ half.offset) × (half.offset ≤ high input.old))) }
+    ensures fault { (hs : List Re) (terminator : ℕ)
+        → AreHalvesOf (H.AreOf halves.now) aim hs terminator
+        → IfErr result (IsFault hs (search_for aim hs terminator input.old)
+        (H.GivesUp halves.now cache.old cache.new (cost input.old))) }
+    ensures spends { H.Spends halves.now cache.old cache.new (cost input.old) }
+{
+    let Some(end) = seek_end(halves, cache, input, aim, bounds)? else {
+        return Ok(None);
+    };
+    let pattern = id_of(end.pattern, end.at)?;
+    Ok(Some(HalfMatch::new(pattern, end.at)))
+}
+
+/// Returns what `find_end_between` does, within the bounds of the input.
 pub fn find_end<H: Halves, C: Cursor>(
     halves: &H,
     cache: &mut H::Cache,
@@ -465,17 +497,53 @@ pub fn find_end<H: Halves, C: Cursor>(
         (H.GivesUp halves.now cache.old cache.new (cost input.old))) }
     ensures spends { H.Spends halves.now cache.old cache.new (cost input.old) }
 {
-    let Some(end) = seek_end(halves, cache, input, aim)? else {
+    let Some(bounds) = bounds_of(input) else {
         return Ok(None);
     };
-    let pattern = id_of(end.pattern, end.at)?;
-    Ok(Some(HalfMatch::new(pattern, end.at)))
+    find_end_between(halves, cache, input, aim, bounds)
 }
 
 /// Returns the least start from which a match leads to the end of the search, and the first pattern
 /// with such a match; with `earliest`, some such start. Returns None if matches that end off a
 /// boundary are passed over, and the search ends off one. It only searches backwards, and fails as
 /// `find` does.
+pub fn find_start_between<H: Halves, C: Cursor>(
+    halves: &H,
+    cache: &mut H::Cache,
+    input: &mut Input<C>,
+    aim: Aim,
+    bounds: Bounds,
+) -> Result<Option<HalfMatch>, MatchError>
+    requires cache { H.IsCache halves.now cache.old }
+    requires bounds { AreBounds input.old bounds }
+    ensures cache { H.IsCache halves.now cache.new }
+    ensures keeps { Keeps input.old input.new }
+    ensures found { (hs : List Re) (terminator : ℕ)
+        → AreHalvesOf (H.AreOf halves.now) aim hs terminator
+        → IfOk result (IsReverseHalf aim.earliest (search_for aim hs terminator input.old)) }
+    ensures within { IfOk result (λ found. IfSome found
+        (λ half. (low input.old ≤ half.offset) × (half.offset ≤ high input.old))) }
+    ensures fault { (hs : List Re) (terminator : ℕ)
+        → AreHalvesOf (H.AreOf halves.now) aim hs terminator
+        → IfErr result (IsFault hs (search_for aim hs terminator input.old)
+        (H.GivesUp halves.now cache.old cache.new (cost input.old))) }
+    ensures spends { H.Spends halves.now cache.old cache.new (cost input.old) }
+{
+    if !asks(input.get_anchored(), aim.patterns) {
+        return Ok(None);
+    }
+    if !is_allowed(input, aim, bounds.high) {
+        return Ok(None);
+    }
+    let Some(met) = run_backwards(halves, cache, input, aim, bounds)? else {
+        return Ok(None);
+    };
+    let offset = met.at.max(bounds.low).min(bounds.high);
+    let pattern = id_of(met.pattern, offset)?;
+    Ok(Some(HalfMatch::new(pattern, offset)))
+}
+
+/// Returns what `find_start_between` does, within the bounds of the input.
 pub fn find_start<H: Halves, C: Cursor>(
     halves: &H,
     cache: &mut H::Cache,
@@ -496,49 +564,37 @@ pub fn find_start<H: Halves, C: Cursor>(
         (H.GivesUp halves.now cache.old cache.new (cost input.old))) }
     ensures spends { H.Spends halves.now cache.old cache.new (cost input.old) }
 {
-    let Some(bounds) = bounds_of(input, aim) else {
+    let Some(bounds) = bounds_of(input) else {
         return Ok(None);
     };
-    if !is_allowed(input, aim, bounds.high) {
-        return Ok(None);
-    }
-    let Some(met) = run_backwards(halves, cache, input, aim, bounds)? else {
-        return Ok(None);
-    };
-    let offset = met.at.max(bounds.low).min(bounds.high);
-    let pattern = id_of(met.pattern, offset)?;
-    Ok(Some(HalfMatch::new(pattern, offset)))
+    find_start_between(halves, cache, input, aim, bounds)
 }
 
 /// Returns the match from the start that `find_start` returns to the end of the search, of the
 /// pattern that it returns. If each match ends there and the search isn't anchored, that is both
-/// the leftmost-first and the leftmost-longest match. It only searches backwards, and fails as
-/// `find` does.
+/// the leftmost-first and the leftmost-longest match. It only searches backwards.
 pub fn find_to_end<H: Halves, C: Cursor>(
     halves: &H,
     cache: &mut H::Cache,
     input: &mut Input<C>,
     aim: Aim,
+    bounds: Bounds,
 ) -> Result<Option<Match>, MatchError>
     requires cache { H.IsCache halves.now cache.old }
+    requires bounds { AreBounds input.old bounds }
     ensures cache { H.IsCache halves.now cache.new }
     ensures keeps { Keeps input.old input.new }
     ensures found { (hs : List Re) (terminator : ℕ)
         → AreHalvesOf (H.AreOf halves.now) aim hs terminator
         → IfOk result (IsMatchToEnd aim.earliest (search_for aim hs terminator input.old)) }
     ensures within { IfOk result (λ found. IfSome found (IsWithinBounds input.old)) }
-    ensures fault { (hs : List Re) (terminator : ℕ)
-        → AreHalvesOf (H.AreOf halves.now) aim hs terminator
-        → IfErr result (IsFault hs (search_for aim hs terminator input.old)
-        (H.GivesUp halves.now cache.old cache.new (cost input.old))) }
-    ensures spends { H.Spends halves.now cache.old cache.new (cost input.old) }
 {
-    let Some(half) = find_start(halves, cache, input, aim)? else {
+    let Some(half) = find_start_between(halves, cache, input, aim, bounds)? else {
         return Ok(None);
     };
     let span = Span {
         start: half.offset(),
-        end: high(input),
+        end: bounds.high,
     };
     Ok(Some(Match::new(half.pattern(), span)))
 }

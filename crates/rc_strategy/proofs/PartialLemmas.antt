@@ -1,17 +1,13 @@
 -- Before which position no match begins, whatever follows.
-use Rattle.std.proofs.Common.{◌≡◌, ℕ, ◌+◌, ◌<◌, ◌≤◌, false, List, length, Option, Some, None, Result, Ok, Err, IfOk, IfSome, sym, subst, ap, ⊎_elim, refl, arith}
+use Rattle.std.proofs.Common.{◌≡◌, ℕ, ◌≤◌, false, List, length, Result, Ok, Err, IfOk, sym, subst, ⊎_elim, arith}
 use Rattle.std.proofs.lemmas.Bool.{cases_lt}
 use Rattle.std.proofs.Math.Logic.{∥∥₁_elim}
 use denote.Struct.Props.{props}
-use Rattle.rc_text.specs.Found.{Found}
-use Rattle.rc_text.specs.Text.{Searched, low, high, slice_end}
+use Rattle.rc_text.specs.Text.{Searched, low, high}
 use Rattle.rc_text.specs.declared.types.MatchError.{MatchError}
 use Rattle.rc_text.specs.declared.types.MatchKind.{MatchKind}
 use Rattle.rc_pattern.specs.Re.{Re}
 use Rattle.rc_program.specs.Answer.{Search}
-use Rattle.rc_program.specs.Kinds.{answer_by}
-use Rattle.rc_program.specs.Places.{places_of}
-use Rattle.rc_program.specs.Program.{program}
 use Rattle.rc_program.specs.Sought.{search_over}
 use Rattle.rc_program.proofs.KindLemmas.{kinds_law}
 use Rattle.rc_reach.specs.Partial.{IsPartial, from_place}

@@ -371,10 +371,11 @@ impl Engines {
             (engine_search self.now.engine input.old) (length slots.old)) }
         ensures cache { IsSameCacheIn self.now cache.old cache.new }
     {
-        if self.spans.leave_none(input) {
+        let Some(bounds) = self.spans.bounds(input) else {
             return None;
-        }
-        if let Some(found) = self.ask_tables(&mut cache.lazy, input, Question::Match) {
+        };
+        let question = Question::Match;
+        if let Some(found) = self.ask_tables(&mut cache.lazy, input, question, bounds) {
             let found = found?;
             let pass = &mut cache.pass;
             self.fill_slots(pass, input, found, slots);

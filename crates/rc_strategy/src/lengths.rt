@@ -2,6 +2,7 @@
 ghost use Rattle.std.specs.Prelude.{◌≡◌, max};
 ghost use Rattle.rc_pattern.specs.Properties.{both};
 
+use rc_dfa_search::search;
 use rc_pattern::check::properties_of;
 use rc_pattern::hir::{Hir, Look};
 use rc_text::cursor::Cursor;
@@ -33,9 +34,10 @@ fn greater(left: Option<usize>, right: Option<usize>) -> Option<usize>
 }
 
 impl Lengths {
-    ghost use Rattle.std.specs.Prelude.{◌≡◌, map, All, IfSome};
+    ghost use Rattle.std.specs.Prelude.{◌≡◌, map, All, IfSome, is_none};
     ghost use Rattle.rc_text.specs.Text.{Keeps, high};
     ghost use Rattle.rc_pattern.specs.Meaning.{meaning};
+    ghost use Rattle.rc_dfa_search.specs.Aims.{AreBounds};
     ghost use Rattle.rc_strategy.specs.Lengths.{Bounds, IsOneLength, either, are_longer, are_shorter, begin_early, end_late, leave_none, must_fill};
 
     /// Returns the lengths and anchors of this pattern's spans.
@@ -150,24 +152,29 @@ impl Lengths {
         }
     }
 
-    /// Whether there can be no match. Each would begin before the search or end after it, or be
-    /// longer than what is searched; or it would have to fill that, and be shorter.
+    /// Returns the bounds of a search, or None if there can be no match between them. Each would
+    /// begin before the search or end after it, or be longer than what is searched; or it would
+    /// have to fill that, and be shorter.
     ///
     /// If the cursor doesn't know the content's length, this goes to where the content ends.
     #[inline(always)]
-    pub fn leave_none<C: Cursor>(&self, input: &mut Input<C>) -> bool
+    pub fn bounds<C: Cursor>(&self, input: &mut Input<C>) -> Option<search::Bounds>
         ensures keeps { Keeps input.old input.new }
-        ensures value { result ≡ leave_none self.now input.old }
+        ensures value { is_none result ≡ leave_none self.now input.old }
+        ensures some { IfSome result (AreBounds input.old) }
     {
         if self.begin_early(input) {
-            return true;
+            return None;
         }
         let low = low(input);
         let high = high(input);
         if high < low || self.end_late(input, high) {
-            return true;
+            return None;
         }
         let length = high - low;
-        self.are_longer(length) || (self.must_fill(input) && self.are_shorter(length))
+        if self.are_longer(length) || (self.must_fill(input) && self.are_shorter(length)) {
+            return None;
+        }
+        Some(search::Bounds { low, high })
     }
 }

@@ -10,9 +10,10 @@ use rc_dense_dfa::dense::NoCache;
 use rc_dfa::halves::Halves;
 use rc_dfa_search::idle::last_idle;
 use rc_dfa_search::reach::tells_reach;
+use rc_dfa_search::search::{Bounds, bounds_of};
 use rc_lazy_dfa::lazy;
 use rc_text::cursor::Cursor;
-use rc_text::input::{Input, high, low};
+use rc_text::input::{Input, low};
 use rc_text::types::{Anchored, MatchError, MatchKind};
 
 impl Engines {
@@ -21,6 +22,7 @@ impl Engines {
     ghost use Rattle.rc_text.specs.declared.types.MatchKind.TheVariants.{LeftmostFirst};
     ghost use Rattle.rc_reach.specs.Partial.{IsPartial, from_place};
     ghost use Rattle.rc_pikevm_search.specs.Engine.{engine_search};
+    ghost use Rattle.rc_dfa_search.specs.Aims.{AreBounds};
     ghost use Rattle.rc_dfa_search.specs.Legs.{GoesByNeedles};
     ghost use Rattle.rc_strategy.specs.Caches.{IsCacheIn, IsCacheOfBoth, IsSameCacheIn, KeepsStates};
     ghost use Rattle.rc_strategy.specs.Tables.{AreHalvesFor, aim_of};
@@ -45,19 +47,20 @@ impl Engines {
         halves: &H,
         cache: &mut H::Cache,
         input: &mut Input<C>,
+        bounds: Bounds,
     ) -> Result<usize, MatchError>
         requires own { ∥ AreHalvesFor self.now.engine self.now.patterns (H.AreOf halves.now) ∥₁ }
         requires cache { H.IsCache halves.now cache.old }
         requires goes { GoesByNeedles (aim_of self.now.engine self.now.patterns) input.old.anchored }
         requires preferred { self.now.engine.kind ≡ LeftmostFirst }
-        requires ordered { low input.old ≤ high input.old }
+        requires bounds { AreBounds input.old bounds }
         ensures cache { H.IsCache halves.now cache.new }
         ensures keeps { Keeps input.old input.new }
         ensures told { IfOk result (λ k. IsPartial self.now.engine.kind
             (engine_search self.now.engine input.old) (from_place k)) }
         ensures within { IfOk result (λ k. (low input.old ≤ k) × (k ≤ high input.old)) }
     {
-        last_idle(halves, cache, input, self.aim())
+        last_idle(halves, cache, input, self.aim(), bounds)
     }
 
     /// Returns a position before which no match begins, by the DFA, or else by the lazy DFA if the
@@ -66,11 +69,12 @@ impl Engines {
         &self,
         cache: &mut Option<lazy::Cache>,
         input: &mut Input<C>,
+        bounds: Bounds,
     ) -> Option<usize>
         requires made { IsCacheOfBoth self.now.lazy cache.old }
         requires goes { GoesByNeedles (aim_of self.now.engine self.now.patterns) input.old.anchored }
         requires preferred { self.now.engine.kind ≡ LeftmostFirst }
-        requires ordered { low input.old ≤ high input.old }
+        requires bounds { AreBounds input.old bounds }
         ensures keeps { Keeps input.old input.new }
         ensures told { IfSome result (λ k. IsPartial self.now.engine.kind
             (engine_search self.now.engine input.old) (from_place k)) }
@@ -78,12 +82,14 @@ impl Engines {
         ensures cache { KeepsStates self.now.lazy cache.old cache.new }
     {
         match self.table_choice(cache.is_some()) {
-            TableChoice::AllStates(tables) => self.idle_in(tables, &mut NoCache, input).ok(),
+            TableChoice::AllStates(tables) => self
+                .idle_in(tables, &mut NoCache, input, bounds)
+                .ok(),
             TableChoice::MetStates(tables) => {
                 let Some(states) = cache else {
                     return None;
                 };
-                self.idle_in(tables, states, input).ok()
+                self.idle_in(tables, states, input, bounds).ok()
             }
             TableChoice::NoTables => None,
         }
@@ -101,10 +107,13 @@ impl Engines {
         ensures cache { IsSameCacheIn self.now cache.old cache.new }
     {
         let from = low(input);
-        if high(input) < from || !self.tells_idle(input) {
+        let Some(bounds) = bounds_of(input) else {
+            return from;
+        };
+        if !self.tells_idle(input) {
             return from;
         }
-        match self.idle_by_tables(&mut cache.lazy, input) {
+        match self.idle_by_tables(&mut cache.lazy, input, bounds) {
             Some(idle) => idle,
             None => from,
         }

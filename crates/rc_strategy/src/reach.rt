@@ -12,6 +12,7 @@ use rc_dfa::halves::Halves;
 use rc_dfa_search::first::find_settled_near;
 use rc_dfa_search::guarded::find_settled_guarded;
 use rc_dfa_search::reach::{Settled, find_settled, tells_reach};
+use rc_dfa_search::search::Bounds;
 use rc_lazy_dfa::lazy;
 use rc_literals::guard::Guard;
 use rc_needles::prefilter::Prefilter;
@@ -43,6 +44,7 @@ impl Engines {
     ghost use Rattle.rc_needles.specs.Needles.{longest};
     ghost use Rattle.rc_needles.specs.Prefilters.{needles_of};
     ghost use Rattle.rc_pikevm_search.specs.Engine.{engine_search};
+    ghost use Rattle.rc_dfa_search.specs.Aims.{AreBounds};
     ghost use Rattle.rc_dfa_search.specs.Reaches.{IsAnswerBelow, TellsReach};
     ghost use Rattle.rc_strategy.specs.Caches.{IsCacheIn, IsCacheOfBoth, IsSameCacheIn, KeepsStates};
     ghost use Rattle.rc_strategy.specs.Tables.{AreHalvesFor, aim_of};
@@ -69,9 +71,11 @@ impl Engines {
         halves: &H,
         cache: &mut H::Cache,
         input: &mut Input<C>,
+        bounds: Bounds,
     ) -> Result<Settled, MatchError>
         requires own { ∥ AreHalvesFor self.now.engine self.now.patterns (H.AreOf halves.now) ∥₁ }
         requires cache { H.IsCache halves.now cache.old }
+        requires bounds { AreBounds input.old bounds }
         requires tells { TellsReach (aim_of self.now.engine self.now.patterns) }
         requires free { input.old.anchored ≡ No }
         requires begins { self.now.spans.begins ≡ true }
@@ -84,7 +88,7 @@ impl Engines {
         let aim = self.aim();
         let anchored = input.get_anchored();
         input.set_anchored(Anchored::Yes);
-        let settled = find_settled(halves, cache, input, aim);
+        let settled = find_settled(halves, cache, input, aim, bounds);
         input.set_anchored(anchored);
         settled
     }
@@ -99,9 +103,11 @@ impl Engines {
         cache: &mut H::Cache,
         input: &mut Input<C>,
         needles: &Prefilter,
+        bounds: Bounds,
     ) -> Result<Settled, MatchError>
         requires own { ∥ AreHalvesFor self.now.engine self.now.patterns (H.AreOf halves.now) ∥₁ }
         requires cache { H.IsCache halves.now cache.old }
+        requires bounds { AreBounds input.old bounds }
         requires tells { TellsReach (aim_of self.now.engine self.now.patterns) }
         requires guards { Guards (places_of self.now.engine.program.places.items)
             self.now.engine.program.terminator (needles_of needles.now) }
@@ -113,11 +119,11 @@ impl Engines {
         ensures within { IfOk result (λ o. IfSome o.found (IsWithinBounds input.old)) }
     {
         let aim = self.aim();
-        let settled = find_settled_near(halves, cache, input, aim, needles);
+        let settled = find_settled_near(halves, cache, input, aim, needles, bounds);
         if let Err(MatchError::Quit { .. }) = settled {
             let guard = Guard::Begins(needles);
             let longest_len = self.longest.prefix;
-            return find_settled_guarded(halves, cache, input, aim, guard, longest_len);
+            return find_settled_guarded(halves, cache, input, aim, guard, longest_len, bounds);
         }
         settled
     }
@@ -130,9 +136,11 @@ impl Engines {
         halves: &H,
         cache: &mut H::Cache,
         input: &mut Input<C>,
+        bounds: Bounds,
     ) -> Result<Settled, MatchError>
         requires own { ∥ AreHalvesFor self.now.engine self.now.patterns (H.AreOf halves.now) ∥₁ }
         requires cache { H.IsCache halves.now cache.old }
+        requires bounds { AreBounds input.old bounds }
         requires tells { TellsReach (aim_of self.now.engine self.now.patterns) }
         ensures cache { H.IsCache halves.now cache.new }
         ensures keeps { Keeps input.old input.new }
@@ -143,11 +151,11 @@ impl Engines {
         let aim = self.aim();
         if let Some(guard) = self.guard() {
             let longest_len = self.longest.of_guard(guard);
-            return find_settled_guarded(halves, cache, input, aim, guard, longest_len);
+            return find_settled_guarded(halves, cache, input, aim, guard, longest_len, bounds);
         }
         match guards_of(&self.engine.literals) {
-            Some(needles) => self.settle_past_quit(halves, cache, input, needles),
-            None => find_settled(halves, cache, input, aim),
+            Some(needles) => self.settle_past_quit(halves, cache, input, needles, bounds),
+            None => find_settled(halves, cache, input, aim, bounds),
         }
     }
 
@@ -159,9 +167,11 @@ impl Engines {
         halves: &H,
         cache: &mut H::Cache,
         input: &mut Input<C>,
+        bounds: Bounds,
     ) -> Result<Settled, MatchError>
         requires own { ∥ AreHalvesFor self.now.engine self.now.patterns (H.AreOf halves.now) ∥₁ }
         requires cache { H.IsCache halves.now cache.old }
+        requires bounds { AreBounds input.old bounds }
         requires tells { TellsReach (aim_of self.now.engine self.now.patterns) }
         ensures cache { H.IsCache halves.now cache.new }
         ensures keeps { Keeps input.old input.new }
@@ -170,8 +180,8 @@ impl Engines {
         ensures within { IfOk result (λ o. IfSome o.found (IsWithinBounds input.old)) }
     {
         match self.route(input) {
-            Route::FromStart => self.settle_from_start(halves, cache, input),
-            _ => self.settle_forwards(halves, cache, input),
+            Route::FromStart => self.settle_from_start(halves, cache, input, bounds),
+            _ => self.settle_forwards(halves, cache, input, bounds),
         }
     }
 
@@ -181,8 +191,10 @@ impl Engines {
         &self,
         cache: &mut Option<lazy::Cache>,
         input: &mut Input<C>,
+        bounds: Bounds,
     ) -> Option<Settled>
         requires made { IsCacheOfBoth self.now.lazy cache.old }
+        requires bounds { AreBounds input.old bounds }
         requires tells { TellsReach (aim_of self.now.engine self.now.patterns) }
         ensures keeps { Keeps input.old input.new }
         ensures settled { IfSome result (λ o. IsAnswerBelow self.now.engine.kind
@@ -191,12 +203,12 @@ impl Engines {
         ensures cache { KeepsStates self.now.lazy cache.old cache.new }
     {
         match self.table_choice(cache.is_some()) {
-            TableChoice::AllStates(tables) => self.settle(tables, &mut NoCache, input).ok(),
+            TableChoice::AllStates(tables) => self.settle(tables, &mut NoCache, input, bounds).ok(),
             TableChoice::MetStates(tables) => {
                 let Some(states) = cache else {
                     return None;
                 };
-                self.settle(tables, states, input).ok()
+                self.settle(tables, states, input, bounds).ok()
             }
             TableChoice::NoTables => None,
         }
@@ -208,8 +220,10 @@ impl Engines {
         &self,
         cache: &mut Option<lazy::Cache>,
         input: &mut Input<C>,
+        bounds: Bounds,
     ) -> Option<Settled>
         requires made { IsCacheOfBoth self.now.lazy cache.old }
+        requires bounds { AreBounds input.old bounds }
         ensures keeps { Keeps input.old input.new }
         ensures settled { IfSome result (λ o. IsAnswerBelow self.now.engine.kind
             (engine_search self.now.engine input.old) o.reach o.found) }
@@ -217,9 +231,9 @@ impl Engines {
         ensures cache { KeepsStates self.now.lazy cache.old cache.new }
     {
         if self.tells_reach(input) {
-            return self.settle_along(cache, input);
+            return self.settle_along(cache, input, bounds);
         }
-        let found = self.ask_tables(cache, input, Question::Match)?;
+        let found = self.ask_tables(cache, input, Question::Match, bounds)?;
         Some(settled_at_end(input, found))
     }
 
@@ -234,10 +248,10 @@ impl Engines {
         ensures within { IfSome result.found (IsWithinBounds input.old) }
         ensures cache { IsSameCacheIn self.now cache.old cache.new }
     {
-        if self.spans.leave_none(input) {
+        let Some(bounds) = self.spans.bounds(input) else {
             return settled_at_end(input, None);
-        }
-        if let Some(settled) = self.settle_by_tables(&mut cache.lazy, input) {
+        };
+        if let Some(settled) = self.settle_by_tables(&mut cache.lazy, input, bounds) {
             return settled;
         }
         settle_by_pass(&self.engine, &mut cache.pass, input)

@@ -9,12 +9,12 @@ use rc_dense_dfa::dense::NoCache;
 use rc_dfa::halves::Halves;
 use rc_dfa_search::guarded::find_end_guarded;
 use rc_dfa_search::literals::{find_by_guard, find_past_quit};
-use rc_dfa_search::search::{Aim, find, find_end, find_to_end};
+use rc_dfa_search::search::{Aim, Bounds, find_between, find_end_between, find_to_end};
 use rc_lazy_dfa::lazy;
 use rc_literals::guard::Guard;
 use rc_pikevm_search::literals::guards_of;
 use rc_text::cursor::Cursor;
-use rc_text::input::{Input, high, low};
+use rc_text::input::Input;
 use rc_text::types::{Anchored, Match, MatchError, MatchKind, Span};
 use std::alloc::{AllocError, Global};
 
@@ -29,6 +29,7 @@ impl Engines {
     ghost use Rattle.rc_text.specs.declared.types.Anchored.TheVariants.{No};
     ghost use Rattle.rc_program.specs.Kinds.{answer_by};
     ghost use Rattle.rc_pikevm_search.specs.Engine.{engine_search};
+    ghost use Rattle.rc_dfa_search.specs.Aims.{AreBounds};
     ghost use Rattle.rc_strategy.specs.Caches.{IsCacheIn, IsCacheOfBoth, IsSameCacheIn, KeepsStates};
     ghost use Rattle.rc_strategy.specs.Lengths.{IsOneLength, is_leftmost};
     ghost use Rattle.rc_strategy.specs.Questions.{IsForwards, IsReply, may_stop};
@@ -55,9 +56,11 @@ impl Engines {
         cache: &mut H::Cache,
         input: &mut Input<C>,
         question: Question,
+        bounds: Bounds,
     ) -> Result<Option<Match>, MatchError>
         requires own { ∥ AreHalvesFor self.now.engine self.now.patterns (H.AreOf halves.now) ∥₁ }
         requires cache { H.IsCache halves.now cache.old }
+        requires bounds { AreBounds input.old bounds }
         requires free { input.old.anchored ≡ No }
         requires begins { self.now.spans.begins ≡ true }
         ensures cache { H.IsCache halves.now cache.new }
@@ -69,7 +72,7 @@ impl Engines {
         let aim = self.aim_for(question);
         let anchored = input.get_anchored();
         input.set_anchored(Anchored::Yes);
-        let found = find(halves, cache, input, aim);
+        let found = find_between(halves, cache, input, aim, bounds);
         input.set_anchored(anchored);
         found
     }
@@ -81,9 +84,11 @@ impl Engines {
         halves: &H,
         cache: &mut H::Cache,
         input: &mut Input<C>,
+        bounds: Bounds,
     ) -> Result<Option<Match>, MatchError>
         requires own { ∥ AreHalvesFor self.now.engine self.now.patterns (H.AreOf halves.now) ∥₁ }
         requires cache { H.IsCache halves.now cache.old }
+        requires bounds { AreBounds input.old bounds }
         requires free { input.old.anchored ≡ No }
         requires ends { self.now.spans.ends ≡ true }
         ensures cache { H.IsCache halves.now cache.new }
@@ -95,14 +100,14 @@ impl Engines {
         let aim = self.aim();
         match aim.kind {
             MatchKind::LeftmostFirst | MatchKind::LeftmostLongest => {
-                find_to_end(halves, cache, input, aim)
+                find_to_end(halves, cache, input, aim, bounds)
             }
             MatchKind::All => {
                 let all = Aim {
                     passes_over: false,
                     ..aim
                 };
-                find_to_end(halves, cache, input, all)
+                find_to_end(halves, cache, input, all, bounds)
             }
         }
     }
@@ -130,9 +135,11 @@ impl Engines {
         input: &mut Input<C>,
         question: Question,
         guard: Option<Guard>,
+        bounds: Bounds,
     ) -> Result<Option<Match>, MatchError>
         requires own { ∥ AreHalvesFor self.now.engine self.now.patterns (H.AreOf halves.now) ∥₁ }
         requires cache { H.IsCache halves.now cache.old }
+        requires bounds { AreBounds input.old bounds }
         requires guards { MayGuard self.now.engine guard }
         requires forwards { IsForwards question self.now.engine.kind }
         ensures cache { H.IsCache halves.now cache.new }
@@ -143,10 +150,10 @@ impl Engines {
     {
         let aim = self.aim_for(question);
         if let Some(guard) = guard {
-            let guarded = find_end_guarded(halves, cache, input, aim, guard)?;
+            let guarded = find_end_guarded(halves, cache, input, aim, guard, bounds)?;
             return Ok(at_end(guarded));
         }
-        let half = find_end(halves, cache, input, aim)?;
+        let half = find_end_between(halves, cache, input, aim, bounds)?;
         Ok(at_end(half))
     }
 
@@ -158,9 +165,11 @@ impl Engines {
         cache: &mut H::Cache,
         input: &mut Input<C>,
         length: usize,
+        bounds: Bounds,
     ) -> Result<Option<Match>, MatchError>
         requires own { ∥ AreHalvesFor self.now.engine self.now.patterns (H.AreOf halves.now) ∥₁ }
         requires cache { H.IsCache halves.now cache.old }
+        requires bounds { AreBounds input.old bounds }
         requires kind { is_leftmost self.now.engine.kind ≡ true }
         requires length { IsOneLength self.now.spans length }
         ensures cache { H.IsCache halves.now cache.new }
@@ -170,7 +179,8 @@ impl Engines {
         ensures within { IfOk result (λ found. IfSome found (IsWithinBounds input.old)) }
     {
         let guard = self.guard();
-        let Some(found) = self.ask_forwards(halves, cache, input, Question::End, guard)? else {
+        let Some(found) = self.ask_forwards(halves, cache, input, Question::End, guard, bounds)?
+        else {
             return Ok(None);
         };
         let end = found.end();
@@ -188,9 +198,11 @@ impl Engines {
         cache: &mut H::Cache,
         input: &mut Input<C>,
         question: Question,
+        bounds: Bounds,
     ) -> Result<Option<Match>, MatchError>
         requires own { ∥ AreHalvesFor self.now.engine self.now.patterns (H.AreOf halves.now) ∥₁ }
         requires cache { H.IsCache halves.now cache.old }
+        requires bounds { AreBounds input.old bounds }
         ensures cache { H.IsCache halves.now cache.new }
         ensures keeps { Keeps input.old input.new }
         ensures reply { IfOk result (IsReply question self.now.engine.kind
@@ -198,24 +210,24 @@ impl Engines {
         ensures within { IfOk result (λ found. IfSome found (IsWithinBounds input.old)) }
     {
         match self.route(input) {
-            Route::FromStart => return self.ask_from_start(halves, cache, input, question),
-            Route::FromEnd => return self.find_from_end(halves, cache, input),
+            Route::FromStart => return self.ask_from_start(halves, cache, input, question, bounds),
+            Route::FromEnd => return self.find_from_end(halves, cache, input, bounds),
             Route::OfLength(length) if !question.may_stop() => {
-                return self.find_of_length(halves, cache, input, length);
+                return self.find_of_length(halves, cache, input, length, bounds);
             }
             Route::OfLength(_) | Route::Along => {}
         }
         let guard = self.guard();
         if self.is_forwards(question, guard) {
-            return self.ask_forwards(halves, cache, input, question, guard);
+            return self.ask_forwards(halves, cache, input, question, guard, bounds);
         }
         let aim = self.aim_for(question);
         if let Some(guard) = guard {
-            return find_by_guard(halves, cache, input, aim, guard);
+            return find_by_guard(halves, cache, input, aim, guard, bounds);
         }
         match guards_of(&self.engine.literals) {
-            Some(needles) => find_past_quit(halves, cache, input, aim, needles),
-            None => find(halves, cache, input, aim),
+            Some(needles) => find_past_quit(halves, cache, input, aim, needles, bounds),
+            None => find_between(halves, cache, input, aim, bounds),
         }
     }
 
@@ -227,9 +239,11 @@ impl Engines {
         cache: &mut H::Cache,
         input: &mut Input<C>,
         question: Question,
+        bounds: Bounds,
     ) -> Result<Option<Match>, MatchError>
         requires own { ∥ AreHalvesFor self.now.engine self.now.patterns (H.AreOf halves.now) ∥₁ }
         requires cache { H.IsCache halves.now cache.old }
+        requires bounds { AreBounds input.old bounds }
         ensures cache { H.IsCache halves.now cache.new }
         ensures keeps { Keeps input.old input.new }
         ensures reply { IfOk result (IsReply question self.now.engine.kind
@@ -237,10 +251,16 @@ impl Engines {
         ensures within { IfOk result (λ found. IfSome found (IsWithinBounds input.old)) }
     {
         match question {
-            Question::Match => self.ask_by_route(halves, cache, input, Question::Match),
-            Question::End => self.ask_by_route(halves, cache, input, Question::End),
-            Question::Any => self.ask_by_route(halves, cache, input, Question::Any),
-            Question::Earliest => self.ask_by_route(halves, cache, input, Question::Earliest),
+            Question::Match => self.ask_by_route(halves, cache, input, Question::Match, bounds),
+            Question::End => self.ask_by_route(halves, cache, input, Question::End, bounds),
+            Question::Any => self.ask_by_route(halves, cache, input, Question::Any, bounds),
+            Question::Earliest => self.ask_by_route(
+                halves,
+                cache,
+                input,
+                Question::Earliest,
+                bounds,
+            ),
         }
     }
 
@@ -251,8 +271,10 @@ impl Engines {
         cache: &mut Option<lazy::Cache>,
         input: &mut Input<C>,
         question: Question,
+        bounds: Bounds,
     ) -> Option<Option<Match>>
         requires made { IsCacheOfBoth self.now.lazy cache.old }
+        requires bounds { AreBounds input.old bounds }
         ensures keeps { Keeps input.old input.new }
         ensures reply { IfSome result (IsReply question self.now.engine.kind
             (engine_search self.now.engine input.old)) }
@@ -261,13 +283,14 @@ impl Engines {
     {
         match self.table_choice(cache.is_some()) {
             TableChoice::AllStates(tables) => self
-                .ask_halves(tables, &mut NoCache, input, question)
+                .ask_halves(tables, &mut NoCache, input, question, bounds)
                 .ok(),
             TableChoice::MetStates(tables) => {
                 let Some(states) = cache else {
                     return None;
                 };
-                self.ask_halves(tables, states, input, question).ok()
+                self.ask_halves(tables, states, input, question, bounds)
+                    .ok()
             }
             TableChoice::NoTables => None,
         }
@@ -291,31 +314,24 @@ impl Engines {
         ensures within { IfSome result (IsWithinBounds input.old) }
         ensures cache { IsSameCacheIn self.now cache.old cache.new }
     {
-        if self.spans.leave_none(input) {
+        let Some(bounds) = self.spans.bounds(input) else {
             return None;
-        }
-        if let Some(found) = self.ask_tables(&mut cache.lazy, input, question) {
+        };
+        if let Some(found) = self.ask_tables(&mut cache.lazy, input, question, bounds) {
             return found;
         }
         ask_pass(&self.engine, &mut cache.pass, input, question)
     }
 
-    /// A cache for the lazy DFA, if a search of the input is to use it: there is no DFA, and its
-    /// bounds are at least `SHORT` bytes apart. `Err` means out of memory.
-    fn states_for<C: Cursor>(
-        &self,
-        alloc: Global,
-        input: &mut Input<C>,
-    ) -> Result<Option<lazy::Cache>, AllocError>
-        ensures keeps { Keeps input.old input.new }
+    /// A cache for the lazy DFA, if a search is to use it: there is no DFA, and the bounds are at
+    /// least `SHORT` bytes apart. `Err` means out of memory.
+    fn states_for(&self, alloc: Global, bounds: Bounds) -> Result<Option<lazy::Cache>, AllocError>
         ensures made { IfOk result (IsCacheOfBoth self.now.lazy) }
     {
         let TableChoice::MetStates(tables) = self.table_choice(true) else {
             return Ok(None);
         };
-        let low = low(input);
-        let high = high(input);
-        if high.saturating_sub(low) < SHORT {
+        if bounds.high.saturating_sub(bounds.low) < SHORT {
             return Ok(None);
         }
         let states = tables.create_cache(alloc)?;
@@ -336,11 +352,11 @@ impl Engines {
             (engine_search self.now.engine input.old)) }
         ensures within { IfOk result (λ found. IfSome found (IsWithinBounds input.old)) }
     {
-        if self.spans.leave_none(input) {
+        let Some(bounds) = self.spans.bounds(input) else {
             return Ok(None);
-        }
-        let mut states = self.states_for(alloc, input)?;
-        let told = self.ask_tables(&mut states, input, question);
+        };
+        let mut states = self.states_for(alloc, bounds)?;
+        let told = self.ask_tables(&mut states, input, question, bounds);
         drop(states);
         if let Some(found) = told {
             return Ok(found);

@@ -11,13 +11,14 @@ ghost use Rattle.rc_strategy.specs.Starts.{IsFirstStart};
 use crate::cache::Cache;
 use crate::engines::Engines;
 use crate::question::Question;
+use rc_dfa_search::search::Bounds;
 use rc_literals::marks::mark_owners;
 use rc_pattern_set::sets::PatternSet;
 use rc_pikevm::cache;
 use rc_pikevm::which::which_patterns;
 use rc_pikevm_search::literals::{guards_of, literals_of};
 use rc_text::cursor::Cursor;
-use rc_text::input::{Input, low};
+use rc_text::input::Input;
 use rc_text::types::{Match, MatchKind, PatternID};
 
 /// Inserts each of `patterns` patterns that has a match, as far as the set can hold it, by a pass.
@@ -84,7 +85,8 @@ pub(crate) fn has_all(set: &PatternSet, patterns: usize) -> bool
 
 impl Engines {
     ghost use Rattle.std.specs.Prelude.{◌≡◌, ◌≤◌, false, IfSome, IsTrue};
-    ghost use Rattle.rc_text.specs.Text.{Keeps, low, high};
+    ghost use Rattle.rc_text.specs.Text.{Keeps};
+    ghost use Rattle.rc_dfa_search.specs.Aims.{AreBounds};
     ghost use Rattle.rc_program.specs.Kinds.{answer_by};
     ghost use Rattle.rc_program.specs.Places.{places_of};
     ghost use Rattle.rc_pikevm_search.specs.Engine.{engine_search};
@@ -112,7 +114,10 @@ impl Engines {
         if literals_of(&self.engine.literals, self.engine.kind).is_some() {
             return Some(self.engine.find(&mut cache.pass, input));
         }
-        self.ask_tables(&mut cache.lazy, input, Question::Match)
+        let Some(bounds) = self.spans.bounds(input) else {
+            return Some(None);
+        };
+        self.ask_tables(&mut cache.lazy, input, Question::Match, bounds)
     }
 
     /// Returns from where on a pass finds each walk: none begins earlier. Returns None if there is
@@ -120,9 +125,14 @@ impl Engines {
     ///
     /// The leftmost-first match begins at the least start of all walks, and so does the
     /// leftmost-longest. With `MatchKind::All`, a DFA only finds out whether there is a match.
-    fn least_start<C: Cursor>(&self, cache: &mut Cache, input: &mut Input<C>) -> Option<usize>
+    fn least_start<C: Cursor>(
+        &self,
+        cache: &mut Cache,
+        input: &mut Input<C>,
+        bounds: Bounds,
+    ) -> Option<usize>
         requires made { IsCacheIn self.now 0 cache.old }
-        requires ordered { low input.old ≤ high input.old }
+        requires bounds { AreBounds input.old bounds }
         ensures keeps { Keeps input.old input.new }
         ensures first { IsFirstStart (engine_search self.now.engine input.old) result }
         ensures cache { IsSameCacheIn self.now cache.old cache.new }
@@ -133,11 +143,11 @@ impl Engines {
             ) {
                 Some(Some(found)) => Some(found.start()),
                 Some(None) => None,
-                None => Some(low(input)),
+                None => Some(bounds.low),
             },
-            MatchKind::All => match self.ask_tables(&mut cache.lazy, input, Question::Any) {
+            MatchKind::All => match self.ask_tables(&mut cache.lazy, input, Question::Any, bounds) {
                 Some(None) => None,
-                _ => Some(low(input)),
+                _ => Some(bounds.low),
             },
         }
     }
@@ -216,9 +226,9 @@ impl Engines {
         if has_all(set, patterns) {
             return;
         }
-        if self.spans.leave_none(input) {
+        let Some(bounds) = self.spans.bounds(input) else {
             return;
-        }
+        };
         if self.goes_by_literals() {
             self.mark_by_literals(input, set);
             return;
@@ -230,7 +240,7 @@ impl Engines {
         if self.mark_overlapping(&mut cache.lazy, input, set) {
             return;
         }
-        self.mark_by_passes(cache, input, patterns, set);
+        self.mark_by_passes(cache, input, patterns, bounds, set);
     }
 
     /// Inserts each pattern that has a match, as far as the set can hold it, by passes: from start
@@ -240,11 +250,12 @@ impl Engines {
         cache: &mut Cache,
         input: &mut Input<C>,
         patterns: usize,
+        bounds: Bounds,
         set: &mut PatternSet,
     )
         requires made { IsCacheIn self.now 0 cache.old }
         requires first { AreOfFirst patterns (places_of self.now.engine.program.places.items) }
-        requires ordered { low input.old ≤ high input.old }
+        requires bounds { AreBounds input.old bounds }
         ensures keeps { Keeps input.old input.new }
         ensures adds { AddsSpelled (engine_search self.now.engine input.old) set.old set.new }
         ensures cache { IsSameCacheIn self.now cache.old cache.new }
@@ -253,7 +264,7 @@ impl Engines {
             self.mark_by_starts(cache, input, patterns, set);
             return;
         }
-        if let Some(start) = self.least_start(cache, input) {
+        if let Some(start) = self.least_start(cache, input, bounds) {
             mark_from(self, &mut cache.pass, input, patterns, start, set);
         }
     }

@@ -13,12 +13,12 @@ abbrev pub invariant-runs : goal.invariant-runs
 invariant-runs g l = record {
   cache : g.H.Halves.IsCache l.halves l.cache;
   keeps : Keeps l.fn.input l.input;
-  low : l.lo ≤ l.at;
-  high : l.at ≤ l.hi;
+  low : l.fn.bounds.low ≤ l.at;
+  high : l.at ≤ l.high;
   passed : (hs : List Re) (terminator : ℕ) → AreHalvesOf (g.H.Halves.AreOf l.halves) l.aim hs terminator
-      → Guards (program hs) terminator (needles_of l.needles) → (x : ℕ) → l.lo ≤ x → x < l.at
+      → Guards (program hs) terminator (needles_of l.needles) → (x : ℕ) → l.fn.bounds.low ≤ x → x < l.at
       → HasNoWalkFrom (search_for l.aim hs terminator l.fn.input) x;
 }
 
 abbrev pub decreases-runs : goal.decreases-runs
-decreases-runs g l = l.hi + 1 - l.at
+decreases-runs g l = l.high + 1 - l.at

@@ -1,28 +1,26 @@
-use Rattle.std.proofs.Common.{◌≡◌, ◌∙◌, false, arith, subst, sym}
-use Rattle.rc_text.specs.Text.{low, high}
+use Rattle.std.proofs.Common.{false, arith, subst, sym}
+use Rattle.rc_text.specs.Text.{high}
 use Rattle.rc_program.specs.Answer.{Search}
 use Rattle.rc_dfa_search.specs.declared.needles.Leg.TheVariants.{Rested}
 use Rattle.rc_dfa_search.specs.Aims.{search_for}
 use Rattle.rc_dfa_search.specs.Reaches.{HasRunBelow, NoneBeginBelow}
 use Rattle.rc_dfa_search.proofs.IdleLemmas.{idle_first, idle_next}
 use Rattle.rc_dfa_search.proofs.NeedleLemmas.{came_on}
-use Rattle.rc_dfa_search.proofs.ToldLemmas.{kept_low, kept_search, kept_then}
+use Rattle.rc_dfa_search.proofs.ToldLemmas.{kept_same, kept_search, kept_then}
 use Rattle.rc_dfa_search.proofs.idle.last_idle.Goals as goal
 
 pub runs-init : goal.runs-init
 runs-init g c =
     let s = c.args.input.now in
-    let at : c.low-at.result ≡ low s = c.low-at.ensures ∙ kept_low s c.high-bound.new.input c.high-bound.ensures.keeps in
-    let bound = c.high-bound.ensures.value in
-    let ordered = c.requires.ordered in
+    let b = c.requires.bounds in
     record {
       cache = c.requires.cache;
-      keeps = c.high-bound.ensures.keeps;
-      low = omega (arith, at);
-      high = omega (arith, at, bound, ordered);
+      keeps = kept_same s;
+      low = omega (arith, b);
+      high = b.2;
       idle = λ hs terminator of.
-          subst (λ k. NoneBeginBelow (search_for c.args.aim hs terminator s) k k) (sym at)
-          (idle_first (g.H.Halves.AreOf c.args.halves.now) c.args.aim hs terminator of s c.requires.goes c.requires.preferred ordered);
+          subst (λ k. NoneBeginBelow (search_for c.args.aim hs terminator s) k k) (sym b.0)
+          (idle_first (g.H.Halves.AreOf c.args.halves.now) c.args.aim hs terminator of s c.requires.goes c.requires.preferred (omega (arith, b)));
     }
 
 pub runs-preserved-then-at-i : goal.runs-preserved-then-at-i
@@ -31,8 +29,8 @@ runs-preserved-then-at-i g c =
     let i = c.runs.invariant in
     let low_is = i.low in
     let high_is = i.high in
-    let bound = c.high-bound.ensures.value in
-    let on = came_on s c.high-bound.result bound c.runs.input i.keeps c.runs.at c.in_ok-came.came.leg c.in-Rested.i c.in_ok-came.ensures.on c.in-Rested.is in
+    let bound = c.requires.bounds.1 in
+    let on = came_on s c.args.bounds.high bound c.runs.input i.keeps c.runs.at c.in_ok-came.came.leg c.in-Rested.i c.in_ok-came.ensures.on c.in-Rested.is in
     let above = on.0 in
     let below = on.1 in
     record {
@@ -41,7 +39,7 @@ runs-preserved-then-at-i g c =
       low = omega (arith, low_is, above);
       high = below;
       idle = λ hs terminator of.
-          idle_next (g.H.Halves.AreOf c.args.halves.now) c.args.aim hs terminator of s c.requires.goes c.requires.preferred c.requires.ordered
+          idle_next (g.H.Halves.AreOf c.args.halves.now) c.args.aim hs terminator of s c.requires.goes c.requires.preferred (omega (arith, c.requires.bounds))
           c.runs.at c.in-Rested.i c.in_ok-came.came.read low_is (omega (arith, high_is, bound)) above (omega (arith, below, bound)) (i.idle hs terminator of)
           (subst (λ (q : Search). HasRunBelow of.ahead q.text q.hi c.runs.at false c.in_ok-came.came.read (Rested c.in-Rested.i))
           (kept_search c.args.aim hs terminator s c.runs.input i.keeps)

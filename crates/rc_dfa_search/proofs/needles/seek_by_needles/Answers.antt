@@ -25,15 +25,15 @@ pub runs-init : goal.runs-init
 runs-init g c =
     let above = c.requires.low in
     let below = c.requires.ordered in
-    let bound = c.requires.high in
+    let bound = c.requires.bounds in
     record {
       cache = c.requires.cache;
       keeps = record { content = refl; span = refl; slice = refl; anchored = refl; earliest = refl };
-      low = above;
+      low = omega (arith, above, bound);
       high = below;
       carried = λ aim hs terminator of guards goes none.
           all_below (g.H.Halves.AreOf c.args.halves.now) aim hs terminator of c.args.input.now goes (omega (arith, above, below, bound)) c.args.left.reach c.args.left.at
-          above (omega (arith, below, bound)) c.requires.far none;
+          (omega (arith, above, bound)) (omega (arith, below, bound)) c.requires.far none;
     }
 
 pub returns-in_default-clause-ending : goal.returns-in_default-clause-ending
@@ -42,8 +42,8 @@ returns-in_default-clause-ending g c aim hs terminator of guards goes none =
     let i = c.runs.invariant in
     let above = c.requires.low in
     let below = c.requires.ordered in
-    let bound = c.requires.high in
-    none_left (g.H.Halves.AreOf c.args.halves.now) aim hs terminator of s goes (low s) c.args.left.high refl c.requires.high (omega (arith, above, below))
+    let bound = c.requires.bounds in
+    none_left (g.H.Halves.AreOf c.args.halves.now) aim hs terminator of s goes (low s) c.args.left.bounds.high refl c.requires.bounds.1 (omega (arith, above, below))
     c.runs.input i.keeps c.runs.at i.high
     (i.carried aim hs terminator of guards goes none (search_for aim hs terminator s) (inside_of aim hs terminator s) (itself (search_for aim hs terminator s) c.runs.reach))
     (c.in_default.ensures.passed (program hs) terminator aim.passes_over guards)
@@ -57,15 +57,15 @@ module _ (g : Over) (c : After-max-reach g) where
 
   first : Some c.in-Some.start.needle ≡ option_map (λ (h : Hit). h.start) (find_needle (guard_needles c.args.guard) c.args.input.now.content c.runs.at (high c.args.input.now))
   first =
-      subst (λ b. Some c.in-Some.start.needle ≡ option_map (λ (h : Hit). h.start) (find_needle (guard_needles c.args.guard) c.args.input.now.content c.runs.at b)) c.requires.high
-      (subst (λ bytes. Some c.in-Some.start.needle ≡ option_map (λ (h : Hit). h.start) (find_needle (guard_needles c.args.guard) bytes c.runs.at c.args.left.high))
+      subst (λ b. Some c.in-Some.start.needle ≡ option_map (λ (h : Hit). h.start) (find_needle (guard_needles c.args.guard) c.args.input.now.content c.runs.at b)) c.requires.bounds.1
+      (subst (λ bytes. Some c.in-Some.start.needle ≡ option_map (λ (h : Hit). h.start) (find_needle (guard_needles c.args.guard) bytes c.runs.at c.args.left.bounds.high))
       c.runs.invariant.keeps.content c.in-Some.ensures.needle)
 
   begins : BeginsFor c.args.guard c.args.input.now.content c.runs.at c.in-Some.start
   begins = subst (λ bytes. BeginsFor c.args.guard bytes c.runs.at c.in-Some.start) c.runs.invariant.keeps.content c.in-Some.ensures.from
 
   high_needle : c.in-Some.start.needle < high c.args.input.now
-  high_needle = let w = c.in-Some.ensures.within in let lt = w.2 in omega (arith, lt, c.requires.high)
+  high_needle = let w = c.in-Some.ensures.within in let lt = w.2 in omega (arith, lt, c.requires.bounds.1)
 
   more : c.runs.reach ≤ c.max-reach.result
   more = omega (arith, c.max.ensures, c.max-reach.ensures)
@@ -79,7 +79,7 @@ module _ (g : Over) (c : After-max-reach g) where
       let longest_is = c.requires.longest in omega (arith, c.max.ensures, c.max-reach.ensures, c.saturating_add-sought.ensures, longest_is, fits)
 
   ordered : low c.args.input.now ≤ high c.args.input.now
-  ordered = let a = c.requires.low in let b = c.requires.ordered in omega (arith, a, b, c.requires.high)
+  ordered = omega (arith, c.requires.bounds)
 
   module _ (aim : Aim) (hs : List Re) (terminator : ℕ) (of : AreHalvesOf (g.H.Halves.AreOf c.args.halves.now) aim hs terminator)
       (guards : IsGuard (program hs) terminator c.args.guard) (goes : GoesByNeedles aim c.args.input.now.anchored)
@@ -125,7 +125,7 @@ runs-preserved g c =
     let w = c.in-Some.ensures.within in
     let low_from = w.0 in
     let above = c.runs.invariant.low in
-    let on = came_on c.args.input.now c.args.left.high c.requires.high c.next_start.new.input (before g k) c.in-Some.start.from c.in_ok-came.came.leg c.in-Rested.i
+    let on = came_on c.args.input.now c.args.left.bounds.high c.requires.bounds.1 c.next_start.new.input (before g k) c.in-Some.start.from c.in_ok-came.came.leg c.in-Rested.i
     c.in_ok-came.ensures.on c.in-Rested.is in
     let low_i = on.0 in
     record {

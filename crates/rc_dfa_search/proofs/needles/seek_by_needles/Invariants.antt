@@ -15,11 +15,11 @@ invariant-runs g l = record {
   cache : g.H.Halves.IsCache l.halves l.cache;
   keeps : Keeps l.fn.input l.input;
   low : low l.fn.input ≤ l.at;
-  high : l.at ≤ l.fn.left.high;
+  high : l.at ≤ l.fn.left.bounds.high;
   carried : (aim : Aim) (hs : List Re) (terminator : ℕ) (of : AreHalvesOf (g.H.Halves.AreOf l.halves) aim hs terminator) → IsGuard (program hs) terminator l.guard
       → GoesByNeedles aim l.fn.input.anchored → NoneBeginBelow (search_for aim hs terminator l.fn.input) l.fn.left.reach l.fn.left.at
       → GivesBelow aim.kind of.ahead (search_for aim hs terminator l.fn.input) l.reach l.at;
 }
 
 abbrev pub decreases-runs : goal.decreases-runs
-decreases-runs g l = l.fn.left.high + 1 - l.at
+decreases-runs g l = l.fn.left.bounds.high + 1 - l.at

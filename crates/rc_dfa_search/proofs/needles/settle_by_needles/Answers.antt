@@ -39,9 +39,7 @@ returns-in-Nowhere-clause-settled g c hs terminator of guards none =
     let aim = c.args.aim in
     let s = c.args.input.now in
     let fits = c.content_fits.ensures in
-    let above = c.requires.low in
-    let below = c.requires.ordered in
-    let high_is = c.requires.high in
+    let bounds = c.requires.bounds in
     answer_far aim.kind (search_for aim hs terminator s) 18446744073709551615 None (inside_of aim hs terminator s) (omega (arith, fits))
-    (sym (none_given (g.H.Halves.AreOf c.args.halves.now) aim hs terminator of s c.requires.goes (low s) (high s) refl refl (omega (arith, above, below, high_is))
+    (sym (none_given (g.H.Halves.AreOf c.args.halves.now) aim hs terminator of s c.requires.goes (low s) (high s) refl refl (omega (arith, bounds))
     (ending g k hs terminator of guards none Nowhere c.in-Nowhere.is)))

@@ -1,4 +1,4 @@
-use Rattle.std.proofs.Common.{◌≡◌, ◌∙◌, ◌≤◌, ℕ, List, Option, Some, None, IfOk, max, min, ap, sym, subst, arith}
+use Rattle.std.proofs.Common.{◌≡◌, ◌∙◌, ◌≤◌, ℕ, List, Option, Some, None, IfOk, max, min, ap, sym, subst, arith, inr}
 use Rattle.rc_text.specs.Found.{Found}
 use Rattle.rc_text.specs.Text.{Searched, low, high}
 use Rattle.rc_pattern.specs.Re.{Re}
@@ -9,35 +9,26 @@ use Rattle.rc_dfa_search.specs.Aims.{AreHalvesOf, search_for}
 use Rattle.rc_dfa_search.specs.Ends.{Asks}
 use Rattle.rc_dfa_search.specs.Reaches.{BeginsBy, HasMetBelow, IsAnswerBelow}
 use Rattle.rc_dfa_search.proofs.ReachLemmas.{end_is, met_below, met_past, none_settled, some_settled, start_settled, void_below}
-use Rattle.rc_dfa_search.proofs.ToldLemmas.{kept_high, kept_low, kept_search, kept_text}
+use Rattle.rc_dfa_search.proofs.ToldLemmas.{asks_none, asks_so, kept_text}
 use Rattle.rc_dfa_search.proofs.reach.find_settled.Given.{Over}
 use Rattle.rc_dfa_search.proofs.reach.find_settled.Goals as goal
 use Rattle.rc_dfa_search.proofs.reach.find_settled.Goals.{In_ok-met, In_ok-least}
 
-pub returns-in_default-clause-settled : goal.returns-in_default-clause-settled
-returns-in_default-clause-settled g c hs terminator of =
+pub returns-then-not-asks-clause-settled : goal.returns-then-not-asks-clause-settled
+returns-then-not-asks-clause-settled g c hs terminator of =
     void_below (g.H.Halves.AreOf c.args.halves.now) c.args.aim c.requires.tells hs terminator of c.args.input.now 18446744073709551615
-    (let fits = c.content_fits.ensures in omega (arith, fits)) c.in_default.ensures.none
+    (let fits = c.content_fits.ensures in omega (arith, fits))
+    (inr (asks_none c.args.aim.patterns c.args.input.now.anchored c.get_anchored.result c.asks.result c.asks.ensures c.get_anchored.ensures c.if-not-asks.true))
 
 -- the input where the run begins
 abbrev here : (g : Over) (c : In_ok-met g) → Searched
-here g c = c.bounds_of.new.input
+here g c = c.args.input.now
 
 le : (g : Over) (c : In_ok-met g) → low (here g c) ≤ high (here g c)
-le g c =
-    let keeps = c.bounds_of.ensures.keeps in
-    let a = kept_low c.args.input.now (here g c) keeps in
-    let b = kept_high c.args.input.now (here g c) keeps in
-    omega (arith, a, b, c.in-Some.ensures.some.2)
+le g c = omega (arith, c.requires.bounds)
 
 asks : (g : Over) (c : In_ok-met g) → Asks c.args.aim.patterns (here g c).anchored
-asks g c = subst (Asks c.args.aim.patterns) (sym c.bounds_of.ensures.keeps.anchored) c.in-Some.ensures.some.3
-
-at_low : (g : Over) (c : In_ok-met g) → c.in-Some.field-0.low ≡ low (here g c)
-at_low g c = c.in-Some.ensures.some.0 ∙ sym (kept_low c.args.input.now (here g c) c.bounds_of.ensures.keeps)
-
-at_high : (g : Over) (c : In_ok-met g) → c.in-Some.field-0.high ≡ high (here g c)
-at_high g c = c.in-Some.ensures.some.1 ∙ sym (kept_high c.args.input.now (here g c) c.bounds_of.ensures.keeps)
+asks g c = asks_so c.args.aim.patterns c.args.input.now.anchored c.get_anchored.result c.asks.result c.asks.ensures c.get_anchored.ensures c.if-not-asks.false
 
 -- what the run met
 met_here : (g : Over) (c : In_ok-met g) (hs : List Re) (terminator : ℕ) (of : AreHalvesOf (g.H.Halves.AreOf c.args.halves.now) c.args.aim hs terminator) (o : Option Met) →
@@ -47,55 +38,43 @@ met_here g c hs terminator of o is =
     subst (HasMetBelow of.ahead (text_of terminator (here g c)) (high (here g c)) (low (here g c)) (here g c).anchored c.run_forwards-reading.result.read) is
     (subst (λ r. IfOk r (HasMetBelow of.ahead (text_of terminator (here g c)) (high (here g c)) (low (here g c)) (here g c).anchored c.run_forwards-reading.result.read)) c.in_ok-met.was
     (met_below (g.H.Halves.AreOf c.args.halves.now) c.args.aim c.requires.tells hs terminator of (here g c) (le g c) (asks g c) c.run_forwards-reading.result c.told.result
-    c.in-Some.field-0.low c.get_anchored.result c.told.ensures (at_low g c) c.get_anchored.ensures c.run_forwards-reading.ensures.ended))
+    c.args.bounds.low c.get_anchored-2.result c.told.ensures c.requires.bounds.0 c.get_anchored-2.ensures c.run_forwards-reading.ensures.ended))
 
-same_search : (g : Over) (c : In_ok-met g) (hs : List Re) (terminator : ℕ) → search_for c.args.aim hs terminator (here g c) ≡ search_for c.args.aim hs terminator c.args.input.now
-same_search g c hs terminator = kept_search c.args.aim hs terminator c.args.input.now (here g c) c.bounds_of.ensures.keeps
-
-pub returns-in_default-2-clause-settled : goal.returns-in_default-2-clause-settled
-returns-in_default-2-clause-settled g c hs terminator of =
-    let k = (goal.at.returns-in_default-2-clause-settled g c).In_ok-met in
-    subst (λ q. IsAnswerBelow c.args.aim.kind q c.run_forwards-reading.result.read None) (same_search g k hs terminator)
-    (none_settled (g.H.Halves.AreOf c.args.halves.now) c.args.aim c.requires.tells hs terminator of (here g k) (le g k) (asks g k) c.run_forwards-reading.result.read
-    (met_here g k hs terminator of None c.in_default-2.is))
+pub returns-in_default-clause-settled : goal.returns-in_default-clause-settled
+returns-in_default-clause-settled g c hs terminator of =
+    let k = (goal.at.returns-in_default-clause-settled g c).In_ok-met in
+    none_settled (g.H.Halves.AreOf c.args.halves.now) c.args.aim c.requires.tells hs terminator of (here g k) (le g k) (asks g k) c.run_forwards-reading.result.read
+    (met_here g k hs terminator of None c.in_default.is)
 
 -- where the match begins
 begins_here : (g : Over) (c : In_ok-least g) (hs : List Re) (terminator : ℕ) (of : AreHalvesOf (g.H.Halves.AreOf c.args.halves.now) c.args.aim hs terminator)
     (o : Option ℕ) → c.in_ok-least.field-0 ≡ o →
-    BeginsBy of.back (text_of terminator c.bounds_of.new.input) (low c.bounds_of.new.input) c.min-end.result c.bounds_of.new.input.anchored o
+    BeginsBy of.back (text_of terminator c.args.input.now) (low c.args.input.now) c.min-end.result c.args.input.now.anchored o
 begins_here g c hs terminator of o is =
-    let b = c.bounds_of.new.input in
+    let b = c.args.input.now in
     let d = c.run_forwards-reading.new.input in
     let k = c.run_forwards-reading.ensures.keeps in
-    let low_is = c.in-Some.ensures.some.0 ∙ sym (kept_low c.args.input.now b c.bounds_of.ensures.keeps) in
-    let raw = subst (λ x. BeginsBy of.back (text_of terminator d) c.in-Some.field-0.low c.min-end.result d.anchored x) is (c.in_ok-least.ensures.start hs terminator of) in
+    let raw = subst (λ x. BeginsBy of.back (text_of terminator d) c.args.bounds.low c.min-end.result d.anchored x) is (c.in_ok-least.ensures.start hs terminator of) in
     subst (λ (t : Text). BeginsBy of.back t (low b) c.min-end.result b.anchored o) (kept_text terminator b d k)
     (subst (λ a. BeginsBy of.back (text_of terminator d) (low b) c.min-end.result a o) k.anchored
-    (subst (λ x. BeginsBy of.back (text_of terminator d) x c.min-end.result d.anchored o) low_is raw))
+    (subst (λ x. BeginsBy of.back (text_of terminator d) x c.min-end.result d.anchored o) c.requires.bounds.0 raw))
 
 -- where it ends
-end_here : (g : Over) (c : In_ok-least g) → c.min-end.result ≡ min (max c.in-Some-2.met.at (low c.bounds_of.new.input)) (high c.bounds_of.new.input)
-end_here g c =
-    let b = c.bounds_of.new.input in
-    let keeps = c.bounds_of.ensures.keeps in
-    let low_is = c.in-Some.ensures.some.0 ∙ sym (kept_low c.args.input.now b keeps) in
-    let high_is = c.in-Some.ensures.some.1 ∙ sym (kept_high c.args.input.now b keeps) in
-    c.min-end.ensures ∙ ap (λ x. min x c.in-Some.field-0.high) c.max.ensures
-    ∙ ap (λ x. min (max c.in-Some-2.met.at c.in-Some.field-0.low) x) high_is
-    ∙ ap (λ x. min (max c.in-Some-2.met.at x) (high b)) low_is
+end_here : (g : Over) (c : In_ok-least g) → c.min-end.result ≡ min (max c.in-Some.met.at (low c.args.input.now)) (high c.args.input.now)
+end_here g c = omega (arith, c.min-end.ensures, c.max.ensures, c.requires.bounds)
 
-pub returns-in_default-3-clause-settled : goal.returns-in_default-3-clause-settled
-returns-in_default-3-clause-settled g c hs terminator of =
-    let at = goal.at.returns-in_default-3-clause-settled g c in
+pub returns-in_default-2-clause-settled : goal.returns-in_default-2-clause-settled
+returns-in_default-2-clause-settled g c hs terminator of =
+    let at = goal.at.returns-in_default-2-clause-settled g c in
     let k = at.In_ok-met in
     let l = at.In_ok-least in
     let AreOf = g.H.Halves.AreOf c.args.halves.now in
-    let met = c.in-Some-2.met in
-    let h = met_here g k hs terminator of (Some met) c.in-Some-2.is in
+    let met = c.in-Some.met in
+    let h = met_here g k hs terminator of (Some met) c.in-Some.is in
     let r = c.run_forwards-reading.result.read in
     let end = end_is AreOf c.args.aim c.requires.tells hs terminator of (here g k) (le g k) (asks g k) r met h c.min-end.result (end_here g l) in
     absurd (start_settled AreOf c.args.aim c.requires.tells hs terminator of (here g k) (le g k) (asks g k) r met h c.min-end.result end
-    (begins_here g l hs terminator of None c.in_default-3.is))
+    (begins_here g l hs terminator of None c.in_default-2.is))
 
 pub returns-clause-settled : goal.returns-clause-settled
 returns-clause-settled g c hs terminator of =
@@ -104,15 +83,14 @@ returns-clause-settled g c hs terminator of =
     let l = at.In_ok-least in
     let b = here g k in
     let AreOf = g.H.Halves.AreOf c.args.halves.now in
-    let met = c.in-Some-2.met in
-    let h = met_here g k hs terminator of (Some met) c.in-Some-2.is in
+    let met = c.in-Some.met in
+    let h = met_here g k hs terminator of (Some met) c.in-Some.is in
     let r = c.run_forwards-reading.result.read in
     let end = end_is AreOf c.args.aim c.requires.tells hs terminator of b (le g k) (asks g k) r met h c.min-end.result (end_here g l) in
-    let start = c.min-start.ensures ∙ ap (λ x. min x c.min-end.result) c.max-2.ensures ∙ ap (λ x. min (max c.in-Some-3.least x) c.min-end.result) (at_low g k) in
-    subst (λ q. IsAnswerBelow c.args.aim.kind q r (Some c.new.result)) (same_search g k hs terminator)
-    (subst (λ (m : Found). IsAnswerBelow c.args.aim.kind (search_for c.args.aim hs terminator b) r (Some m)) (sym c.new.ensures)
-    (some_settled AreOf c.args.aim c.requires.tells hs terminator of b (le g k) (asks g k) r met h c.min-end.result c.in-Some-3.least c.min-start.result
-    c.in_ok-pattern.pattern end (begins_here g l hs terminator of (Some c.in-Some-3.least) c.in-Some-3.is) start c.in_ok-pattern.ensures.id))
+    let start = c.min-start.ensures ∙ ap (λ x. min x c.min-end.result) c.max-2.ensures ∙ ap (λ x. min (max c.in-Some-2.least x) c.min-end.result) c.requires.bounds.0 in
+    subst (λ (m : Found). IsAnswerBelow c.args.aim.kind (search_for c.args.aim hs terminator b) r (Some m)) (sym c.new.ensures)
+    (some_settled AreOf c.args.aim c.requires.tells hs terminator of b (le g k) (asks g k) r met h c.min-end.result c.in-Some-2.least c.min-start.result
+    c.in_ok-pattern.pattern end (begins_here g l hs terminator of (Some c.in-Some-2.least) c.in-Some-2.is) start c.in_ok-pattern.ensures.id)
 
 pub returns-clause-past : goal.returns-clause-past
 returns-clause-past g c hs terminator of =
@@ -121,8 +99,8 @@ returns-clause-past g c hs terminator of =
     let l = at.In_ok-least in
     let b = here g k in
     let AreOf = g.H.Halves.AreOf c.args.halves.now in
-    let met = c.in-Some-2.met in
-    let h = met_here g k hs terminator of (Some met) c.in-Some-2.is in
+    let met = c.in-Some.met in
+    let h = met_here g k hs terminator of (Some met) c.in-Some.is in
     let r = c.run_forwards-reading.result.read in
     let end = end_is AreOf c.args.aim c.requires.tells hs terminator of b (le g k) (asks g k) r met h c.min-end.result (end_here g l) in
     let past = met_past AreOf c.args.aim c.requires.tells hs terminator of b (le g k) (asks g k) r met h in

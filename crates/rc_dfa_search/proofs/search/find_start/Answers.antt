@@ -1,77 +1,26 @@
-use Rattle.std.proofs.Common.{◌≡◌, refl, ℕ, ◌+◌, ◌-◌, Bool, List, not, ◌||◌, min, max, sym, ap, subst, ◌∙◌, inl}
-use Rattle.rc_text.specs.Found.{HalfFound}
-use Rattle.rc_text.specs.Text.{Keeps, high, low, is_boundary}
-use Rattle.rc_pattern.specs.Re.{Re}
-use Rattle.rc_dfa_search.specs.Aims.{AreHalvesOf, is_early, search_for, cost}
-use Rattle.rc_dfa_search.specs.Faults.{IsFault}
-use Rattle.rc_dfa_search.specs.Reverse.{IsStartWhere}
-use Rattle.rc_dfa_search.proofs.CostLemmas.{refused}
-use Rattle.rc_dfa_search.proofs.PatternLemmas.{has_number, start_below}
-use Rattle.rc_dfa_search.proofs.ToldLemmas.{kept_search, kept_then, weaker_fault}
+use Rattle.std.proofs.Common.{IfOk, subst, inl, refl}
+use Rattle.rc_dfa_search.specs.Aims.{search_for}
+use Rattle.rc_dfa_search.specs.Reverse.{IsReverseHalf}
 use Rattle.rc_dfa_search.proofs.SeekLemmas.{void_start}
-use Rattle.rc_dfa_search.proofs.StartLemmas.{run_no_start, run_start, cost_of_start}
-use Rattle.rc_dfa_search.proofs.search.find_start.Given.{Over}
+use Rattle.rc_dfa_search.proofs.CostLemmas.{kept_cost, kept_fault}
+use Rattle.rc_dfa_search.proofs.ToldLemmas.{kept_search}
 use Rattle.rc_dfa_search.proofs.search.find_start.Goals as goal
-use Rattle.rc_dfa_search.proofs.search.find_start.Goals.{After-min-offset, After-run_backwards}
-
-keeps : (g : Over) (c : After-run_backwards g) → Keeps c.args.input.now c.is_allowed.new.input
-keeps g c = kept_then c.args.input.now c.bounds_of.new.input c.is_allowed.new.input c.bounds_of.ensures.keeps c.is_allowed.ensures.keeps
 
 pub returns-in_default-clause-found : goal.returns-in_default-clause-found
 returns-in_default-clause-found g c hs terminator of =
-    inl (void_start hs c.args.aim.patterns c.args.input.now.anchored (search_for c.args.aim hs terminator c.args.input.now) refl refl of.counted c.in_default.ensures.none)
-
-pub returns-in_err-met-clause-fault : goal.returns-in_err-met-clause-fault
-returns-in_err-met-clause-fault g c hs terminator of =
-    let s = search_for c.args.aim hs terminator c.args.input.now in
-    let b = c.is_allowed.new.input in
-    let kept = keeps g (goal.at.returns-in_err-met-clause-fault g c).After-run_backwards in
-    let Gives : ℕ → Bool → Type 0 = g.H.Halves.GivesUp c.args.halves.now c.args.cache.now c.run_backwards.new.cache in
-    let n : ℕ = high b - c.in-Some.bounds.low + 2 in
-    let k : ℕ = cost c.args.input.now in
-    refused c.from_residual.result c.in_err-met.field-0.0 c.from_residual.ensures.1 (IsFault hs s (Gives k))
-    (weaker_fault hs s (Gives n) (Gives k)
-    (λ memory. g.met.H.Halves.gives_up_within c.args.halves.now c.args.cache.now c.run_backwards.new.cache n k memory
-    (cost_of_start c.args.input.now b c.in-Some.bounds.low kept c.in-Some.ensures.some.0))
-    c.in_err-met.field-0.0
-    (subst (λ x. IsFault hs x (Gives n) c.in_err-met.field-0.0) (kept_search c.args.aim hs terminator c.args.input.now b kept) (c.in_err-met.ensures.fault hs terminator of)))
-
-pub returns-in_default-2-clause-found : goal.returns-in_default-2-clause-found
-returns-in_default-2-clause-found g c hs terminator of =
-    let e = c.in-Some.ensures.some in
-    inl (run_no_start (g.H.Halves.AreOf c.args.halves.now) c.args.aim hs terminator of c.args.input.now c.is_allowed.new.input
-    (keeps g (goal.at.returns-in_default-2-clause-found g c).After-run_backwards) e.2 e.3 c.in-Some.bounds.low c.in-Some.bounds.high e.0 e.1
-    c.in_ok-met.field-0 (c.in_ok-met.ensures.met hs terminator of) c.in_default-2.is)
-
--- what was met is a start
-met_so : (g : Over) (c : After-min-offset g) (hs : List Re) (terminator : ℕ) → AreHalvesOf (g.H.Halves.AreOf c.args.halves.now) c.args.aim hs terminator →
-    IsStartWhere (is_early c.args.aim) (search_for c.args.aim hs terminator c.args.input.now) (record { pattern = c.in-Some-2.met.pattern; offset = c.min-offset.result })
-met_so g c hs terminator of =
-    let e = c.in-Some.ensures.some in
-    let met = c.in-Some-2.met in
-    run_start (g.H.Halves.AreOf c.args.halves.now) c.args.aim hs terminator of c.args.input.now c.is_allowed.new.input
-    (kept_then c.args.input.now c.bounds_of.new.input c.is_allowed.new.input c.bounds_of.ensures.keeps c.is_allowed.ensures.keeps)
-    e.2 e.3 c.in-Some.bounds.low c.in-Some.bounds.high e.0 e.1
-    c.in_ok-met.field-0 (c.in_ok-met.ensures.met hs terminator of) met c.min-offset.result c.in-Some-2.is
-    (c.min-offset.ensures ∙ ap (λ x. min x c.in-Some.bounds.high) c.max.ensures ∙ ap (λ x. min (max met.at x) c.in-Some.bounds.high) e.0
-    ∙ ap (λ x. min (max met.at (low c.args.input.now)) x) e.1)
-
-pub returns-in_err-pattern-clause-fault : goal.returns-in_err-pattern-clause-fault
-returns-in_err-pattern-clause-fault g c hs terminator of =
-    let k = (goal.at.returns-in_err-pattern-clause-fault g c).After-min-offset in
-    let half : HalfFound = record { pattern = c.in-Some-2.met.pattern; offset = c.min-offset.result } in
-    absurd (has_number hs half.pattern of.few c.in_err-pattern.ensures.refused
-    (start_below hs (is_early c.args.aim) (search_for c.args.aim hs terminator c.args.input.now) half refl (met_so g k hs terminator of)))
+    inl (void_start hs c.args.aim.patterns c.args.input.now.anchored (search_for c.args.aim hs terminator c.args.input.now) refl refl of.counted (inl c.in_default.ensures.none))
 
 pub returns-clause-found : goal.returns-clause-found
 returns-clause-found g c hs terminator of =
-    let e = c.in-Some.ensures.some in
-    let s = search_for c.args.aim hs terminator c.args.input.now in
-    let at : ℕ = c.min-offset.result in
-    let half : HalfFound = record { pattern = c.in-Some-2.met.pattern; offset = at } in
-    let same : c.new.result ≡ half = c.new.ensures ∙ ap (λ p. let h : HalfFound = record { pattern = p; offset = at } in h) c.in_ok-pattern.ensures.id in (
-      subst (λ (h : HalfFound). IsStartWhere (is_early c.args.aim) s h) (sym same) (met_so g (goal.at.returns-clause-found g c).After-min-offset hs terminator of),
-      ap (λ x. not c.args.aim.passes_over || is_boundary c.args.input.now.content x) (sym e.1)
-          ∙ ap (λ bytes. not c.args.aim.passes_over || is_boundary bytes c.in-Some.bounds.high) (sym c.bounds_of.ensures.keeps.content)
-          ∙ sym c.is_allowed.ensures.value ∙ c.if-not-is_allowed.false,
-    )
+    subst (λ q. IfOk c.find_start_between.result (IsReverseHalf c.args.aim.earliest q))
+    (kept_search c.args.aim hs terminator c.args.input.now c.bounds_of.new.input c.bounds_of.ensures.keeps) (c.find_start_between.ensures.found hs terminator of)
+
+pub returns-clause-fault : goal.returns-clause-fault
+returns-clause-fault g c hs terminator of =
+    kept_fault c.args.aim hs terminator c.args.input.now c.bounds_of.new.input c.bounds_of.ensures.keeps (g.H.Halves.GivesUp c.args.halves.now c.args.cache.now c.find_start_between.new.cache)
+    c.find_start_between.result (c.find_start_between.ensures.fault hs terminator of)
+
+pub returns-clause-spends : goal.returns-clause-spends
+returns-clause-spends g c =
+    subst (g.H.Halves.Spends c.args.halves.now c.args.cache.now c.find_start_between.new.cache) (kept_cost c.args.input.now c.bounds_of.new.input c.bounds_of.ensures.keeps)
+    c.find_start_between.ensures.spends

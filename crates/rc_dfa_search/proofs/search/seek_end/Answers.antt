@@ -1,15 +1,15 @@
 use Rattle.std.proofs.Common.{refl, ◌+◌, ◌-◌, ◌*◌, ℕ, Bool, sym, ap, subst, ◌∙◌, arith, inl, inr, ⊎_elim, min, max}
 use Rattle.rc_text.specs.Text.{low, high}
 use Rattle.rc_text.specs.Plain.{is_anchored as anchors}
-use Rattle.rc_dfa_search.specs.Aims.{is_early, search_for}
-use Rattle.rc_dfa_search.specs.Ends.{Stands, cost_forwards, may_end}
+use Rattle.rc_dfa_search.specs.Aims.{is_early, search_for, search_from}
+use Rattle.rc_dfa_search.specs.Ends.{cost_forwards, may_end}
 use Rattle.rc_dfa_search.specs.Faults.{IsFault}
 use Rattle.rc_dfa_search.proofs.CostLemmas.{refused, next_cost, run_cost}
-use Rattle.rc_dfa_search.proofs.ToldLemmas.{case_of, kept_search, kept_then, weaker_fault}
+use Rattle.rc_dfa_search.proofs.ToldLemmas.{asks_none, asks_so, case_from, kept_search, kept_then, weaker_fault}
 use Rattle.rc_dfa_search.proofs.SeekLemmas.{void_answer, stands_first, run_none, run_end, run_raised}
 use Rattle.rc_dfa_search.proofs.search.seek_end.Given.{Over}
 use Rattle.rc_dfa_search.proofs.search.seek_end.Goals as goal
-use Rattle.rc_dfa_search.proofs.search.seek_end.Goals.{After-run_forwards, In_ok-met}
+use Rattle.rc_dfa_search.proofs.search.seek_end.Goals.{After-run_forwards}
 
 spent : (g : Over) (c : After-run_forwards g) → g.H.Halves.Spends c.args.halves.now c.args.cache.now c.run_forwards.new.cache (cost_forwards c.args.input.now)
 spent g c =
@@ -21,25 +21,29 @@ spent g c =
     ((c.starts.from - low c.args.input.now) * (high c.args.input.now - low c.args.input.now + 2)) (high c.starts.input - c.starts.from + 2)
     i.spends c.run_forwards.ensures.spends)
 
-pub returns-in_default-clause-none : goal.returns-in_default-clause-none
-returns-in_default-clause-none g c hs terminator of =
-    void_answer hs c.args.aim.patterns c.args.aim.kind (is_early c.args.aim) c.args.input.now.anchored (search_for c.args.aim hs terminator c.args.input.now) refl refl
-    of.counted c.in_default.ensures.none
+pub returns-then-not-asks-clause-none : goal.returns-then-not-asks-clause-none
+returns-then-not-asks-clause-none g c hs terminator of =
+    void_answer hs c.args.aim.patterns c.args.aim.kind (is_early c.args.aim) c.args.input.now.anchored
+    (search_from c.args.aim hs terminator c.args.input.now c.args.bounds.low) refl refl of.counted
+    (inr (asks_none c.args.aim.patterns c.args.input.now.anchored c.get_anchored-anchoring.result c.asks.result c.asks.ensures c.get_anchored-anchoring.ensures c.if-not-asks.true))
 
 pub starts-init : goal.starts-init
-starts-init g c = record {
-  cache = c.requires.cache;
-  keeps = c.bounds_of.ensures.keeps;
-  above = (c.in-Some.ensures.some.0, omega arith);
-  below = let e = c.in-Some.ensures.some in (e.1, omega (arith, e.0, e.1, e.2));
-  asks = c.in-Some.ensures.some.3;
-  stands = λ hs terminator of. let e = c.in-Some.ensures.some in
-      subst (Stands hs c.args.aim.kind (is_early c.args.aim) of.ahead of.back c.args.input.now.anchored (search_for c.args.aim hs terminator c.args.input.now)) (sym e.0)
-      (stands_first hs c.args.aim.kind (is_early c.args.aim) of.ahead of.back c.args.input.now.anchored (search_for c.args.aim hs terminator c.args.input.now)
-      (case_of (g.H.Halves.AreOf c.args.halves.now) c.args.aim hs terminator c.args.input.now of e.2 e.3));
-  spends = g.met.H.Halves.spends_nothing c.args.halves.now c.args.cache.now
-      ((c.in-Some.field-0.low - low c.args.input.now) * (high c.args.input.now - low c.args.input.now + 2));
-}
+starts-init g c =
+    let asks = asks_so c.args.aim.patterns c.args.input.now.anchored c.get_anchored-anchoring.result c.asks.result c.asks.ensures c.get_anchored-anchoring.ensures c.if-not-asks.false in
+    record {
+      cache = c.requires.cache;
+      keeps = record { content = refl; span = refl; slice = refl; anchored = refl; earliest = refl };
+      above = (c.requires.low, omega arith);
+      below = (c.requires.high, c.requires.ordered);
+      asks = asks;
+      stands = λ hs terminator of.
+          stands_first hs c.args.aim.kind (is_early c.args.aim) of.ahead of.back c.args.input.now.anchored
+          (search_from c.args.aim hs terminator c.args.input.now c.args.bounds.low)
+          (case_from (g.H.Halves.AreOf c.args.halves.now) c.args.aim hs terminator c.args.input.now of c.args.bounds.low c.requires.low
+          (omega (arith, c.requires.ordered, c.requires.high)) asks);
+      spends = g.met.H.Halves.spends_nothing c.args.halves.now c.args.cache.now
+          ((c.args.bounds.low - low c.args.input.now) * (high c.args.input.now - low c.args.input.now + 2));
+    }
 
 pub returns-in_err-met-clause-fault : goal.returns-in_err-met-clause-fault
 returns-in_err-met-clause-fault g c hs terminator of =
@@ -60,8 +64,8 @@ returns-in_err-met-clause-fault g c hs terminator of =
 pub returns-in_err-met-clause-spends : goal.returns-in_err-met-clause-spends
 returns-in_err-met-clause-spends g c = spent g (goal.at.returns-in_err-met-clause-spends g c).After-run_forwards
 
-pub returns-in_default-2-clause-spends : goal.returns-in_default-2-clause-spends
-returns-in_default-2-clause-spends g c = spent g (goal.at.returns-in_default-2-clause-spends g c).After-run_forwards
+pub returns-in_default-clause-spends : goal.returns-in_default-clause-spends
+returns-in_default-clause-spends g c = spent g (goal.at.returns-in_default-clause-spends g c).After-run_forwards
 
 pub returns-then-may_end-clause-spends : goal.returns-then-may_end-clause-spends
 returns-then-may_end-clause-spends g c = spent g (goal.at.returns-then-may_end-clause-spends g c).After-run_forwards
@@ -69,28 +73,28 @@ returns-then-may_end-clause-spends g c = spent g (goal.at.returns-then-may_end-c
 pub returns-then-anchored-clause-spends : goal.returns-then-anchored-clause-spends
 returns-then-anchored-clause-spends g c = spent g (goal.at.returns-then-anchored-clause-spends g c).After-run_forwards
 
-pub returns-in_default-2-clause-none : goal.returns-in_default-2-clause-none
-returns-in_default-2-clause-none g c hs terminator of =
-    run_none (g.H.Halves.AreOf c.args.halves.now) c.args.aim hs terminator of c.args.input.now c.starts.input c.starts.invariant.keeps c.starts.from
-    (c.starts.invariant.stands hs terminator of) c.in_ok-met.field-0 (c.in_ok-met.ensures.met hs terminator of) c.in_default-2.is
+pub returns-in_default-clause-none : goal.returns-in_default-clause-none
+returns-in_default-clause-none g c hs terminator of =
+    run_none (g.H.Halves.AreOf c.args.halves.now) c.args.aim hs terminator of c.args.input.now c.starts.input c.starts.invariant.keeps c.args.bounds.low c.starts.from
+    (c.starts.invariant.stands hs terminator of) c.in_ok-met.field-0 (c.in_ok-met.ensures.met hs terminator of) c.in_default.is
 
 pub returns-then-may_end-clause-some : goal.returns-then-may_end-clause-some
 returns-then-may_end-clause-some g c hs terminator of =
     let i = c.starts.invariant in
     let content = c.in_ok-met.ensures.keeps.content ∙ i.keeps.content in
-    run_end (g.H.Halves.AreOf c.args.halves.now) c.args.aim hs terminator of c.args.input.now c.starts.input i.keeps c.starts.from
-    (i.stands hs terminator of) c.in_ok-met.field-0 (c.in_ok-met.ensures.met hs terminator of) c.in-Some-2.met c.min.result c.in-Some-2.is
-    (ap (λ bytes. may_end c.args.aim.kind c.args.aim.passes_over bytes c.in-Some-2.met.at) (sym content) ∙ sym c.may_end.ensures.value ∙ c.if-may_end.true)
-    (c.min.ensures ∙ ap (λ x. min x c.in-Some.field-0.high) c.max.ensures ∙ ap (λ x. min (max c.in-Some-2.met.at c.starts.from) x) i.below.0)
+    run_end (g.H.Halves.AreOf c.args.halves.now) c.args.aim hs terminator of c.args.input.now c.starts.input i.keeps c.args.bounds.low c.starts.from
+    (i.stands hs terminator of) c.in_ok-met.field-0 (c.in_ok-met.ensures.met hs terminator of) c.in-Some.met c.min.result c.in-Some.is
+    (ap (λ bytes. may_end c.args.aim.kind c.args.aim.passes_over bytes c.in-Some.met.at) (sym content) ∙ sym c.may_end.ensures.value ∙ c.if-may_end.true)
+    (c.min.ensures ∙ ap (λ x. min x c.args.bounds.high) c.max.ensures ∙ ap (λ x. min (max c.in-Some.met.at c.starts.from) x) i.below.0)
 
 pub returns-then-anchored-clause-none : goal.returns-then-anchored-clause-none
 returns-then-anchored-clause-none g c hs terminator of =
     let i = c.starts.invariant in
     let content = c.in_ok-met.ensures.keeps.content ∙ i.keeps.content in
-    let r = run_raised (g.H.Halves.AreOf c.args.halves.now) c.args.aim hs terminator of c.args.input.now c.starts.input i.keeps c.starts.from
-    (i.stands hs terminator of) c.in_ok-met.field-0 (c.in_ok-met.ensures.met hs terminator of) c.in-Some-2.met c.in-Some-2.is
-    (ap (λ bytes. may_end c.args.aim.kind c.args.aim.passes_over bytes c.in-Some-2.met.at) (sym content) ∙ sym c.may_end.ensures.value ∙ c.if-may_end.false) in
-    let so = sym (c.is_anchored-anchored.ensures ∙ ap anchors (c.get_anchored.ensures ∙ c.bounds_of.ensures.keeps.anchored)) in
+    let r = run_raised (g.H.Halves.AreOf c.args.halves.now) c.args.aim hs terminator of c.args.input.now c.starts.input i.keeps c.args.bounds.low c.starts.from
+    (i.stands hs terminator of) c.in_ok-met.field-0 (c.in_ok-met.ensures.met hs terminator of) c.in-Some.met c.in-Some.is
+    (ap (λ bytes. may_end c.args.aim.kind c.args.aim.passes_over bytes c.in-Some.met.at) (sym content) ∙ sym c.may_end.ensures.value ∙ c.if-may_end.false) in
+    let so = sym (c.is_anchored-anchored.ensures ∙ ap anchors c.get_anchored-anchoring.ensures) in
     r.1 (⊎_elim (λ is. inl (so ∙ is)) (λ e. inr (omega (arith, e.1, i.below))) c.then-anchored.either)
 
 pub starts-preserved : goal.starts-preserved
@@ -105,10 +109,10 @@ starts-preserved g c =
       below = (i.below.0, omega (arith, c.if-from-high.false));
       asks = i.asks;
       stands = λ hs terminator of.
-          let r = run_raised (g.H.Halves.AreOf c.args.halves.now) c.args.aim hs terminator of s c.starts.input i.keeps c.starts.from
-          (i.stands hs terminator of) c.in_ok-met.field-0 (c.in_ok-met.ensures.met hs terminator of) c.in-Some-2.met c.in-Some-2.is
-          (ap (λ bytes. may_end c.args.aim.kind c.args.aim.passes_over bytes c.in-Some-2.met.at) (sym content) ∙ sym c.may_end.ensures.value ∙ c.if-may_end.false) in
-          let so = sym (c.is_anchored-anchored.ensures ∙ ap anchors (c.get_anchored.ensures ∙ c.bounds_of.ensures.keeps.anchored)) in
+          let r = run_raised (g.H.Halves.AreOf c.args.halves.now) c.args.aim hs terminator of s c.starts.input i.keeps c.args.bounds.low c.starts.from
+          (i.stands hs terminator of) c.in_ok-met.field-0 (c.in_ok-met.ensures.met hs terminator of) c.in-Some.met c.in-Some.is
+          (ap (λ bytes. may_end c.args.aim.kind c.args.aim.passes_over bytes c.in-Some.met.at) (sym content) ∙ sym c.may_end.ensures.value ∙ c.if-may_end.false) in
+          let so = sym (c.is_anchored-anchored.ensures ∙ ap anchors c.get_anchored-anchoring.ensures) in
           r.0 (omega (arith, c.if-from-high.false, i.below)) (so ∙ c.if-anchored.false);
       spends = g.met.H.Halves.spends_within c.args.halves.now c.args.cache.now c.run_forwards.new.cache
           ((c.starts.from - low s) * (high s - low s + 2) + (high c.starts.input - c.starts.from + 2)) ((c.starts.from + 1 - low s) * (high s - low s + 2))

@@ -5,7 +5,7 @@ use Rattle.rc_pattern.specs.Re.{Re}
 use Rattle.rc_program.specs.Kinds.{IsAnswerWhere}
 use Rattle.rc_program.specs.Sought.{text_of}
 use Rattle.rc_dfa.specs.declared.ended.Met.{Met}
-use Rattle.rc_dfa_search.specs.Aims.{AreHalvesOf, is_early, search_for}
+use Rattle.rc_dfa_search.specs.Aims.{AreHalvesOf, is_early, search_for, search_from}
 use Rattle.rc_dfa_search.specs.Ends as Ends
 use Rattle.rc_dfa_search.specs.Ends.{HasMetDown, match_by}
 use Rattle.rc_dfa_search.specs.Faults.{IsFault}
@@ -27,14 +27,14 @@ met_so g c hs terminator of o is =
     (c.in_ok-met.ensures.met hs terminator of)
 
 pub returns-then-begins_there-clause-found : goal.returns-then-begins_there-clause-found
-returns-then-begins_there-clause-found g c hs terminator of h =
-    known_start hs of.ahead of.back c.args.input.now.anchored (search_for c.args.aim hs terminator c.args.input.now) c.args.end c.args.aim.kind (is_early c.args.aim) h
+returns-then-begins_there-clause-found g c hs terminator lo of h =
+    known_start hs of.ahead of.back c.args.input.now.anchored (search_from c.args.aim hs terminator c.args.input.now lo) c.args.end c.args.aim.kind (is_early c.args.aim) h
     (sym (c.begins_there.ensures ∙ ap (λ a. Ends.begins_there c.args.aim.kind (is_early c.args.aim) (anchors a)) c.get_anchored.ensures) ∙ c.if-begins_there.true)
 
 pub returns-then-is_empty-clause-found : goal.returns-then-is_empty-clause-found
-returns-then-is_empty-clause-found g c hs terminator of h =
+returns-then-is_empty-clause-found g c hs terminator lo of h =
     let e = c.is_empty.ensures c.if-is_empty.true in
-    empty_start hs of.ahead of.back c.args.input.now.anchored (search_for c.args.aim hs terminator c.args.input.now) c.args.end c.args.aim.kind (is_early c.args.aim) h
+    empty_start hs of.ahead of.back c.args.input.now.anchored (search_from c.args.aim hs terminator c.args.input.now lo) c.args.end c.args.aim.kind (is_early c.args.aim) h
     e.0 e.1
 
 pub returns-in_err-met-clause-fault : goal.returns-in_err-met-clause-fault
@@ -49,15 +49,15 @@ returns-in_err-met-clause-fault g c hs terminator of =
     c.in_err-met.field-0.0 (c.in_err-met.ensures.fault hs terminator of))
 
 pub returns-in_default-clause-found : goal.returns-in_default-clause-found
-returns-in_default-clause-found g c hs terminator of h =
+returns-in_default-clause-found g c hs terminator lo of h =
     let d = (goal.at.returns-in_default-clause-found g c).In_ok-met in
-    absurd (some_start hs of.ahead of.back c.args.input.now.anchored (search_for c.args.aim hs terminator c.args.input.now) c.args.end c.args.aim.kind (is_early c.args.aim) h
+    absurd (some_start hs of.ahead of.back c.args.input.now.anchored (search_from c.args.aim hs terminator c.args.input.now lo) c.args.end c.args.aim.kind (is_early c.args.aim) h
     (begins_so g d ∙ c.if-begins_there.false) (met_so g d hs terminator of None c.in_default.is))
 
 pub returns-clause-found : goal.returns-clause-found
-returns-clause-found g c hs terminator of h =
+returns-clause-found g c hs terminator lo of h =
     let d = (goal.at.returns-clause-found g c).In_ok-met in
-    let s = search_for c.args.aim hs terminator c.args.input.now in
+    let s = search_from c.args.aim hs terminator c.args.input.now lo in
     subst (λ x. IsAnswerWhere (is_early c.args.aim) c.args.aim.kind s (Some (match_by c.args.end x))) (sym c.start_by.ensures)
     (met_start hs of.ahead of.back c.args.input.now.anchored s c.args.end c.args.aim.kind (is_early c.args.aim) h
     (begins_so g d ∙ c.if-begins_there.false) c.in-Some.met (met_so g d hs terminator of (Some c.in-Some.met) c.in-Some.is))

@@ -1,6 +1,7 @@
 use Rattle.std.proofs.Common.{refl, MatchOption, subst}
 use Rattle.std.proofs.lemmas.Result.{IfOk-weaker}
 use Rattle.rc_pikevm_search.specs.Engine.{engine_search}
+use Rattle.rc_strategy.proofs.KeptLemmas.{whole_found}
 use Rattle.rc_strategy.proofs.QuestionLemmas.{match_replies, tables_reply}
 use Rattle.std.specs.Bool.{⊤}
 use Rattle.rc_program.specs.Places.{places_of}
@@ -57,5 +58,6 @@ returns-in-Some-guards_of-clause-reply g c =
 pub returns-in-None-clause-reply : goal.returns-in-None-clause-reply
 returns-in-None-clause-reply g c =
     let e = c.args.self.now in
-    tables_reply e.engine e.patterns c.args.input.now c.requires.own c.args.question c.aim_for-aim.result c.aim_for-aim.ensures c.find.result
-    (λ hs same h. c.find.ensures.found hs e.engine.program.terminator h)
+    tables_reply e.engine e.patterns c.args.input.now c.requires.own c.args.question c.aim_for-aim.result c.aim_for-aim.ensures c.find_between.result
+    (λ hs same h. whole_found c.aim_for-aim.result hs e.engine.program.terminator c.args.input.now c.args.bounds.low c.requires.bounds.0 c.find_between.result
+    (c.find_between.ensures.found hs e.engine.program.terminator h))

@@ -1,4 +1,5 @@
-use Rattle.std.proofs.Common.{◌∙◌, refl, subst}
+use Rattle.std.proofs.Common.{◌∙◌, ap, refl, subst}
+use Rattle.std.specs.Prelude.{is_none}
 use Rattle.rc_program.specs.Places.{places_of}
 use Rattle.rc_pikevm_search.specs.Engine.{engine_search}
 use Rattle.rc_pikevm.specs.PatternSpans.{AddsSpelled, AreOfFirst}
@@ -16,13 +17,13 @@ returns-then-has_all-clause-adds g c =
 pub returns-then-has_all-clause-cache : goal.returns-then-has_all-clause-cache
 returns-then-has_all-clause-cache g c = same_in c.args.self.now 0 c.args.cache.now c.requires.made
 
-pub returns-then-leave_none-clause-adds : goal.returns-then-leave_none-clause-adds
-returns-then-leave_none-clause-adds g c =
+pub returns-in_default-clause-adds : goal.returns-in_default-clause-adds
+returns-in_default-clause-adds g c =
     let e = c.args.self.now in
-    early_adds e.engine e.spans c.args.input.now c.leave_none.result c.args.set.now e.bound c.leave_none.ensures.value c.if-leave_none.true
+    early_adds e.engine e.spans c.args.input.now (is_none c.bounds.result) c.args.set.now e.bound c.bounds.ensures.value (ap is_none c.in_default.is)
 
-pub returns-then-leave_none-clause-cache : goal.returns-then-leave_none-clause-cache
-returns-then-leave_none-clause-cache g c = same_in c.args.self.now 0 c.args.cache.now c.requires.made
+pub returns-in_default-clause-cache : goal.returns-in_default-clause-cache
+returns-in_default-clause-cache g c = same_in c.args.self.now 0 c.args.cache.now c.requires.made
 
 pub mark_by_literals-requires-clause-literals : goal.mark_by_literals-requires-clause-literals
 mark_by_literals-requires-clause-literals g c = (c.goes_by_literals.ensures c.if-goes_by_literals.true).0
@@ -33,7 +34,7 @@ mark_by_literals-requires-clause-all g c = (c.goes_by_literals.ensures c.if-goes
 pub returns-then-goes_by_literals-clause-adds : goal.returns-then-goes_by_literals-clause-adds
 returns-then-goes_by_literals-clause-adds g c =
     subst (λ q. AddsSpelled q c.args.set.now c.mark_by_literals.new.set)
-    (kept_search c.args.self.now.engine c.args.input.now c.leave_none.new.input c.leave_none.ensures.keeps) c.mark_by_literals.ensures.adds
+    (kept_search c.args.self.now.engine c.args.input.now c.bounds.new.input c.bounds.ensures.keeps) c.mark_by_literals.ensures.adds
 
 pub returns-then-goes_by_literals-clause-cache : goal.returns-then-goes_by_literals-clause-cache
 returns-then-goes_by_literals-clause-cache g c = same_in c.args.self.now 0 c.args.cache.now c.requires.made
@@ -45,12 +46,12 @@ mark_only-requires-clause-first g c =
 pub returns-then-patterns-eq1-clause-adds : goal.returns-then-patterns-eq1-clause-adds
 returns-then-patterns-eq1-clause-adds g c =
     subst (λ q. AddsSpelled q c.args.set.now c.mark_only.new.set)
-    (kept_search c.args.self.now.engine c.args.input.now c.leave_none.new.input c.leave_none.ensures.keeps) c.mark_only.ensures.adds
+    (kept_search c.args.self.now.engine c.args.input.now c.bounds.new.input c.bounds.ensures.keeps) c.mark_only.ensures.adds
 
 pub returns-then-mark_overlapping-clause-adds : goal.returns-then-mark_overlapping-clause-adds
 returns-then-mark_overlapping-clause-adds g c =
     subst (λ q. AddsSpelled q c.args.set.now c.mark_overlapping.new.set)
-    (kept_search c.args.self.now.engine c.args.input.now c.leave_none.new.input c.leave_none.ensures.keeps) (c.mark_overlapping.ensures.all c.if-mark_overlapping.true)
+    (kept_search c.args.self.now.engine c.args.input.now c.bounds.new.input c.bounds.ensures.keeps) (c.mark_overlapping.ensures.all c.if-mark_overlapping.true)
 
 pub mark_by_passes-requires-clause-made : goal.mark_by_passes-requires-clause-made
 mark_by_passes-requires-clause-made g c =
@@ -59,11 +60,11 @@ mark_by_passes-requires-clause-made g c =
 pub returns-clause-adds : goal.returns-clause-adds
 returns-clause-adds g c =
     let e = c.args.self.now.engine in
-    let kept = kept_search e c.args.input.now c.leave_none.new.input c.leave_none.ensures.keeps in
+    let kept = kept_search e c.args.input.now c.bounds.new.input c.bounds.ensures.keeps in
     some_then (engine_search e c.args.input.now) c.args.set.now c.mark_overlapping.new.set c.mark_by_passes.new.set
     (subst (λ q. AddsSome q c.args.set.now c.mark_overlapping.new.set) kept c.mark_overlapping.ensures.adds)
     (subst (λ q. AddsSpelled q c.mark_overlapping.new.set c.mark_by_passes.new.set)
-    (kept_search e c.leave_none.new.input c.mark_overlapping.new.input c.mark_overlapping.ensures.keeps ∙ kept) c.mark_by_passes.ensures.adds)
+    (kept_search e c.bounds.new.input c.mark_overlapping.new.input c.mark_overlapping.ensures.keeps ∙ kept) c.mark_by_passes.ensures.adds)
 
 pub returns-clause-cache : goal.returns-clause-cache
 returns-clause-cache g c =
