@@ -191,7 +191,6 @@ impl Engines {
     /// Replies by a DFA, by the route of the search. Along the text it goes from literal to literal
     /// if there is a guard, and with slow prefix literals it may try the first. An `Err` says why
     /// the DFA has no answer.
-    #[inline(always)]
     fn ask_by_route<H: Halves, C: Cursor>(
         &self,
         halves: &H,
@@ -231,39 +230,6 @@ impl Engines {
         }
     }
 
-    /// Replies by a DFA. Each question has code of its own, so that a search tests what it was asked
-    /// for once. An `Err` says why the DFA has no answer.
-    fn ask_halves<H: Halves, C: Cursor>(
-        &self,
-        halves: &H,
-        cache: &mut H::Cache,
-        input: &mut Input<C>,
-        question: Question,
-        bounds: Bounds,
-    ) -> Result<Option<Match>, MatchError>
-        requires own { ∥ AreHalvesFor self.now.engine self.now.patterns (H.AreOf halves.now) ∥₁ }
-        requires cache { H.IsCache halves.now cache.old }
-        requires bounds { AreBounds input.old bounds }
-        ensures cache { H.IsCache halves.now cache.new }
-        ensures keeps { Keeps input.old input.new }
-        ensures reply { IfOk result (IsReply question self.now.engine.kind
-            (engine_search self.now.engine input.old)) }
-        ensures within { IfOk result (λ found. IfSome found (IsWithinBounds input.old)) }
-    {
-        match question {
-            Question::Match => self.ask_by_route(halves, cache, input, Question::Match, bounds),
-            Question::End => self.ask_by_route(halves, cache, input, Question::End, bounds),
-            Question::Any => self.ask_by_route(halves, cache, input, Question::Any, bounds),
-            Question::Earliest => self.ask_by_route(
-                halves,
-                cache,
-                input,
-                Question::Earliest,
-                bounds,
-            ),
-        }
-    }
-
     /// Replies by the DFA, or else by the lazy DFA if the cache has its states. Returns None if
     /// there is neither, or it has no answer.
     pub(crate) fn ask_tables<C: Cursor>(
@@ -283,13 +249,13 @@ impl Engines {
     {
         match self.table_choice(cache.is_some()) {
             TableChoice::AllStates(tables) => self
-                .ask_halves(tables, &mut NoCache, input, question, bounds)
+                .ask_by_route(tables, &mut NoCache, input, question, bounds)
                 .ok(),
             TableChoice::MetStates(tables) => {
                 let Some(states) = cache else {
                     return None;
                 };
-                self.ask_halves(tables, states, input, question, bounds)
+                self.ask_by_route(tables, states, input, question, bounds)
                     .ok()
             }
             TableChoice::NoTables => None,
