@@ -129,6 +129,23 @@ pub(crate) fn read_leg<H: Halves, C: Cursor>(
     })
 }
 
+/// Needles stand close if so few bytes lie between where a run rests and the next of them.
+const NEAR: usize = 16;
+
+/// How many bytes a run reads on behind its needle, at most.
+const FARTHEST: usize = 1024;
+
+/// Returns how many bytes the next run reads on behind its needle, by how far that needle stands
+/// from where the last run rested. Where needles stand close, it's twice as many each time: to read
+/// a byte takes less than to begin a run.
+#[inline(always)]
+fn read_on(behind: usize, distance: usize) -> usize {
+    if distance > NEAR {
+        return 0;
+    }
+    behind.saturating_mul(2).clamp(NEAR, FARTHEST)
+}
+
 /// Goes from needle to needle. A run begins where a match with the next needle may begin. If it
 /// rests further on, the needle after that position is next. Returns where a run met a match, and
 /// how many bytes tell it: up to the last needle that was sought, `longest_len` from there on, and
@@ -164,13 +181,16 @@ pub(crate) fn seek_by_needles<H: Halves, C: Cursor>(
     let high = left.bounds.high;
     let mut at = left.at;
     let mut reach = left.reach;
+    let mut behind: usize = 0;
     'runs: loop {
         let Some(start) = next_start(input, guard, at, high) else {
             return Ok(Ending::Nowhere);
         };
         let from = start.from;
+        behind = read_on(behind, start.needle.saturating_sub(at));
+        let rest_from = start.needle.saturating_add(behind);
         let bounds = Bounds { low: from, high };
-        let came = read_leg(halves, cache, input, bounds, earliest, start.needle)?;
+        let came = read_leg(halves, cache, input, bounds, earliest, rest_from)?;
         let sought = start.needle.saturating_add(longest_len);
         reach = reach.max(sought).max(came.read);
         match came.leg {
