@@ -1,6 +1,6 @@
 //! Run: the loop over the bytes of a piece, four at a time, by the cells of a table.
 ghost use Rattle.std.specs.Prelude.{◌≡◌, ◌+◌, ◌<◌, ◌≤◌, ℕ, length};
-ghost use Rattle.rc_table_search.specs.Walks.{AreRows, HasByte, Reaches, Walk, left_of, next_of};
+ghost use Rattle.rc_table_search.specs.Walks.{AreRows, HasByte, Reaches, Walk, cell_of, left_of, next_of};
 
 use crate::cells::{DEAD, MET, SKIP};
 use crate::rows::Rows;
@@ -71,6 +71,7 @@ fn cell_at<W: Way, R: Rows>(
     requires row { R.IsRow rows.now walk.classes stand.row }
     requires reaches { Reaches walk place stand.row stand.noted }
     requires byte { HasByte walk place }
+    ensures cell { result ≡ cell_of walk place stand.row }
     ensures row { result < SKIP → R.IsRow rows.now walk.classes result }
     ensures reaches { result < SKIP → Reaches walk (next_of walk.backwards place) result
         stand.noted }
@@ -140,6 +141,52 @@ fn stride<W: Way, R: Rows>(
     (place, row)
 }
 
+/// Runs over bytes that lead from the row to itself, each with a find. Returns the place after
+/// them, and how the run stands there.
+#[inline(always)]
+fn stay<W: Way, R: Rows>(
+    rows: &R,
+    cells: &[usize],
+    classes: &[u8],
+    piece: &[u8],
+    from: usize,
+    start: usize,
+    stand: Stand,
+) -> (usize, Stand)
+    ghost walk: { Walk }
+    requires way { walk.backwards ≡ W.BACKWARDS }
+    requires same { walk.cells ≡ R.cells rows.now }
+    requires cells { cells.now ≡ walk.cells }
+    requires classes { classes.now ≡ walk.classes }
+    requires piece { piece.now ≡ walk.piece }
+    requires rows { AreRows (R.IsRow rows.now walk.classes) R.LEAPS walk.cells walk.classes }
+    requires row { R.IsRow rows.now walk.classes stand.row }
+    requires small { stand.row < SKIP }
+    requires start { start ≡ walk.start }
+    requires reaches { Reaches walk from stand.row stand.noted }
+    requires from { from ≤ length piece.now }
+    requires fits { start + length piece.now ≤ usize.MAX }
+    ensures within { result.0 ≤ length piece.now }
+    ensures on { left_of walk.backwards (length piece.now) result.0
+        ≤ left_of walk.backwards (length piece.now) from }
+    ensures row { result.1.row ≡ stand.row }
+    ensures reaches { Reaches walk result.0 stand.row result.1.noted }
+{
+    let row = stand.row;
+    let mut noted = stand.noted;
+    let mut place = from;
+    while left::<W>(piece, place) > 0 {
+        let here = Stand { row, noted };
+        let cell = cell_at::<W, R>(rows, cells, classes, piece, place, here);
+        if cell != row + MET {
+            return (place, here);
+        }
+        noted = Some((row, start + place));
+        place = next::<W>(piece, place);
+    }
+    (place, Stand { row, noted })
+}
+
 /// Runs over the bytes of a piece from the place `from` on, up to one whose cell needs a look. The
 /// piece begins at the position `start`. Returns the place of that byte, and how the run stands
 /// there. A cell with `SKIP` alone needs a look unless the rows leap there.
@@ -202,8 +249,14 @@ pub fn run<W: Way, R: Rows>(
                 return (place, Stand { row, noted });
             }
             row = cell - MET;
-            noted = Some((row, start + place));
-            place = next::<W>(piece, place);
+            let here = Stand {
+                row,
+                noted: Some((row, start + place)),
+            };
+            let at = next::<W>(piece, place);
+            let (read, there) = stay::<W, R>(rows, cells, classes, piece, at, start, here);
+            noted = there.noted;
+            place = read;
         }
     }
     (place, Stand { row, noted })

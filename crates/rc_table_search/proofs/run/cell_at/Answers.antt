@@ -10,6 +10,12 @@ bounds-classes-byte g c =
     let fits : b < 256 = omega (arith, c.byte.type_inv) in
     subst (λ xs. b < length xs) (sym r.1.1.1.0) (r.1.1.1.1.1.0.inside c.args.stand.row b r.1.1.1.1.1.1.0 fits).0
 
+pub returns-clause-cell : goal.returns-clause-cell
+returns-clause-cell g c =
+    let r = c.requires.1.1 in
+    read_here g.walk c.args.cells.now c.args.classes.now c.args.piece.now c.args.stand.row c.args.place c.byte.result r.1.1.0 r.1.1.1.0 r.1.1.1.1.0
+    (c.byte.ensures ∙ ap (λ w. byte_at w c.args.piece.now c.args.place) (sym r.0))
+
 pub returns-clause-reaches : goal.returns-clause-reaches
 returns-clause-reaches g c lt =
     let r = c.requires.1.1 in

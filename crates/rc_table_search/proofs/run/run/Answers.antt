@@ -92,20 +92,60 @@ loop-cells-preserved-then-cell-lt-MET g c =
           (c.in-Some.ensures.reaches c.loop-cells.noted);
     }
 
+-- the row that a cell with a find names
+named : (g : _) (c : After-byte g) → met ≤ cell g c → cell g c - met < skip → g.R.Rows.IsRow c.args.rows.now c.args.classes.now (cell g c - met)
+named g c low high =
+    subst (λ xs. met ≤ cell_by xs c.args.classes.now c.loop-cells.row c.byte.result → cell_by xs c.args.classes.now c.loop-cells.row c.byte.result - met < skip
+    → g.R.Rows.IsRow c.args.rows.now c.args.classes.now (cell_by xs c.args.classes.now c.loop-cells.row c.byte.result - met)) (sym c.cells-cells.ensures)
+    (c.requires.rows.found c.loop-cells.row c.byte.result c.loop-cells.invariant.row (fits g c)) low high
+
+pub stay-read-requires : goal.stay-read-requires
+stay-read-requires g c κs within =
+    let d = (goal.at.stay-read-requires g c).After-byte in
+    let on = sym c.next-at-else-cell-lt-MET.ensures in
+    let fewer = less g d in
+    let high : cell g d - met < skip = omega (arith, c.if-cell-stops.false, c.requires.limit) in (
+      search rules,
+      (
+        search rules,
+        (
+          refl,
+          (
+            refl,
+            (
+              c.cells-cells.ensures,
+              (
+                refl,
+                (
+                  refl,
+                  (
+                    c.requires.rows,
+                    (
+                      named g d c.if-cell-lt-MET.false high,
+                      (high, (refl, (begun, (omega (arith, fewer.0, on), c.requires.fits)))),
+                    ),
+                  ),
+                ),
+              ),
+            ),
+          ),
+        ),
+      ),
+    )
+
 pub loop-cells-preserved : goal.loop-cells-preserved
 loop-cells-preserved g c =
     let d = (goal.at.loop-cells-preserved g c).After-byte in
     let fewer = less g d in
-    let at = c.next-place.ensures in
+    let at = c.next-at-else-cell-lt-MET.ensures in
     let high : cell g d - met < skip = omega (arith, c.if-cell-stops.false, c.requires.limit) in
-    let row = c.requires.rows.found c.loop-cells.row c.byte.result c.loop-cells.invariant.row (fits g d) in
-    let here = subst (λ xs. met ≤ cell_by xs c.args.classes.now c.loop-cells.row c.byte.result → cell_by xs c.args.classes.now c.loop-cells.row c.byte.result - met < skip
-    → g.R.Rows.IsRow c.args.rows.now c.args.classes.now (cell_by xs c.args.classes.now c.loop-cells.row c.byte.result - met)) (sym c.cells-cells.ensures) row in
+    let noted = Some (cell g d - met, c.args.start + c.loop-cells.place) in
+    let now = subst (λ p. Reaches (walk g d) p (cell g d - met) noted) (sym at)
+    (goes_found (walk g d) c.loop-cells.place c.loop-cells.row (cell g d) c.loop-cells.noted c.loop-cells.invariant.reaches (some g d) (is g d)
+    c.if-cell-lt-MET.false high) in
     record {
-      within = omega (arith, at, fewer.0);
-      on = omega (arith, ap (left_of g.W.Way.BACKWARDS (length c.args.piece.now)) at, fewer.1, c.loop-cells.invariant.on);
-      row = here c.if-cell-lt-MET.false high;
-      reaches = subst (λ p. Reaches (walk g d) p (cell g d - met) (Some (cell g d - met, c.args.start + c.loop-cells.place))) (sym at)
-          (goes_found (walk g d) c.loop-cells.place c.loop-cells.row (cell g d) c.loop-cells.noted c.loop-cells.invariant.reaches (some g d) (is g d)
-          c.if-cell-lt-MET.false high);
+      within = c.stay-read.ensures.within;
+      on = omega (arith, ap (left_of g.W.Way.BACKWARDS (length c.args.piece.now)) at, fewer.1, c.stay-read.ensures.on, c.loop-cells.invariant.on);
+      row = named g d c.if-cell-lt-MET.false high;
+      reaches = reaches_on (walk g d) c.next-at-else-cell-lt-MET.result (cell g d - met) noted now _ _ _ c.stay-read.ensures.reaches;
     }

@@ -15,6 +15,19 @@ ghost-stride g a = record {
   before = a.stand.noted;
 }
 
+abbrev pub ghost-stay : goal.ghost-stay
+ghost-stay g a = record {
+  backwards = g.W.Way.BACKWARDS;
+  leaps = g.R.Rows.LEAPS;
+  cells = g.R.Rows.cells a.rows.now;
+  classes = a.classes.now;
+  piece = a.piece.now;
+  start = a.start;
+  from = a.from;
+  first = a.stand.row;
+  before = a.stand.noted;
+}
+
 abbrev pub invariant-loop-cells : goal.invariant-loop-cells
 invariant-loop-cells g l = record {
   within : l.place ≤ length l.piece;
