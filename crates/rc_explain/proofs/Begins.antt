@@ -1,5 +1,5 @@
 -- With which characters the tokens of a text begin.
-use Rattle.std.proofs.Common.{◌≡◌, ◌++◌, ℕ, Bool, true, false, Option, Some, None, List, [], ◌∷◌, ap, slice_get, subst, sym}
+use Rattle.std.proofs.Common.{◌≡◌, ◌++◌, All, ℕ, Bool, true, false, Option, Some, None, List, [], ◌∷◌, ap, slice_get, subst, sym}
 use Rattle.std.proofs.lemmas.List.Elements.{All-get_or, All-push}
 use Rattle.std.proofs.lemmas.Option.{get_or_from_slice_get, slice_get_within}
 use Rattle.rc_tokens.specs.Text.{Characters}
@@ -45,11 +45,13 @@ opening_written (repeats o) start t says at = let (b, h, same) = some_parts (bou
 pub opens_at : (t : Characters) (start : Start) (n : ℕ) → IsToken (Opens start) t 0 n → Stands t 0 40
 opens_at t start n h = opening_written h.mark start t h.says h.here.here
 
+-- what holds of all holds of each
+pub held_at : {A : Type 0} (Is : A → Type 0) (l : List A) (i : ℕ) (x : A) → slice_get l i ≡ Some x → All Is l → Is x
+held_at Is l i x e held = subst Is (get_or_from_slice_get l i x x e) (All-get_or Is l i x (slice_get_within l i x e) held)
+
 -- each open group begins with one
 pub open_at : (text : Characters) (groups : List OpenGroup) (i : ℕ) (g : OpenGroup) → slice_get groups i ≡ Some g → AreOpen text groups → Stands text g.at 40
-open_at text groups i g e held =
-    subst (λ (x : OpenGroup). Stands text x.at 40) (get_or_from_slice_get groups i g g e)
-    (All-get_or (λ (x : OpenGroup). Stands text x.at 40) groups i g (slice_get_within groups i g e) held)
+open_at text groups i g e held = held_at (λ (x : OpenGroup). Stands text x.at 40) groups i g e held
 
 -- also the one that a token opens
 pub open_more : (text : Characters) (token : Token) (opening : Opening) (at : ℕ) (old new : List OpenGroup) (outside : Bool) → token ≡ opens_token opening →

@@ -1,5 +1,6 @@
 mod Begins
 mod Bytes
+mod FullMarks
 mod Members
 mod Numbers
 mod Shapes

@@ -5,6 +5,7 @@ use Rattle.rc_tokens.specs.Marks.{written_atom}
 use Rattle.rc_tokens.specs.declared.tokens.Member.{Member}
 use Rattle.rc_tokens.specs.declared.tokens.Member.TheVariants as member
 use Rattle.rc_tokens.specs.declared.tokens.Perl.{Perl}
+use Rattle.rc_parser.specs.declared.config.Grammar.TheVariants.{Stated}
 use Rattle.rc_explain.specs.Reading.{AreInLine, IsClass, IsItem, IsPlaced}
 use Rattle.rc_explain.specs.Shown.{AreRange, HasShape, Is, IsPastAscii, IsSuch, IsUncoded}
 use Rattle.rc_explain.specs.declared.faults.FaultKind.{FaultKind}
@@ -62,9 +63,9 @@ past_ascii t p h none hyphen perl = go p.member refl none
     go (member.Perl q) is past = absurd (perl q is)
 
 -- the fault from one member to another
-pub shaped : (kind : FaultKind) (t : Characters) (s e : ℕ) (f : Found) → f.kind ≡ kind → f.start ≡ s → f.end ≡ e → HasShape kind t s e → HasShape f.kind t f.start f.end
+pub shaped : (kind : FaultKind) (t : Characters) (s e : ℕ) (f : Found) → f.kind ≡ kind → f.start ≡ s → f.end ≡ e → HasShape Stated kind t s e → HasShape Stated f.kind t f.start f.end
 shaped kind t s e f k a b h =
-    subst (λ k. HasShape k t f.start f.end) (sym k) (subst (λ x. HasShape kind t x f.end) (sym a) (subst (λ y. HasShape kind t s y) (sym b) h))
+    subst (λ k. HasShape Stated k t f.start f.end) (sym k) (subst (λ x. HasShape Stated kind t x f.end) (sym a) (subst (λ y. HasShape Stated kind t s y) (sym b) h))
 
 -- a class, a hyphen and a member
 pub class_line : (t : Characters) (at : ℕ) (class next : Placed) (i : Item) → IsItem t at i → i.first.member ≡ member.Hyphen → IsClass t at class →

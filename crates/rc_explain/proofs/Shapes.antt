@@ -1,11 +1,10 @@
 -- What stands in a span stands there still where the text has more before it.
-use Rattle.std.proofs.Common.{◌≡◌, ◌∙◌, ◌+◌, ◌≤◌, ℕ, suc, [], ◌∷◌, ◌++◌, Some, ap, arith, drop, length, length-append, min, max, subst, sym, take, inl, inr}
+use Rattle.std.proofs.Common.{◌≡◌, ◌∙◌, ◌+◌, ◌≤◌, ℕ, suc, [], ◌∷◌, ◌++◌, Some, ap, arith, drop, get_or, length, length-append, min, max, subst, sym, take, inl, inr}
 use Rattle.std.proofs.lemmas.List.{get_or-drop, get_or-take, length-drop, length-take}
 use Rattle.std.proofs.lemmas.Option.{get_or_from_slice_get, slice_get-get_or, slice_get_within}
 use Rattle.rc_tokens.specs.Text.{Characters}
 use Rattle.rc_parser.specs.declared.config.Grammar.{Grammar}
-use Rattle.rc_parser.specs.declared.config.Grammar.TheVariants.{Full, Stated}
-use Rattle.rc_explain.specs.Shown.{AreAt, Begins, Has, HasShape, Is, IsNamed, IsNoneOf, IsOne, IsOther, IsSuch, Shape, Shows, ShowsBy, Stands, begins, either, exactly, named, none_of, nothing, one, other, shape_of, such}
+use Rattle.rc_explain.specs.Shown.{AreAt, Begins, Has, HasShape, Is, IsNamed, IsNoneOf, IsOne, IsOther, IsSuch, Shape, Shows, Stands, begins, either, exactly, named, none_of, nothing, one, other, part, shape_of, such}
 use Rattle.rc_explain.specs.declared.faults.FaultKind.{FaultKind}
 use Rattle.rc_explain.specs.declared.faults.FaultKind.TheVariants.{NestedTooDeeply}
 
@@ -16,6 +15,14 @@ stands_shifted n t s c h =
     let order : n + s ≡ s + n = omega arith in
     subst (λ k. Stands t k c) order
     (slice_get-get_or t (n + s) c (omega (arith, inside, long)) ∙ ap Some (sym (get_or-drop n t s c) ∙ get_or_from_slice_get (drop n t) s c c h))
+
+pub stands_dropped : (n : ℕ) (t : Characters) (c : ℕ) → Stands t n c → Stands (drop n t) 0 c
+stands_dropped n t c h =
+    let inside = slice_get_within t n c h in
+    let long = length-drop n t in
+    let same : n + 0 ≡ n = omega arith in
+    slice_get-get_or (drop n t) 0 c (omega (arith, inside, long))
+    ∙ ap Some (get_or-drop n t 0 c ∙ ap (λ k. get_or t k c) same ∙ get_or_from_slice_get t n c c h)
 
 at_shifted : (cs : Characters) (n : ℕ) (t : Characters) (s : ℕ) → AreAt (drop n t) s cs → AreAt t (s + n) cs
 at_shifted [] n t s h = tt
@@ -85,6 +92,7 @@ module _ (n : ℕ) (t : Characters) (s e a b : ℕ) (fits : length t ≤ most) (
         starts = omega (arith, within, long, starts, fits, from);
         ends = omega (arith, within, long, starts, ends, fits, from, to);
       }
+  shifted part h = let begins = h.0 in let within = h.1 in let long = length-drop n t in (omega (arith, begins, within, long, fits, from, to), omega (arith, begins, within, long, fits, from, to))
   shifted nothing h = absurd h
 
 stands_wider : (n : ℕ) (t : Characters) (s c : ℕ) → Stands (take n t) s c → Stands t s c
@@ -109,6 +117,7 @@ wider (either x y) n t s e (inl h) = inl (wider x n t s e h)
 wider (either x y) n t s e (inr h) = inr (wider y n t s e h)
 wider (such P) n t s e h = record { cs = h.cs; such = h.such; here = record { here = at_wider h.cs n t s h.here.here; ends = h.here.ends } }
 wider named n t s e h = record { opener = h.opener; name = h.name; named = h.named; here = at_wider (60 ∷ (h.name ++ 62 ∷ [])) n t h.opener h.here; starts = h.starts; ends = h.ends }
+wider part n t s e h = let within = h.1 in let long = length-take n t in (h.0, omega (arith, within, long))
 wider nothing n t s e h = absurd h
 
 -- a span that shows something doesn't end before it begins
@@ -122,17 +131,14 @@ ordered (either x y) t s e m is (inl h) = inl (ordered x t s e m is h)
 ordered (either x y) t s e m is (inr h) = inr (ordered y t s e m is h)
 ordered (such P) t s e m is h = let ends = h.here.ends in subst (λ k. IsSuch P t s k) (omega (arith, ends, is)) h
 ordered named t s e m is h = let ends = h.ends in subst (λ k. IsNamed t s k) (omega (arith, ends, is)) h
+ordered part t s e m is h = let begins = h.0 in let within = h.1 in (omega (arith, is, begins), omega (arith, is, begins, within))
 ordered nothing t s e m is h = absurd h
 
 -- what a part shows, the whole does
-pub shows : (kind : FaultKind) (t : Characters) (s e : ℕ) → HasShape kind t s e → Shows kind t s e
-shows NestedTooDeeply t s e h = absurd h
-shows kind t s e h = h
+pub shows : (g : Grammar) (kind : FaultKind) (t : Characters) (s e : ℕ) → HasShape g kind t s e → Shows g kind t s e
+shows g NestedTooDeeply t s e h = absurd h
+shows g kind t s e h = h
 
-shows_ordered : (kind : FaultKind) (t : Characters) (s e m : ℕ) → m ≡ max e s → Shows kind t s e → Shows kind t s m
-shows_ordered NestedTooDeeply t s e m is h = h
-shows_ordered kind t s e m is h = ordered (shape_of kind) t s e m is h
-
-pub shown_ordered : (g : Grammar) (kind : FaultKind) (t : Characters) (s e m : ℕ) → m ≡ max e s → ShowsBy g kind t s e → ShowsBy g kind t s m
-shown_ordered Stated kind t s e m is h = shows_ordered kind t s e m is h
-shown_ordered Full kind t s e m is h = let within = h.1 in let ends = h.2 in (h.0, h.1, omega (arith, is, within, ends))
+pub shown_ordered : (g : Grammar) (kind : FaultKind) (t : Characters) (s e m : ℕ) → m ≡ max e s → Shows g kind t s e → Shows g kind t s m
+shown_ordered g NestedTooDeeply t s e m is h = h
+shown_ordered g kind t s e m is h = ordered (shape_of g kind) t s e m is h

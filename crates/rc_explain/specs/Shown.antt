@@ -1,5 +1,5 @@
 -- What stands in the span of a fault, by its kind.
-use Rattle.std.specs.Prelude.{◌≡◌, ◌≢◌, ◌⊎◌, ℕ, suc, ◌+◌, ◌^◌, ◌<◌, ◌≤◌, Bool, true, false, ◌||◌, ◌==◌, List, [], ◌∷◌, ◌++◌, length, min, take, chars, slice_get, Some, encode_utf8_all}
+use Rattle.std.specs.Prelude.{◌≡◌, ◌≢◌, ◌⊎◌, ℕ, suc, ◌+◌, ◌^◌, ◌<◌, ◌≤◌, Bool, true, false, ◌||◌, ◌==◌, List, [], ◌∷◌, ◌++◌, length, take, chars, slice_get, Some, encode_utf8_all}
 use Rattle.std.specs.Char.{is_ascii_alphabetic, is_ascii_hexdigit}
 use Rattle.rc_tokens.specs.Text.{Characters, each, is_digit_of, value_from}
 use Rattle.rc_tokens.specs.Said.{Sense, Character as a_character, Byte as a_byte, Dot, PerlClass, Asserts, Members}
@@ -153,9 +153,10 @@ pub record IsAbove (low high : Member) : Type 0 where
   pub high_code : HasCode high b
   pub above : b < a
 
--- the letter of a flag that can be set: one of `imsRUu`
-abbrev pub is_flag : ℕ → Bool
-is_flag c = c == 105 || c == 109 || c == 115 || c == 82 || c == 85 || c == 117
+-- the letter of a flag that can be set: one of `imsRUu`, and in the full grammar `x`
+abbrev pub is_flag : Grammar → ℕ → Bool
+is_flag Stated c = c == 105 || c == 109 || c == 115 || c == 82 || c == 85 || c == 117
+is_flag Full c = c == 105 || c == 109 || c == 115 || c == 82 || c == 85 || c == 117 || c == 120
 
 -- a character with which a name may begin
 abbrev pub begins_name : ℕ → Bool
@@ -178,6 +179,8 @@ pub data Shape : Type 1 where
   -- the name of a group
   named : Shape
   either : Shape → Shape → Shape
+  -- one character or more
+  part : Shape
   -- no part of the text alone
   nothing : Shape
 
@@ -190,74 +193,87 @@ Has (none_of cs) t s e = IsNoneOf cs t s e
 Has (such P) t s e = IsSuch P t s e
 Has named t s e = IsNamed t s e
 Has (either a b) t s e = Has a t s e ⊎ Has b t s e
+Has part t s e = (s < e) × (e ≤ length t)
 Has nothing t s e = ⊥
 
+-- such a part in a text of the stated grammar, and any part in one of the full grammar
+abbrev pub or_part : Grammar → Shape → Shape
+or_part Stated shape = shape
+or_part Full shape = part
+
+-- such a part, in a text of the stated grammar alone
+abbrev pub in_stated : Grammar → Shape → Shape
+in_stated Stated shape = shape
+in_stated Full shape = nothing
+
+-- such a part, in a text of the full grammar alone
+abbrev pub in_full : Grammar → Shape → Shape
+in_full Stated shape = nothing
+in_full Full shape = shape
+
 -- what stands in the span of a fault, by its kind, save for a pattern that nests too deeply
-abbrev pub shape_of : FaultKind → Shape
-shape_of kinds.UnclosedGroup = exactly (40 ∷ [])
-shape_of kinds.UnopenedGroup = exactly (41 ∷ [])
-shape_of kinds.UnknownGroup = begins 40 []
+abbrev pub shape_of : Grammar → FaultKind → Shape
+shape_of g kinds.UnclosedGroup = exactly (40 ∷ [])
+shape_of g kinds.UnopenedGroup = exactly (41 ∷ [])
+shape_of g kinds.UnknownGroup = begins 40 []
 -- `(?=`, `(?!`, `(?<=` or `(?<!`
-shape_of kinds.LookAround = either (exactly (40 ∷ 63 ∷ 61 ∷ [])) (either (exactly (40 ∷ 63 ∷ 33 ∷ [])) (either (exactly (40 ∷ 63 ∷ 60 ∷ 61 ∷ [])) (exactly (40 ∷ 63 ∷ 60 ∷ 33 ∷ []))))
-shape_of kinds.MissingFlags = begins 40 []
+shape_of g kinds.LookAround = either (exactly (40 ∷ 63 ∷ 61 ∷ [])) (either (exactly (40 ∷ 63 ∷ 33 ∷ [])) (either (exactly (40 ∷ 63 ∷ 60 ∷ 61 ∷ [])) (exactly (40 ∷ 63 ∷ 60 ∷ 33 ∷ []))))
+shape_of g kinds.MissingFlags = begins 40 []
 -- none of `imsRUux-:)`
-shape_of kinds.UnknownFlag = none_of (105 ∷ 109 ∷ 115 ∷ 82 ∷ 85 ∷ 117 ∷ 120 ∷ 45 ∷ 58 ∷ 41 ∷ [])
-shape_of kinds.VerboseFlag = exactly (120 ∷ [])
-shape_of kinds.RepeatedFlag = one is_flag
-shape_of kinds.RepeatedNegation = exactly (45 ∷ [])
-shape_of kinds.DanglingNegation = exactly (45 ∷ [])
+shape_of g kinds.UnknownFlag = none_of (105 ∷ 109 ∷ 115 ∷ 82 ∷ 85 ∷ 117 ∷ 120 ∷ 45 ∷ 58 ∷ 41 ∷ [])
+shape_of g kinds.VerboseFlag = in_stated g (exactly (120 ∷ []))
+shape_of g kinds.RepeatedFlag = one (is_flag g)
+shape_of g kinds.RepeatedNegation = exactly (45 ∷ [])
+shape_of g kinds.DanglingNegation = exactly (45 ∷ [])
 -- `<>`
-shape_of kinds.EmptyName = exactly (60 ∷ 62 ∷ [])
-shape_of kinds.NameCharacter = other begins_name
-shape_of kinds.UnclosedName = exactly (60 ∷ [])
-shape_of kinds.DuplicateName = named
+shape_of g kinds.EmptyName = exactly (60 ∷ 62 ∷ [])
+shape_of g kinds.NameCharacter = other begins_name
+shape_of g kinds.UnclosedName = exactly (60 ∷ [])
+shape_of g kinds.DuplicateName = or_part g named
 -- it begins with one of `*+?{`
-shape_of kinds.RepetitionOfNothing = either (begins 42 []) (either (begins 43 []) (either (begins 63 []) (begins 123 [])))
-shape_of kinds.UncountedRepetition = exactly (123 ∷ [])
-shape_of kinds.UnclosedRepetition = exactly (123 ∷ [])
-shape_of kinds.LargeNumber = such IsLarge
-shape_of kinds.BoundsOutOfOrder = begins 123 []
-shape_of kinds.UnclosedList = exactly (91 ∷ [])
+shape_of g kinds.RepetitionOfNothing = either (begins 42 []) (either (begins 43 []) (either (begins 63 []) (begins 123 [])))
+shape_of g kinds.UncountedRepetition = exactly (123 ∷ [])
+shape_of g kinds.UnclosedRepetition = exactly (123 ∷ [])
+shape_of g kinds.LargeNumber = such IsLarge
+shape_of g kinds.BoundsOutOfOrder = begins 123 []
+shape_of g kinds.UnclosedList = exactly (91 ∷ [])
 -- `[]` or `[^]`
-shape_of kinds.EmptyList = either (exactly (91 ∷ 93 ∷ [])) (exactly (91 ∷ 94 ∷ 93 ∷ []))
-shape_of kinds.NestedList = exactly (91 ∷ [])
+shape_of g kinds.EmptyList = either (exactly (91 ∷ 93 ∷ [])) (exactly (91 ∷ 94 ∷ 93 ∷ []))
+shape_of g kinds.NestedList = in_stated g (exactly (91 ∷ []))
 -- `[:`
-shape_of kinds.PosixClass = exactly (91 ∷ 58 ∷ [])
+shape_of g kinds.PosixClass = in_stated g (exactly (91 ∷ 58 ∷ []))
 -- `&&`, `~~` or `--`
-shape_of kinds.SetOperation = either (exactly (38 ∷ 38 ∷ [])) (either (exactly (126 ∷ 126 ∷ [])) (exactly (45 ∷ 45 ∷ [])))
-shape_of kinds.AssertionInList = such IsAssertion
-shape_of kinds.ClassInRange = such (AreRange HasPerl)
-shape_of kinds.RangeOutOfOrder = such (AreRange IsAbove)
-shape_of kinds.MemberPastAscii = such IsPastAscii
-shape_of kinds.DanglingBackslash = exactly (92 ∷ [])
-shape_of kinds.UnknownEscape = begins 92 []
+shape_of g kinds.SetOperation = in_stated g (either (exactly (38 ∷ 38 ∷ [])) (either (exactly (126 ∷ 126 ∷ [])) (exactly (45 ∷ 45 ∷ []))))
+shape_of g kinds.AssertionInList = or_part g (such IsAssertion)
+shape_of g kinds.ClassInRange = or_part g (such (AreRange HasPerl))
+shape_of g kinds.RangeOutOfOrder = or_part g (such (AreRange IsAbove))
+shape_of g kinds.MemberPastAscii = or_part g (such IsPastAscii)
+shape_of g kinds.DanglingBackslash = exactly (92 ∷ [])
+shape_of g kinds.UnknownEscape = begins 92 []
 -- `\p` or `\P`
-shape_of kinds.UnicodeClass = either (begins 92 (112 ∷ [])) (begins 92 (80 ∷ []))
+shape_of g kinds.UnicodeClass = in_stated g (either (begins 92 (112 ∷ [])) (begins 92 (80 ∷ [])))
+shape_of g kinds.UnknownProperty = in_full g (either (begins 92 (112 ∷ [])) (begins 92 (80 ∷ [])))
+shape_of g kinds.UnknownPropertyValue = in_full g (either (begins 92 (112 ∷ [])) (begins 92 (80 ∷ [])))
+shape_of g kinds.PropertyOfBytes = in_full g (either (begins 92 (112 ∷ [])) (begins 92 (80 ∷ [])))
 -- `\`, or `(?P=`
-shape_of kinds.Backreference = either (begins 92 []) (exactly (40 ∷ 63 ∷ 80 ∷ 61 ∷ []))
-shape_of kinds.HexadecimalDigit = either (begins 92 []) (other is_ascii_hexdigit)
-shape_of kinds.NoScalar = begins 92 []
-shape_of kinds.UnclosedBrace = exactly (123 ∷ [])
+shape_of g kinds.Backreference = either (begins 92 []) (exactly (40 ∷ 63 ∷ 80 ∷ 61 ∷ []))
+shape_of g kinds.HexadecimalDigit = either (begins 92 []) (other is_ascii_hexdigit)
+shape_of g kinds.NoScalar = begins 92 []
+shape_of g kinds.UnclosedBrace = exactly (123 ∷ [])
 -- `\b{`
-shape_of kinds.UnknownBoundary = begins 92 (98 ∷ 123 ∷ [])
-shape_of kinds.NotUtf8 = such IsAtom
-shape_of kinds.LineTerminator = exactly (46 ∷ [])
-shape_of kinds.NestedTooDeeply = nothing
-shape_of kinds.Unparsed = nothing
+shape_of g kinds.UnknownBoundary = begins 92 (98 ∷ 123 ∷ [])
+shape_of g kinds.NotUtf8 = or_part g (such IsAtom)
+shape_of g kinds.LineTerminator = exactly (46 ∷ [])
+shape_of g kinds.NestedTooDeeply = nothing
 
-abbrev pub HasShape : FaultKind → Characters → ℕ → ℕ → Type 0
-HasShape kind t s e = Has (shape_of kind) t s e
+abbrev pub HasShape : Grammar → FaultKind → Characters → ℕ → ℕ → Type 0
+HasShape g kind t s e = Has (shape_of g kind) t s e
 
--- What stands from the character `start` up to `end`, by the kind of fault, in a text of the stated
--- grammar. A pattern that nests too deeply is shown from its start, or from a `(`.
-abbrev pub Shows : FaultKind → Characters → ℕ → ℕ → Type 0
-Shows kinds.NestedTooDeeply t s e = (s ≡ 0) ⊎ Stands t s 40
-Shows kind t s e = HasShape kind t s e
-
--- by the grammar that is set: of a text of the full one, a single character is shown, or the end
-abbrev pub ShowsBy : Grammar → FaultKind → Characters → ℕ → ℕ → Type 0
-ShowsBy Stated kind t s e = Shows kind t s e
-ShowsBy Full kind t s e = (kind ≡ kinds.Unparsed) × (s ≤ length t) × (e ≡ min (suc s) (length t))
+-- What stands from the character `start` up to `end`, by the grammar and the kind of fault. A pattern that
+-- nests too deeply is shown from its start, or from a `(`.
+abbrev pub Shows : Grammar → FaultKind → Characters → ℕ → ℕ → Type 0
+Shows g kinds.NestedTooDeeply t s e = (s ≡ 0) ⊎ Stands t s 40
+Shows g kind t s e = HasShape g kind t s e
 
 -- the byte at which the character with this number begins, and the text's end past the last
 abbrev pub byte_of : Characters → ℕ → ℕ
@@ -269,4 +285,4 @@ pub record IsShown (grammar : Grammar) (fault : Fault) (text : List ℕ) : Type 
   pub to : ℕ
   pub starts : fault.span.start ≡ byte_of (chars text) from
   pub ends : fault.span.end ≡ byte_of (chars text) to
-  pub shown : ShowsBy grammar fault.kind (chars text) from to
+  pub shown : Shows grammar fault.kind (chars text) from to

@@ -3,9 +3,10 @@
 ghost use Rattle.std.specs.Prelude.{chars, length, ◌≤◌, IfOk, IfSome, IfNone, MatchOption};
 ghost use Rattle.rc_parser.specs.Settings.{settings_of};
 ghost use Rattle.rc_explain.specs.Explained.{IsRead, IsUnread, IsWithin};
-ghost use Rattle.rc_explain.specs.Shown.{IsShown, ShowsBy};
+ghost use Rattle.rc_explain.specs.Shown.{IsShown, Shows};
 
-use crate::faults::{Fault, FaultKind};
+use crate::faults::Fault;
+use crate::full_marks::full_fault_at;
 use crate::marks::fault_at;
 use crate::places::{Found, byte_after, characters_before};
 use rc_parser::{Config, Error, Grammar};
@@ -56,24 +57,11 @@ fn fault_met_at(alloc: Global, text: &str, config: &Config, at: usize) -> Result
 /// The kind of fault of a text that is refused at this character, and the characters at fault.
 fn found_at(alloc: Global, config: &Config, text: &[char], stop: usize) -> Result<Found, AllocError>
     requires { length text.now ≤ usize.MAX }
-    ensures { IfOk result (λ found. ShowsBy (settings_of config.now).grammar found.kind text.now
+    ensures { IfOk result (λ found. Shows (settings_of config.now).grammar found.kind text.now
         found.start found.end) }
 {
     match config.get_grammar() {
         Grammar::Stated => fault_at(alloc, config, text, stop),
-        Grammar::Full => Ok(unparsed_at(text, stop)),
-    }
-}
-
-/// The fault of a text that the full grammar doesn't read from this character on.
-fn unparsed_at(text: &[char], stop: usize) -> Found
-    ensures { ShowsBy Grammar.Full result.kind text.now result.start result.end }
-{
-    let start = stop.min(text.len());
-    let end = start.saturating_add(1).min(text.len());
-    Found {
-        kind: FaultKind::Unparsed,
-        start,
-        end,
+        Grammar::Full => full_fault_at(alloc, config, text, stop),
     }
 }

@@ -13,7 +13,8 @@ pub struct Fault {
     pub span: Span,
 }
 
-/// The kinds of faults. The examples are texts with that fault, by the stated grammar.
+/// The kinds of faults. The examples are texts with that fault, by the stated grammar unless the full
+/// one is named.
 #[derive(Clone, Copy, Debug, PartialEq, Eq)]
 pub enum FaultKind {
     /// `(a`: the span is the `(`.
@@ -30,7 +31,7 @@ pub enum FaultKind {
     UnknownFlag,
     /// `(?x)`: blanks and comments in a pattern always count.
     VerboseFlag,
-    /// `(?ii)`, `(?i-i)`
+    /// `(?ii)`, `(?i-i)`, and in the full grammar `(?xx)`
     RepeatedFlag,
     /// `(?i--s)`
     RepeatedNegation,
@@ -39,7 +40,7 @@ pub enum FaultKind {
     /// `(?<>a)`
     EmptyName,
     /// `(?<1>a)`, `(?<a b>a)`: names are ASCII letters, digits, `_`, `.`, `[` and `]`, and begin
-    /// with a letter or `_`.
+    /// with a letter or `_`. The full grammar takes the letters and numbers of every script.
     NameCharacter,
     /// `(?<a`: the span is the `<`.
     UnclosedName,
@@ -55,7 +56,7 @@ pub enum FaultKind {
     LargeNumber,
     /// `a{3,2}`
     BoundsOutOfOrder,
-    /// `[a`: the span is the `[`.
+    /// `[a`: the span is the `[`, and in the full grammar that of the innermost list.
     UnclosedList,
     /// `[]`, `[^]`: a `]` that comes first is a member, and no other closes the list.
     EmptyList,
@@ -67,7 +68,7 @@ pub enum FaultKind {
     SetOperation,
     /// `[\b]`, `[\A]`
     AssertionInList,
-    /// `[a-\d]`, `[\d-a]`
+    /// `[a-\d]`, `[\d-a]`, and in the full grammar `[\pL-z]`
     ClassInRange,
     /// `[z-a]`
     RangeOutOfOrder,
@@ -79,6 +80,12 @@ pub enum FaultKind {
     UnknownEscape,
     /// `\pL`, `\p{Greek}`
     UnicodeClass,
+    /// In the full grammar, `\p{Nope}`, and `\p{Cs}`, which no character has.
+    UnknownProperty,
+    /// `\p{sc=Nope}`, in the full grammar
+    UnknownPropertyValue,
+    /// `(?-u)\pL`, in the full grammar: properties are of characters.
+    PropertyOfBytes,
     /// `\1`, `\k<a>`, `(?P=a)`
     Backreference,
     /// `\xZ`, `\u12`, `\x{}`
@@ -96,9 +103,6 @@ pub enum FaultKind {
     /// The pattern exceeds the nest limit, whatever follows the span. The span goes from the opener
     /// of the innermost open group, or from the start, to the first token that is too deep.
     NestedTooDeeply,
-    /// `a[b`, if the full grammar is set: no fault of it has another kind. The span is the first
-    /// character of the part that isn't read, or empty at the end of the text.
-    Unparsed,
 }
 
 /// The message for a group that doesn't parse.
@@ -144,6 +148,9 @@ fn escape_line(kind: FaultKind) -> Option<&'static str> {
         FaultKind::DanglingBackslash => Some("nothing is escaped"),
         FaultKind::UnknownEscape => Some("unknown escape"),
         FaultKind::UnicodeClass => Some("Unicode classes aren't supported"),
+        FaultKind::UnknownProperty => Some("unknown property"),
+        FaultKind::UnknownPropertyValue => Some("unknown value of a property"),
+        FaultKind::PropertyOfBytes => Some("a property of characters among bytes"),
         FaultKind::Backreference => Some("backreferences aren't supported"),
         FaultKind::HexadecimalDigit => Some("missing hexadecimal digit"),
         FaultKind::NoScalar => Some("no character has this code"),
@@ -163,7 +170,6 @@ fn other_line(kind: FaultKind) -> &'static str {
         FaultKind::BoundsOutOfOrder => "repetition bounds out of order",
         FaultKind::NotUtf8 => "bytes past ASCII where UTF-8 is asked for",
         FaultKind::LineTerminator => "a line terminator past ASCII is no character",
-        FaultKind::Unparsed => "not a pattern of the full grammar",
         _ => "patterns nest too deeply",
     }
 }

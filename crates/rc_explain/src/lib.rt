@@ -4,6 +4,8 @@
 mod escapes;
 mod explanation;
 mod faults;
+mod full_lists;
+mod full_marks;
 mod lists;
 mod marks;
 mod openings;

@@ -2,6 +2,8 @@
 
 ghost use Rattle.std.specs.Prelude.{◌≡◌, ◌⊎◌, ◌∷◌, ◌≤◌, ℕ, [], true, length, IfOk, IfErr, IfSome, MatchOption};
 ghost use Rattle.rc_tokens.specs.Text.{Characters};
+ghost use Rattle.rc_parser.specs.declared.config.Grammar.{Grammar};
+ghost use Rattle.rc_parser.specs.declared.config.Grammar.TheVariants.{Stated};
 ghost use Rattle.rc_tokens.specs.declared.tokens.Member.TheVariants.{Hyphen};
 ghost use Rattle.rc_explain.specs.Reading.{AreInLine, IsClassBefore, IsItem, IsMember, IsNext};
 ghost use Rattle.rc_explain.specs.Shown.{AreAt, HasCode, HasShape, IsPerl, IsUncoded, Stands};
@@ -36,9 +38,9 @@ fn is_operation(before: char, c: char) -> bool
 /// The fault of a list that is no token. Its first fault counts.
 pub fn list_fault(alloc: Global, mark: &[char]) -> Result<Found, AllocError>
     requires { Stands mark.now 0 91 }
-    ensures { IfOk result (λ found. HasShape found.kind mark.now found.start found.end) }
+    ensures { IfOk result (λ found. HasShape Stated found.kind mark.now found.start found.end) }
 {
-    let (start, has_bracket) = front(mark);
+    let (start, _) = front(mark);
     let mut at = start;
     for i in start..mark.len() {
         let c = mark[i];
@@ -63,24 +65,34 @@ pub fn list_fault(alloc: Global, mark: &[char]) -> Result<Found, AllocError>
             }
         }
     }
+    Ok(unclosed_list(mark))
+}
+
+/// The fault of a list that isn't closed.
+pub fn unclosed_list(mark: &[char]) -> Found
+    requires { Stands mark.now 0 91 }
+    ensures { (grammar : Grammar)
+        → HasShape grammar result.kind mark.now result.start result.end }
+{
+    let (end, has_bracket) = front(mark);
     if has_bracket {
-        return Ok(Found {
+        return Found {
             kind: FaultKind::EmptyList,
             start: 0,
-            end: start,
-        });
+            end,
+        };
     }
-    Ok(Found {
+    Found {
         kind: FaultKind::UnclosedList,
         start: 0,
         end: 1,
-    })
+    }
 }
 
 /// A `[` in a list.
 fn nested_fault(mark: &[char], at: usize) -> Found
     requires { Stands mark.now at 91 }
-    ensures { HasShape result.kind mark.now result.start result.end }
+    ensures { HasShape Stated result.kind mark.now result.start result.end }
 {
     if mark.get(at + 1).copied() == Some(':') {
         return Found {
@@ -100,7 +112,7 @@ fn nested_fault(mark: &[char], at: usize) -> Found
 fn escape_in_list(alloc: Global, mark: &[char]) -> Result<Result<usize, Found>, AllocError>
     requires { Stands mark.now 0 92 }
     ensures { IfOk result (λ told. IfErr told (λ found.
-        HasShape found.kind mark.now found.start found.end)) }
+        HasShape Stated found.kind mark.now found.start found.end)) }
 {
     match first_mark(alloc, mark)? {
         Some((Token::Assertion(_), count)) => {
@@ -224,7 +236,7 @@ fn between(kind: FaultKind, first: Placed, last: Placed) -> Found
 /// The fault of a range: of the member `first`, the hyphen, and the member `last`.
 fn range_fault(is_unicode: bool, first: Placed, hyphen: Placed, last: Placed) -> Option<Found>
     ensures { (text : Characters) → AreInLine text first hyphen last
-        → IfSome result (λ found. HasShape found.kind text found.start found.end) }
+        → IfSome result (λ found. HasShape Stated found.kind text found.start found.end) }
 {
     match last.member {
         Member::Hyphen => Some(between(FaultKind::SetOperation, hyphen, last)),
@@ -270,7 +282,7 @@ impl Item {
     fn hyphen_fault(self, class: Option<Placed>) -> Option<Found>
         ensures { (text : Characters) → (at : ℕ) → IsItem text at self
             → self.first.member ≡ Hyphen → IsClassBefore text at class
-            → IfSome result (λ found. HasShape found.kind text found.start found.end) }
+            → IfSome result (λ found. HasShape Stated found.kind text found.start found.end) }
     {
         let next = self.second?;
         if matches!(next.member, Member::Hyphen) {
@@ -283,7 +295,7 @@ impl Item {
     fn fault(self, is_unicode: bool, class: Option<Placed>) -> Option<Found>
         ensures { (text : Characters) → (at : ℕ) → IsItem text at self
             → IsClassBefore text at class
-            → IfSome result (λ found. HasShape found.kind text found.start found.end) }
+            → IfSome result (λ found. HasShape Stated found.kind text found.start found.end) }
     {
         let first = self.first;
         match first.member {
@@ -307,7 +319,7 @@ pub fn members_fault(
 ) -> Result<Option<Found>, AllocError>
     requires { length mark.now ≤ usize.MAX }
     ensures { IfOk result (λ told. IfSome told (λ found.
-        HasShape found.kind mark.now found.start found.end)) }
+        HasShape Stated found.kind mark.now found.start found.end)) }
 {
     let (mut at, has_bracket) = front(mark);
     let mut is_leading = !has_bracket;

@@ -1,12 +1,14 @@
 //! Diagnostics scan: the tokens of a text, up to the one that doesn't parse.
 
-ghost use Rattle.std.specs.Prelude.{◌≡◌, ◌<◌, ◌≤◌, IfOk, IfSome, MatchOption, None, OnOk, drop, length};
+ghost use Rattle.std.specs.Prelude.{◌≡◌, ◌<◌, ◌≤◌, [], IfOk, IfSome, MatchOption, None, OnOk, drop, length};
+ghost use Rattle.rc_parser.specs.declared.config.Grammar.{Grammar};
+ghost use Rattle.rc_parser.specs.declared.config.Grammar.TheVariants.{Stated};
 ghost use Rattle.rc_tokens.specs.Lexer.{lex};
 ghost use Rattle.rc_tokens.specs.Said.{Opens, Start};
 ghost use Rattle.rc_tokens.specs.Text.{Characters};
 ghost use Rattle.rc_tokens.specs.View.{said_of};
 ghost use Rattle.rc_explain.specs.Reading.{AreOpen, IsToken};
-ghost use Rattle.rc_explain.specs.Shown.{HasShape, IsAtom, Shows, Stands};
+ghost use Rattle.rc_explain.specs.Shown.{HasShape, Shows, Stands};
 
 use crate::escapes::escape_fault;
 use crate::faults::FaultKind;
@@ -14,7 +16,8 @@ use crate::lists::{list_fault, members_fault};
 use crate::openings::{name_of, opening_fault};
 use crate::places::Found;
 use crate::repetitions::counted_fault;
-use rc_parser::{Config, Error, parse};
+use rc_parser::{Config, Error, Grammar};
+use rc_syntax::parse;
 use rc_tokens::lexer::first_token;
 use rc_tokens::refusal::Refusal;
 use rc_tokens::tokens::{Opening, Token};
@@ -41,28 +44,40 @@ pub fn from(text: &[char], at: usize) -> &[char]
 
 /// A group that is open.
 #[derive(Clone, Copy)]
-struct OpenGroup {
+pub struct OpenGroup {
     /// Where its `(` is.
-    at: usize,
+    pub at: usize,
     /// The flag `u` outside.
-    is_unicode_outside: bool,
+    pub is_unicode_outside: bool,
 }
 
 /// The state after the tokens so far.
 #[derive(Drop)]
-struct Standing {
-    groups: Vec<OpenGroup>,
+pub struct Standing {
+    pub groups: Vec<OpenGroup>,
     /// The names of the groups so far.
     names: Vec<String>,
     /// The flag `u`.
-    is_unicode: bool,
+    pub is_unicode: bool,
     /// Whether there is something that an operator may repeat.
     has_item: bool,
 }
 
 impl Standing {
+    /// The state before a text.
+    pub fn new(alloc: Global, config: &Config) -> Standing
+        ensures { result.groups.items ≡ [] }
+    {
+        Standing {
+            groups: Vec::new(alloc),
+            names: Vec::new(alloc),
+            is_unicode: config.get_unicode(),
+            has_item: false,
+        }
+    }
+
     /// Goes past a token at this position.
-    fn pass(&mut self, alloc: Global, token: &Token, at: usize) -> Result<(), AllocError>
+    pub fn pass(&mut self, alloc: Global, token: &Token, at: usize) -> Result<(), AllocError>
         ensures { (text : Characters)
             → ((start : Start) → said_of token.now ≡ Opens start → Stands text at 40)
             → AreOpen text self.old.groups.items
@@ -103,9 +118,9 @@ impl Standing {
     }
 
     /// The fault of nesting too deeply: of the innermost open group, or of the whole pattern.
-    fn too_deep(&self, end: usize) -> Found
-        ensures { (text : Characters) → AreOpen text self.now.groups.items
-            → Shows result.kind text result.start result.end }
+    pub fn too_deep(&self, end: usize) -> Found
+        ensures { (grammar : Grammar) (text : Characters) → AreOpen text self.now.groups.items
+            → Shows grammar result.kind text result.start result.end }
     {
         let start = match self.groups.last() {
             Some(group) => group.at,
@@ -119,10 +134,10 @@ impl Standing {
     }
 
     /// The fault at the end of the text.
-    fn end_fault(&self, end: usize) -> Found
-        ensures { (text : Characters) → length text ≤ usize.MAX
+    pub fn end_fault(&self, end: usize) -> Found
+        ensures { (grammar : Grammar) (text : Characters) → length text ≤ usize.MAX
             → AreOpen text self.now.groups.items
-            → Shows result.kind text result.start result.end }
+            → Shows grammar result.kind text result.start result.end }
     {
         match self.groups.last() {
             Some(group) => Found {
@@ -139,7 +154,7 @@ impl Standing {
     }
 
     /// Whether a group so far has this name.
-    fn is_taken(&self, name: &str) -> bool {
+    pub fn is_taken(&self, name: &str) -> bool {
         for other in &self.names {
             if other.as_bytes() == name.as_bytes() {
                 return true;
@@ -149,15 +164,16 @@ impl Standing {
     }
 
     /// The fault of an atom that isn't allowed here by itself; `None` if it is nested too deeply.
-    fn atom_fault(
+    pub fn atom_fault(
         &self,
         alloc: Global,
         config: &Config,
         mark: &[char],
     ) -> Result<Option<Found>, AllocError>
-        requires { IsAtom mark.now }
-        ensures { IfOk result (λ told. IfSome told (λ found.
-            HasShape found.kind mark.now found.start found.end)) }
+        ensures { (grammar : Grammar)
+            → HasShape grammar FaultKind.NotUtf8 mark.now 0 (length mark.now)
+            → IfOk result (λ told. IfSome told (λ found.
+            HasShape grammar found.kind mark.now found.start found.end)) }
     {
         let end = mark.len();
         if parses_alone(
@@ -175,11 +191,36 @@ impl Standing {
                     end,
                 }))
             }
+            _ if self.is_unicode => Ok(None),
             _ => Ok(Some(Found {
                 kind: FaultKind::NotUtf8,
                 start: 0,
                 end,
             })),
+        }
+    }
+
+    /// The fault of a `)` or an operator that isn't allowed here. `mark` is its text.
+    pub fn operator_fault(&self, mark: &[char]) -> Option<Found>
+        ensures { (grammar : Grammar) → IfSome result (λ found.
+            HasShape grammar found.kind mark.now found.start found.end) }
+    {
+        match mark {
+            [')'] if self.groups.is_empty() => {
+                Some(Found {
+                    kind: FaultKind::UnopenedGroup,
+                    start: 0,
+                    end: 1,
+                })
+            }
+            ['*' | '+' | '?' | '{', ..] if !self.has_item => {
+                Some(Found {
+                    kind: FaultKind::RepetitionOfNothing,
+                    start: 0,
+                    end: mark.len(),
+                })
+            }
+            _ => None,
         }
     }
 
@@ -195,25 +236,10 @@ impl Standing {
         requires fits { length mark.now ≤ usize.MAX }
         requires token { IsToken (said_of token.now) mark.now 0 (length mark.now) }
         ensures { IfOk result (λ told. IfSome told (λ found.
-            HasShape found.kind mark.now found.start found.end)) }
+            HasShape Stated found.kind mark.now found.start found.end)) }
     {
-        let end = mark.len();
-        match mark {
-            [')'] if self.groups.is_empty() => {
-                return Ok(Some(Found {
-                    kind: FaultKind::UnopenedGroup,
-                    start: 0,
-                    end: 1,
-                }));
-            }
-            ['*' | '+' | '?' | '{', ..] if !self.has_item => {
-                return Ok(Some(Found {
-                    kind: FaultKind::RepetitionOfNothing,
-                    start: 0,
-                    end,
-                }));
-            }
-            _ => {}
+        if let Some(found) = self.operator_fault(mark) {
+            return Ok(Some(found));
         }
         match token {
             Token::Byte(_) | Token::Perl(_) | Token::Dot => self.atom_fault(alloc, config, mark),
@@ -254,13 +280,13 @@ fn parses_alone(alloc: Global, config: &Config, mark: &[char]) -> Result<bool, A
 fn unread_mark(alloc: Global, mark: &[char]) -> Result<Found, AllocError>
     requires some { 0 < length mark.now }
     requires unread { lex mark.now ≡ None }
-    ensures { IfOk result (λ found. HasShape found.kind mark.now found.start found.end) }
+    ensures { IfOk result (λ found. HasShape Stated found.kind mark.now found.start found.end) }
 {
     match mark {
         ['[', ..] => list_fault(alloc, mark),
         ['\\', ..] => Ok(escape_fault(mark)),
-        ['{', ..] => Ok(counted_fault(mark)),
-        _ => Ok(opening_fault(mark)),
+        ['{', ..] => Ok(counted_fault(Grammar::Stated, mark)),
+        _ => Ok(opening_fault(Grammar::Stated, mark)),
     }
 }
 
@@ -272,14 +298,9 @@ pub fn fault_at(
     stop: usize,
 ) -> Result<Found, AllocError>
     requires { length text.now ≤ usize.MAX }
-    ensures { IfOk result (λ found. Shows found.kind text.now found.start found.end) }
+    ensures { IfOk result (λ found. Shows Stated found.kind text.now found.start found.end) }
 {
-    let mut standing = Standing {
-        groups: Vec::new(alloc),
-        names: Vec::new(alloc),
-        is_unicode: config.get_unicode(),
-        has_item: false,
-    };
+    let mut standing = Standing::new(alloc, config);
     let mut at = 0;
     for _ in 0..text.len() {
         if at >= text.len() {

@@ -2,16 +2,19 @@
 
 ghost use Rattle.std.specs.Prelude.{◌≡◌, ◌<◌, ◌-◌, ℕ, List, false, length};
 ghost use Rattle.rc_tokens.specs.Said.{Named, Opens};
+ghost use Rattle.rc_parser.specs.declared.config.Grammar.TheVariants.{Stated};
 ghost use Rattle.rc_explain.specs.Reading.{IsToken};
 ghost use Rattle.rc_explain.specs.Shown.{HasShape, IsNamed, Stands, begins_name};
 
 use crate::faults::FaultKind;
 use crate::places::{Found, is_at};
+use rc_parser::Grammar;
+use unicode::properties::{GeneralCategory, GeneralCategoryGroup, is_alphabetic};
 
 /// The fault of a group opening that doesn't parse.
-pub fn opening_fault(mark: &[char]) -> Found
+pub fn opening_fault(grammar: Grammar, mark: &[char]) -> Found
     requires { Stands mark.now 0 40 }
-    ensures { HasShape result.kind mark.now result.start result.end }
+    ensures { HasShape grammar result.kind mark.now result.start result.end }
 {
     match mark {
         ['(', '?', '=', ..] | ['(', '?', '!', ..] => Found {
@@ -24,8 +27,8 @@ pub fn opening_fault(mark: &[char]) -> Found
             start: 0,
             end: 4,
         },
-        ['(', '?', '<', ..] => name_fault(mark, 3),
-        ['(', '?', 'P', '<', ..] => name_fault(mark, 4),
+        ['(', '?', '<', ..] => name_fault(grammar, mark, 3),
+        ['(', '?', 'P', '<', ..] => name_fault(grammar, mark, 4),
         ['(', '?', 'P', '=', ..] => Found {
             kind: FaultKind::Backreference,
             start: 0,
@@ -41,25 +44,32 @@ pub fn opening_fault(mark: &[char]) -> Found
             start: 0,
             end: 4,
         },
-        _ => flags_fault(mark),
+        _ => flags_fault(grammar, mark),
     }
 }
 
 /// Whether the character may be in the name of a group.
-fn is_in_name(c: char, is_first: bool) -> bool
+fn is_in_name(grammar: Grammar, c: char, is_first: bool) -> bool
     ensures { result ≡ false → begins_name c ≡ false }
 {
     if c.is_ascii_alphabetic() || c == '_' {
         return true;
     }
-    !is_first && (c.is_ascii_digit() || c == '.' || c == '[' || c == ']')
+    let (is_letter, is_number) = match grammar {
+        Grammar::Stated => (false, c.is_ascii_digit()),
+        Grammar::Full => (
+            is_alphabetic(c),
+            GeneralCategoryGroup::Number.contains(GeneralCategory::for_char(c)),
+        ),
+    };
+    is_letter || (!is_first && (is_number || c == '.' || c == '[' || c == ']'))
 }
 
 /// The fault of a name that begins there.
-fn name_fault(mark: &[char], from: usize) -> Found
+fn name_fault(grammar: Grammar, mark: &[char], from: usize) -> Found
     requires above { 0 < from }
     requires opens { Stands mark.now (from - 1) 60 }
-    ensures { HasShape result.kind mark.now result.start result.end }
+    ensures { HasShape grammar result.kind mark.now result.start result.end }
 {
     for i in from..mark.len() {
         let c = mark[i];
@@ -70,7 +80,7 @@ fn name_fault(mark: &[char], from: usize) -> Found
                 end: i + 1,
             };
         }
-        if !is_in_name(c, i == from) {
+        if !is_in_name(grammar, c, i == from) {
             return Found {
                 kind: FaultKind::NameCharacter,
                 start: i,
@@ -99,9 +109,9 @@ pub fn name_of(mark: &[char]) -> (usize, usize)
 }
 
 /// The fault of flags that don't parse.
-fn flags_fault(mark: &[char]) -> Found
+fn flags_fault(grammar: Grammar, mark: &[char]) -> Found
     requires { Stands mark.now 0 40 }
-    ensures { HasShape result.kind mark.now result.start result.end }
+    ensures { HasShape grammar result.kind mark.now result.start result.end }
 {
     let mut are_cleared = false;
     for i in 2..mark.len() {
@@ -125,7 +135,12 @@ fn flags_fault(mark: &[char]) -> Found
                 end: i + 1,
             },
             '-' => are_cleared = true,
-            'i' | 'm' | 's' | 'R' | 'U' | 'u' => {
+            'x' if grammar == Grammar::Stated => return Found {
+                kind: FaultKind::VerboseFlag,
+                start: i,
+                end: i + 1,
+            },
+            'i' | 'm' | 's' | 'R' | 'U' | 'u' | 'x' => {
                 if mark[2..i].contains(&c) {
                     return Found {
                         kind: FaultKind::RepeatedFlag,
@@ -134,11 +149,6 @@ fn flags_fault(mark: &[char]) -> Found
                     };
                 }
             }
-            'x' => return Found {
-                kind: FaultKind::VerboseFlag,
-                start: i,
-                end: i + 1,
-            },
             _ if i == 2 && !c.is_ascii_alphabetic() => {
                 return Found {
                     kind: FaultKind::UnknownGroup,

@@ -1,6 +1,7 @@
 //! Positions in a text, counted in characters.
 
 ghost use Rattle.std.specs.Prelude.{◌≡◌, ◌+◌, ◌≤◌, ◌↔◌, IsTrue, drop, length, List, ℕ, encode_utf8_all};
+ghost use Rattle.rc_parser.specs.declared.config.Grammar.{Grammar};
 ghost use Rattle.rc_explain.specs.Shown.{HasShape, Stands, byte_of};
 
 use crate::faults::FaultKind;
@@ -18,9 +19,9 @@ pub struct Found {
 impl Found {
     /// The fault in a text with `count` more characters before it.
     pub fn after(self, count: usize) -> Found
-        ensures { (text : List ℕ) → length text ≤ usize.MAX
-            → HasShape self.kind (drop count text) self.start self.end
-            → HasShape result.kind text result.start result.end }
+        ensures { (grammar : Grammar) (text : List ℕ) → length text ≤ usize.MAX
+            → HasShape grammar self.kind (drop count text) self.start self.end
+            → HasShape grammar result.kind text result.start result.end }
     {
         Found {
             kind: self.kind,

@@ -5,6 +5,8 @@ ghost use Rattle.rc_explain.specs.Shown.{HasShape, Stands};
 
 use crate::faults::FaultKind;
 use crate::places::{Found, is_at};
+use rc_parser::Grammar;
+use unicode::properties::is_white_space;
 
 /// The digits from there on, as a number, and where they end.
 fn number_at(mark: &[char], from: usize) -> (u64, usize)
@@ -20,52 +22,71 @@ fn number_at(mark: &[char], from: usize) -> (u64, usize)
     (number, mark.len().max(from))
 }
 
+/// Where the white space from there on ends, if the grammar allows any.
+fn behind_blanks(grammar: Grammar, mark: &[char], from: usize) -> usize {
+    if grammar == Grammar::Full {
+        for i in from..mark.len() {
+            if !is_white_space(mark[i]) {
+                return i;
+            }
+        }
+        return mark.len().max(from);
+    }
+    from
+}
+
 /// The fault of a `{` that begins no repetition.
-pub fn counted_fault(mark: &[char]) -> Found
+pub fn counted_fault(grammar: Grammar, mark: &[char]) -> Found
     requires { Stands mark.now 0 123 }
-    ensures { HasShape result.kind mark.now result.start result.end }
+    ensures { HasShape grammar result.kind mark.now result.start result.end }
 {
-    let (min, end) = number_at(mark, 1);
-    if end > 1 && min > u32::MAX as u64 {
+    let start = behind_blanks(grammar, mark, 1);
+    let (min, end) = number_at(mark, start);
+    let has_min = end > start;
+    if has_min && min > u32::MAX as u64 {
         return Found {
             kind: FaultKind::LargeNumber,
-            start: 1,
+            start,
             end,
         };
     }
-    if end > 1 && is_at(mark, end, ',') {
-        return second_fault(mark, min, end.saturating_add(1));
+    let end = behind_blanks(grammar, mark, end);
+    if has_min && is_at(mark, end, ',') {
+        return second_fault(grammar, mark, min, end.saturating_add(1));
     }
-    unended_fault(mark, end)
+    unended_fault(grammar, mark, end)
 }
 
 /// The fault of a second number that begins there.
-fn second_fault(mark: &[char], min: u64, from: usize) -> Found
+fn second_fault(grammar: Grammar, mark: &[char], min: u64, from: usize) -> Found
     requires { Stands mark.now 0 123 }
-    ensures { HasShape result.kind mark.now result.start result.end }
+    ensures { HasShape grammar result.kind mark.now result.start result.end }
 {
-    let (max, end) = number_at(mark, from);
+    let start = behind_blanks(grammar, mark, from);
+    let (max, end) = number_at(mark, start);
     if max > u32::MAX as u64 {
         return Found {
             kind: FaultKind::LargeNumber,
-            start: from,
+            start,
             end,
         };
     }
-    if is_at(mark, end, '}') && max < min {
+    let has_max = end > start;
+    let end = behind_blanks(grammar, mark, end);
+    if has_max && is_at(mark, end, '}') && max < min {
         return Found {
             kind: FaultKind::BoundsOutOfOrder,
             start: 0,
             end: end.saturating_add(1),
         };
     }
-    unended_fault(mark, end)
+    unended_fault(grammar, mark, end)
 }
 
 /// The fault of a repetition that doesn't end there.
-fn unended_fault(mark: &[char], end: usize) -> Found
+fn unended_fault(grammar: Grammar, mark: &[char], end: usize) -> Found
     requires { Stands mark.now 0 123 }
-    ensures { HasShape result.kind mark.now result.start result.end }
+    ensures { HasShape grammar result.kind mark.now result.start result.end }
 {
     if end >= mark.len() && end > 1 {
         return Found {

@@ -1,5 +1,6 @@
 use Rattle.std.proofs.Common.{◌≡◌, ◌+◌, ◌≤◌, IfOk, arith, drop, length, rules, subst, sym, take}
 use Rattle.rc_tokens.specs.View.{said_of}
+use Rattle.rc_parser.specs.declared.config.Grammar.TheVariants.{Stated}
 use Rattle.rc_explain.specs.Reading.{IsToken}
 use Rattle.rc_explain.specs.Shown.{HasShape, Shows, Stands, shape_of}
 use Rattle.rc_explain.proofs.Begins.{opens_at}
@@ -15,13 +16,13 @@ returns-then-at-stop c =
       | in-Some-2 w ↦
           let f = w.in-Some-2.fault in
           let g = w.after-in-Some-2.result in
-          let here : HasShape f.kind (take c.in-Some.count (drop c.loop.at t)) f.start f.end = search rules in
-          subst (λ r. IfOk r (λ found. Shows found.kind t found.start found.end)) (sym w.result-is)
-          (shows g.kind t g.start g.end
-          (w.after-in-Some-2.ensures t c.requires (wider (shape_of f.kind) c.in-Some.count (drop c.loop.at t) f.start f.end here)))
+          let here : HasShape Stated f.kind (take c.in-Some.count (drop c.loop.at t)) f.start f.end = search rules in
+          subst (λ r. IfOk r (λ found. Shows Stated found.kind t found.start found.end)) (sym w.result-is)
+          (shows Stated g.kind t g.start g.end
+          (w.after-in-Some-2.ensures Stated t c.requires (wider (shape_of Stated f.kind) c.in-Some.count (drop c.loop.at t) f.start f.end here)))
       | in-None w ↦
-          subst (λ r. IfOk r (λ found. Shows found.kind t found.start found.end)) (sym w.result-is)
-          (w.too_deep.ensures t c.loop.invariant)
+          subst (λ r. IfOk r (λ found. Shows Stated found.kind t found.start found.end)) (sym w.result-is)
+          (w.too_deep.ensures Stated t c.loop.invariant)
     ]
 
 pub loop-preserved : goal.loop-preserved
@@ -49,5 +50,5 @@ pub returns-in_default : goal.returns-in_default
 returns-in_default c =
     let t = c.args.text.now in
     let f = c.after.result in
-    let here : HasShape f.kind t f.start f.end = search rules in
-    shows f.kind t f.start f.end here
+    let here : HasShape Stated f.kind t f.start f.end = search rules in
+    shows Stated f.kind t f.start f.end here
