@@ -89,8 +89,8 @@ enum {
     ZF_LEFTMOST_LONGEST = 2 /* the longest match of the least start, and of these the preferred one */
 };
 
-/* How patterns are read, which match is sought, and limits. Each field before `kind` is off at 0, and on at each other number. All 0: the
- * defaults.
+/* How patterns are read, which match is sought, and limits. Each field before `kind`, and `full`, is off at 0, and on at each other number. All
+ * 0: the defaults.
  *
  * A call that takes settings takes their size too, sizeof(struct zf_settings), and reads no byte behind it. So a program that was built with
  * an older header, whose structure is shorter, gets 0 in the fields that it doesn't have. A longer one, of a newer header, is read as far as
@@ -111,6 +111,7 @@ struct zf_settings {
     uint8_t kind;                 /* ZF_LEFTMOST_FIRST, ZF_ALL or ZF_LEFTMOST_LONGEST; each other number is ZF_NO_KIND */
     size_t size_limit;            /* the limit on the size of the patterns, beyond which they are ZF_TOO_LARGE; 0 for 10,485,760 */
     size_t cache_capacity;        /* how many bytes the cache of a lazy DFA may take; 0 for 2,097,152. No answer depends on it. */
+    size_t full;                  /* patterns are read by the full grammar: Unicode's classes and case folding, sets, the flag x */
 };
 
 /* Why patterns were refused. */

@@ -3,7 +3,7 @@
  *     KIND FLAGS CUT BATCH START END PATTERNS pattern .. text
  *
  * KIND is f (the first match), a (all matches), g (the first match with its groups), m (whether there is one), w (which patterns
- * have one) or r (only compile). FLAGS are the nine settings, a digit each: the flags as 0 or 1, and the kind of match as its number.
+ * have one) or r (only compile). FLAGS are ten settings, a digit each: the flags as 0 or 1, the kind of match as its number, and full as 0 or 1.
  * CUT is the length of the chunks, 0 for one chunk. END is a number or `end`. The answer is a line. */
 #include "../../include/zorfelith.h"
 #include <stdio.h>
@@ -127,9 +127,10 @@ int main(void) {
         char kind = strtok(line, " \n")[0];
         struct zf_settings settings = {0};
         const size_t flags = offsetof(struct zf_settings, kind) + 1;
-        memcpy(&settings, strtok(NULL, " \n"), flags);
+        const char *digits = strtok(NULL, " \n");
         for (size_t i = 0; i < flags; i++)
-            ((uint8_t *)&settings)[i] -= '0';
+            ((uint8_t *)&settings)[i] = (uint8_t)(digits[i] - '0');
+        settings.full = (size_t)(digits[flags] - '0');
         size_t cut = strtoul(strtok(NULL, " \n"), NULL, 10);
         size_t capacity = strtoul(strtok(NULL, " \n"), NULL, 10);
         size_t start = strtoul(strtok(NULL, " \n"), NULL, 10);

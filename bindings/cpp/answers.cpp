@@ -86,7 +86,8 @@ int main() {
         zorfelith::settings settings{};
         for (char &flag : flags)
             flag = static_cast<char>(flag - '0');
-        std::memcpy(&settings, flags.data(), flags.size());
+        std::memcpy(&settings, flags.data(), flags.size() - 1);
+        settings.full = static_cast<std::size_t>(flags.back());
         try {
             zorfelith::regex regex = zorfelith::regex::of_patterns(texts, settings);
             try {

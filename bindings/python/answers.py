@@ -3,7 +3,7 @@ import sys
 
 import zorfelith
 
-FLAGS = ("case_insensitive", "multi_line", "dot_matches_new_line", "crlf", "swap_greed", "bytes", "any_bytes", "split_characters")
+FLAGS = ("case_insensitive", "multi_line", "dot_matches_new_line", "crlf", "swap_greed", "bytes", "any_bytes", "split_characters", "kind", "full")
 
 
 def bytes_of(word):
@@ -36,9 +36,9 @@ def answered(line):
     kind, flags, cut, _, start, end, count, *words = line.split()
     count, cut, text = int(count), int(cut), bytes_of(words[-1])
     chunks = [text] if cut == 0 else [text[i:i + cut] for i in range(0, len(text), cut)]
-    settings = {name: flag == "1" for name, flag in zip(FLAGS, flags)}
+    settings = {name: int(flag) for name, flag in zip(FLAGS, flags)}
     try:
-        regex = zorfelith.compile([bytes_of(it) for it in words[:count]], kind=int(flags[-1]), **settings)
+        regex = zorfelith.compile([bytes_of(it) for it in words[:count]], **settings)
     except zorfelith.Error as refused:
         return f"refused {refused.status} {refused.pattern} {refused.at}"
     if kind == "r":

@@ -42,6 +42,7 @@ _WORDS = {
 }
 _FLAGS = ("case_insensitive", "multi_line", "dot_matches_new_line", "crlf", "swap_greed", "bytes", "any_bytes", "split_characters")
 _LIMITS = ("size_limit", "cache_capacity")
+_GRAMMAR = ("full",)
 _BATCH = 256
 
 _size = ctypes.c_size_t
@@ -57,7 +58,7 @@ class _Handle(ctypes.Structure):
 
 
 class _Settings(ctypes.Structure):
-    _fields_ = [(name, ctypes.c_uint8) for name in (*_FLAGS, "kind")] + [(name, _size) for name in _LIMITS]
+    _fields_ = [(name, ctypes.c_uint8) for name in (*_FLAGS, "kind")] + [(name, _size) for name in (*_LIMITS, *_GRAMMAR)]
 
 
 class _Refused(ctypes.Structure):
@@ -580,7 +581,7 @@ def _filler(template):
 
 def _settings(kind, flags):
     """The structure of settings for these names."""
-    unknown = sorted(set(flags) - {*_FLAGS, *_LIMITS})
+    unknown = sorted(set(flags) - {*_FLAGS, *_LIMITS, *_GRAMMAR})
     if unknown:
         raise TypeError(f"no flag {unknown[0]}")
     return _Settings(kind=kind, **{name: value if name in _LIMITS else bool(value) for name, value in flags.items()})
@@ -594,7 +595,7 @@ def compile(patterns, *, kind=LEFTMOST_FIRST, **flags):
     """Compiles a pattern, or a list of patterns: each a str or bytes of UTF-8.
 
     `kind` is LEFTMOST_FIRST, LEFTMOST_LONGEST or ALL. The flags, all off, are case_insensitive, multi_line, dot_matches_new_line, crlf,
-    swap_greed, bytes, any_bytes and split_characters, and the limits size_limit and cache_capacity: zorfelith.h says what each does.
+    swap_greed, bytes, any_bytes, split_characters and full, and the limits size_limit and cache_capacity: zorfelith.h says what each does.
     """
     texts = [patterns] if isinstance(patterns, (str, bytes)) else list(patterns)
     return Pattern([_encoded(it) for it in texts], _settings(kind, flags))

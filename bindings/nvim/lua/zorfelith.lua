@@ -10,7 +10,7 @@ struct zf_bytes { const uint8_t *bytes; size_t len; };
 struct zf_handle { uint8_t full; void *held; };
 struct zf_settings {
     uint8_t case_insensitive, multi_line, dot_matches_new_line, crlf, swap_greed, bytes, any_bytes, split_characters, kind;
-    size_t size_limit, cache_capacity;
+    size_t size_limit, cache_capacity, full;
 };
 struct zf_fault { size_t start; size_t end; size_t len; };
 struct zf_refused { uint32_t status; size_t pattern; size_t at; };

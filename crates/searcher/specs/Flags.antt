@@ -3,6 +3,7 @@ use Rattle.std.specs.Prelude.{ℕ, Bool, not, Option, Some, None, if◌then◌el
 use Rattle.rc_text.specs.declared.types.MatchKind.{MatchKind}
 use Rattle.rc_text.specs.declared.types.MatchKind.TheVariants.{All as all_matches, LeftmostFirst as leftmost_first, LeftmostLongest as leftmost_longest}
 use Rattle.rc_parser.specs.Settings as syntax
+use Rattle.rc_parser.specs.declared.config.Grammar.TheVariants.{Full, Stated}
 use Rattle.rc_settings.specs.Settings as search
 use Rattle.searcher.specs.declared.settings.Settings.{Settings}
 
@@ -13,6 +14,7 @@ is_on flag = not (nat_eq flag 0)
 -- how patterns are read
 abbrev pub syntax_settings : Settings → syntax.Settings
 syntax_settings s = record syntax.default_settings {
+  grammar = if is_on s.full then Full else Stated;
   unicode = not (is_on s.bytes);
   utf8 = not (is_on s.any_bytes);
   case_insensitive = is_on s.case_insensitive;

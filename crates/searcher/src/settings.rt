@@ -3,11 +3,13 @@
 ghost use Rattle.std.specs.Prelude.{◌≡◌};
 
 use rc_parser as syntax;
+use rc_parser::Grammar;
 use rc_settings::meta;
 use rc_text::types::MatchKind;
 
-/// How patterns are parsed, which match a search finds, and limits. Each field before `kind` is a
-/// flag, off at 0 and on at any other number. With all fields 0, the settings are the defaults.
+/// How patterns are parsed, which match a search finds, and limits. Each field but `kind` and the two
+/// limits is a flag, off at 0 and on at any other number. With all fields 0, the settings are the
+/// defaults.
 #[repr(C)]
 #[derive(Clone, Copy)]
 pub struct Settings {
@@ -38,6 +40,8 @@ pub struct Settings {
     /// The capacity of the cache of a lazy DFA, in bytes; 0 for 2,097,152. No search result depends
     /// on it.
     pub cache_capacity: usize,
+    /// Patterns are parsed by the full grammar, instead of the stated one.
+    pub full: usize,
 }
 
 impl Settings {
@@ -49,7 +53,13 @@ impl Settings {
     pub fn syntax(&self) -> syntax::Config
         ensures { syntax_of result ≡ syntax_settings self.now }
     {
+        let grammar = if self.full != 0 {
+            Grammar::Full
+        } else {
+            Grammar::Stated
+        };
         syntax::Config::new()
+            .grammar(grammar)
             .case_insensitive(self.case_insensitive != 0)
             .multi_line(self.multi_line != 0)
             .dot_matches_new_line(self.dot_matches_new_line != 0)

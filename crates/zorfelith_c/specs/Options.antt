@@ -28,11 +28,12 @@ settings_in bytes = record {
   kind = byte_in bytes 8;
   size_limit = word_in bytes 16;
   cache_capacity = word_in bytes 24;
+  full = word_in bytes 32;
 }
 
--- each byte behind the 32 that are known is 0
+-- each byte behind the 40 that are known is 0
 abbrev pub is_known : List ℕ → Bool
-is_known bytes = list_all (λ b. b == 0) (drop 32 bytes)
+is_known bytes = list_all (λ b. b == 0) (drop 40 bytes)
 
 abbrev pub IsKnown : List ℕ → Type 0
 IsKnown bytes = is_known bytes ≡ true

@@ -5,7 +5,7 @@ ghost use Rattle.zorfelith_c.specs.Options.{IsKnown, byte_in, is_known, settings
 use searcher::Settings;
 
 /// The number of bytes that are known.
-const SIZE: usize = 32;
+const SIZE: usize = 40;
 
 /// Returns the settings with these bytes, or `None` if a byte behind those that are known isn't 0.
 /// Bytes that are missing are read as 0.
@@ -27,6 +27,7 @@ pub(crate) fn settings_of(bytes: &[u8]) -> Option<Settings>
         kind: byte_at(bytes, 8),
         size_limit: word_at(bytes, 16),
         cache_capacity: word_at(bytes, 24),
+        full: word_at(bytes, 32),
     })
 }
 

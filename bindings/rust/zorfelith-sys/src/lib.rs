@@ -60,6 +60,7 @@ pub struct zf_settings {
     pub kind: u8,
     pub size_limit: usize,
     pub cache_capacity: usize,
+    pub full: usize,
 }
 
 #[repr(C)]

@@ -23,6 +23,7 @@ fn settings_of(word: &str) -> Settings {
         any_bytes: on[6],
         split_characters: on[7],
         kind: on[8],
+        full: on[9].into(),
         ..Settings::default()
     }
 }
