@@ -1,7 +1,7 @@
 //! What is said of texts that are no patterns.
 
 use crate::words::is_text;
-use regex_cursor::syntax::{Config, Explained, explain};
+use regex_cursor::syntax::{Config, Explained, Grammar, explain};
 use std::alloc::{AllocError, Global};
 
 /// Texts, each with what is wrong, and with which bytes.
@@ -139,6 +139,25 @@ x(?<n>a)→patterns nest too deeply 0..6
 (b|(b|→patterns nest too deeply 0..3
 (?<n>)(?<n>)→duplicate group name 9..10";
 
+/// Texts and their faults by the full grammar.
+const FULL: &str = r"a[b→unclosed list 1..2
+[a[b]→unclosed list 0..1
+[[a&&→unclosed list 1..2
+[]→empty list 0..2
+(?xx)a→repeated flag 3..4
+\p{Nope}→unknown property 0..8
+\p{sc=Nope}→unknown value of a property 0..11
+\p{L→unclosed brace 2..3
+(?-u)\pL→a property of characters among bytes 5..8
+[\pL-z]→a class as an end of a range 1..6
+[a[z-a]]→range out of order 3..6
+[a-z&&[\b]]→an assertion in a list 7..9
+(?-u)[a\x{E9}]→a character past ASCII in a list of bytes 7..13
+a{2, }→no counted repetition 1..2
+a{ 3 , 2 }→repetition bounds out of order 1..10
+(?x)(a # )→unclosed group 4..5
+[\w&&[^\d]]→none";
+
 /// What is said of the text: the fault and its bytes, or `none`.
 fn said(alloc: Global, config: &Config, text: &str) -> Result<String, AllocError> {
     let Some(fault) = explain(alloc, text, config)? else {
@@ -177,6 +196,7 @@ fn faults_are_explained(rt: HostRuntime) {
         (plain.line_terminator(200), PAST_ASCII),
         (plain.nest_limit(0), LEVEL_0),
         (plain.nest_limit(1), LEVEL_1),
+        (plain.grammar(Grammar::Full), FULL),
     ] {
         let other = first_other(rt.alloc(), &config, rows);
         assert!(rt; other == Ok(None), "{other:?}");
