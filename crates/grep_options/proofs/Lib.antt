@@ -1,1 +1,2 @@
 mod NearestLemmas
+pub mod WordLemmas

@@ -1,5 +1,6 @@
 //! Command-line faults: what is told of words that give nothing.
 
+use crate::help::put_all;
 use crate::read::{WordsError, nearest};
 use crate::table::{Entry, Program};
 use std::alloc::Global;
@@ -13,12 +14,13 @@ pub fn put_usage<W: Write>(
     fault: &str,
     word: &str,
 ) -> io::Result<()> {
-    let name = program.name;
-    let usage = program.usage;
-    if word.is_empty() {
-        return writeln!(err, "{name}: {fault}\nUsage: {usage}");
+    put_all(err, &[program.name, ": "])?;
+    err.write_all(fault.as_bytes())?;
+    if !word.is_empty() {
+        err.write_all(b" ")?;
+        err.write_all(word.as_bytes())?;
     }
-    writeln!(err, "{name}: {fault} {word}\nUsage: {usage}")
+    put_all(err, &["\nUsage: ", program.usage, "\n"])
 }
 
 /// The long name in a word, without its value, or nothing if the word has letters.
@@ -44,8 +46,10 @@ fn put_unknown<W: Write>(
     word: &str,
 ) -> io::Result<()> {
     if let Some(option) = nearest_to(alloc, options, word) {
-        let name = program.name;
-        writeln!(err, "{name}: the nearest option is --{option}")?;
+        put_all(
+            err,
+            &[program.name, ": the nearest option is --", option, "\n"],
+        )?;
     }
     put_usage(err, program, "no option", word)
 }
@@ -62,9 +66,6 @@ pub fn put_words_fault<W: Write>(
         WordsError::Unknown(word) => put_unknown(alloc, err, program, options, word),
         WordsError::NoValue(word) => put_usage(err, program, "a value is missing behind", word),
         WordsError::Unneeded(word) => put_usage(err, program, "no value belongs to", word),
-        WordsError::Memory => {
-            let name = program.name;
-            writeln!(err, "{name}: out of memory")
-        }
+        WordsError::Memory => put_all(err, &[program.name, ": out of memory\n"]),
     }
 }

@@ -47,6 +47,8 @@ pub struct Options<'w> {
     /// The files whose lines are patterns.
     pub pattern_files: Vec<&'w str>,
     pub is_fixed: bool,
+    /// Whether patterns are read by the stated grammar, not by the full one.
+    pub is_stated: bool,
     pub ignore_case: bool,
     pub smart_case: bool,
     pub fit: Fit,
@@ -139,6 +141,7 @@ impl<'w> Options<'w> {
             patterns: Vec::new(alloc),
             pattern_files: Vec::new(alloc),
             is_fixed: false,
+            is_stated: false,
             ignore_case: false,
             smart_case: false,
             fit: Fit::Any,
@@ -175,6 +178,7 @@ impl<'w> Options<'w> {
     fn set_pattern_option(&mut self, id: Id) -> bool {
         match id {
             Id::FixedStrings => self.is_fixed = true,
+            Id::Stated => self.is_stated = true,
             Id::IgnoreCase => self.ignore_case = true,
             Id::SmartCase => self.smart_case = true,
             Id::WordRegexp => {

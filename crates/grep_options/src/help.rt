@@ -37,18 +37,34 @@ fn width(entry: &Entry) -> usize {
     entry.name.len().saturating_add(value).saturating_add(8)
 }
 
+/// Writes texts, one behind another.
+pub fn put_all<W: Write>(out: &mut W, texts: &[&str]) -> io::Result<()> {
+    for text in texts {
+        out.write_all(text.as_bytes())?;
+    }
+    Ok(())
+}
+
+/// Writes an option's letter between two texts, or nothing if it has none.
+fn put_letter<W: Write>(out: &mut W, entry: &Entry, before: &str, behind: &str) -> io::Result<()> {
+    match entry.letter {
+        Some(letter) => write!(out, "{before}{letter}{behind}"),
+        None => Ok(()),
+    }
+}
+
 /// Writes an option's names and value.
 fn put_names<W: Write>(out: &mut W, entry: &Entry) -> io::Result<()> {
+    put_letter(out, entry, "  -", "")?;
     match (entry.letter, entry.takes) {
-        (Some(letter), Takes::Choice(value)) => write!(out, "  -{letter}[{value}], ")?,
-        (Some(letter), _) => write!(out, "  -{letter}, ")?,
-        (None, _) => out.write_all(b"      ")?,
+        (None, _) => put_all(out, &["      "])?,
+        (_, Takes::Choice(value)) => put_all(out, &["[", value, "], "])?,
+        _ => put_all(out, &[", "])?,
     }
-    let name = entry.name;
     match entry.takes {
-        Takes::Nothing => write!(out, "--{name}"),
-        Takes::Value(value) => write!(out, "--{name} {value}"),
-        Takes::Choice(value) => write!(out, "--{name}[={value}]"),
+        Takes::Nothing => put_all(out, &["--", entry.name]),
+        Takes::Value(value) => put_all(out, &["--", entry.name, " ", value]),
+        Takes::Choice(value) => put_all(out, &["--", entry.name, "[=", value, "]"]),
     }
 }
 
@@ -56,14 +72,12 @@ fn put_names<W: Write>(out: &mut W, entry: &Entry) -> io::Result<()> {
 fn put_option<W: Write>(out: &mut W, entry: &Entry) -> io::Result<()> {
     put_names(out, entry)?;
     put_spaces(out, COLUMN.saturating_sub(width(entry)).max(1))?;
-    let help = entry.help;
-    writeln!(out, "{help}")
+    put_all(out, &[entry.help, "\n"])
 }
 
 /// Writes the options of a section.
 fn put_section<W: Write>(out: &mut W, options: &[Entry], section: Section) -> io::Result<()> {
-    let heading = section.heading();
-    writeln!(out, "\n{heading}:")?;
+    put_all(out, &["\n", section.heading(), ":\n"])?;
     for entry in options {
         if entry.section == section {
             put_option(out, entry)?;
@@ -74,39 +88,48 @@ fn put_section<W: Write>(out: &mut W, options: &[Entry], section: Section) -> io
 
 /// Writes the help.
 pub fn put_help<W: Write>(out: &mut W, program: &Program, options: &[Entry]) -> io::Result<()> {
-    let about = program.about;
-    let usage = program.usage;
-    let notes = program.notes;
-    writeln!(out, "{about}\n\nUsage: {usage}")?;
+    put_all(out, &[program.about, "\n\nUsage: ", program.usage, "\n"])?;
     for section in SECTIONS.iter() {
         if options.iter().any(|entry| entry.section == *section) {
             put_section(out, options, *section)?;
         }
     }
-    writeln!(out, "\n{notes}")
+    put_all(out, &["\n", program.notes, "\n"])
+}
+
+/// Writes an option as an item of a man page.
+fn put_item<W: Write>(out: &mut W, entry: &Entry) -> io::Result<()> {
+    put_letter(out, entry, ".It Fl ", " ")?;
+    match (entry.letter, entry.takes) {
+        (None, _) => put_all(out, &[".It "])?,
+        (_, Takes::Choice(value)) => put_all(out, &["Ns Op Ar ", value, " , "])?,
+        _ => put_all(out, &[", "])?,
+    }
+    let (mark, value) = match entry.takes {
+        Takes::Nothing => ("", ""),
+        Takes::Value(value) => (" Ar ", value),
+        Takes::Choice(value) => (" Ns Op = Ns Ar ", value),
+    };
+    put_all(
+        out,
+        &["Fl -", entry.name, mark, value, "\n", entry.help, "\n"],
+    )
 }
 
 /// Writes the options as items of a man page.
 fn put_manual<W: Write>(out: &mut W, options: &[Entry]) -> io::Result<()> {
     for entry in options {
-        let name = entry.name;
-        match (entry.letter, entry.takes) {
-            (Some(letter), Takes::Choice(value)) => {
-                write!(out, ".It Fl {letter} Ns Op Ar {value} , Fl -{name}")?;
-            }
-            (Some(letter), _) => write!(out, ".It Fl {letter} , Fl -{name}")?,
-            (None, _) => write!(out, ".It Fl -{name}")?,
-        }
-        match entry.takes {
-            Takes::Nothing => writeln!(out)?,
-            Takes::Value(value) => writeln!(out, " Ar {value}")?,
-            Takes::Choice(value) => writeln!(out, " Ns Op = Ns Ar {value}")?,
-        }
-        let help = entry.help;
-        writeln!(out, "{help}")?;
+        put_item(out, entry)?;
     }
     Ok(())
 }
+
+/// The lines of a completion for bash between its name and the words.
+const BASH_BEGIN: &str = "() {
+  local word=${COMP_WORDS[COMP_CWORD]}
+  COMPREPLY=()
+  if [[ $word == -* ]]; then
+    mapfile -t COMPREPLY < <(compgen -W '";
 
 /// The lines of a completion for bash behind the words.
 const BASH_END: &str = "' -- \"$word\")
@@ -119,70 +142,80 @@ const BASH_END: &str = "' -- \"$word\")
 /// Writes the completions for bash.
 fn put_bash<W: Write>(out: &mut W, program: &Program, options: &[Entry]) -> io::Result<()> {
     let command = program.name;
-    writeln!(out, "# Completions of {command} for bash.\n_{command}() {{")?;
-    out.write_all(b"  local word=${COMP_WORDS[COMP_CWORD]}\n  COMPREPLY=()\n")?;
-    out.write_all(b"  if [[ $word == -* ]]; then\n")?;
-    out.write_all(b"    mapfile -t COMPREPLY < <(compgen -W '")?;
+    put_all(
+        out,
+        &[
+            "# Completions of ",
+            command,
+            " for bash.\n_",
+            command,
+            BASH_BEGIN,
+        ],
+    )?;
     for entry in options {
-        let name = entry.name;
-        if let Some(letter) = entry.letter {
-            write!(out, "-{letter} ")?;
-        }
-        write!(out, "--{name} ")?;
+        put_letter(out, entry, "-", " ")?;
+        put_all(out, &["--", entry.name, " "])?;
     }
-    out.write_all(b"--")?;
-    out.write_all(BASH_END.as_bytes())?;
-    writeln!(out, "complete -o filenames -F _{command} {command}")
+    put_all(out, &["--", BASH_END])?;
+    put_all(
+        out,
+        &["complete -o filenames -F _", command, " ", command, "\n"],
+    )
 }
 
 /// Writes an option as arguments of `_arguments`, for zsh.
 fn put_zsh_option<W: Write>(out: &mut W, entry: &Entry) -> io::Result<()> {
-    let name = entry.name;
-    let help = entry.help;
-    if let Some(letter) = entry.letter {
-        match entry.takes {
-            Takes::Value(value) => writeln!(out, "  '*-{letter}+[{help}]:{value}:' \\")?,
-            Takes::Choice(value) => writeln!(out, "  '-{letter}-[{help}]::{value}:' \\")?,
-            Takes::Nothing => writeln!(out, "  '-{letter}[{help}]' \\")?,
-        }
+    let (star, short, long) = match entry.takes {
+        Takes::Nothing => ("", "", ""),
+        Takes::Value(_) => ("*", "+", "="),
+        Takes::Choice(_) => ("", "-", "=-"),
+    };
+    let (before, value, behind) = match entry.takes {
+        Takes::Nothing => ("", "", ""),
+        Takes::Value(value) => (":", value, ":"),
+        Takes::Choice(value) => ("::", value, ":"),
+    };
+    let help = [short, "[", entry.help, "]", before, value, behind, "' \\\n"];
+    if entry.letter.is_some() {
+        put_all(out, &["  '", star])?;
+        put_letter(out, entry, "-", "")?;
+        put_all(out, &help)?;
     }
-    match entry.takes {
-        Takes::Nothing => writeln!(out, "  '--{name}[{help}]' \\"),
-        Takes::Value(value) => writeln!(out, "  '*--{name}=[{help}]:{value}:' \\"),
-        Takes::Choice(value) => writeln!(out, "  '--{name}=-[{help}]::{value}:' \\"),
-    }
+    put_all(out, &["  '", star, "--", entry.name, long])?;
+    put_all(out, &help[1..])
 }
 
 /// Writes the completions for zsh.
 fn put_zsh<W: Write>(out: &mut W, program: &Program, options: &[Entry]) -> io::Result<()> {
     let command = program.name;
-    writeln!(
+    put_all(
         out,
-        "#compdef {command}\n# Completions of {command} for zsh.\n"
+        &[
+            "#compdef ",
+            command,
+            "\n# Completions of ",
+            command,
+            " for zsh.\n\n",
+        ],
     )?;
-    out.write_all(b"_arguments -s -S \\\n")?;
+    put_all(out, &["_arguments -s -S \\\n"])?;
     for entry in options {
         put_zsh_option(out, entry)?;
     }
-    let operands = program.operands;
-    writeln!(out, "  {operands}")
+    put_all(out, &["  ", program.operands, "\n"])
 }
 
 /// Writes the completions for fish.
 fn put_fish<W: Write>(out: &mut W, program: &Program, options: &[Entry]) -> io::Result<()> {
-    let command = program.name;
-    writeln!(out, "# Completions of {command} for fish.")?;
+    put_all(out, &["# Completions of ", program.name, " for fish.\n"])?;
     for entry in options {
-        let name = entry.name;
-        let help = entry.help;
-        write!(out, "complete -c {command} -l {name}")?;
-        if let Some(letter) = entry.letter {
-            write!(out, " -s {letter}")?;
-        }
-        if let Takes::Value(_) = entry.takes {
-            write!(out, " -x")?;
-        }
-        writeln!(out, " -d '{help}'")?;
+        put_all(out, &["complete -c ", program.name, " -l ", entry.name])?;
+        put_letter(out, entry, " -s ", "")?;
+        let file = match entry.takes {
+            Takes::Value(_) => " -x",
+            _ => "",
+        };
+        put_all(out, &[file, " -d '", entry.help, "'\n"])?;
     }
     Ok(())
 }

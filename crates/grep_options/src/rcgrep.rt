@@ -3,7 +3,7 @@
 use crate::table::{Entry, Id, Program, Section, Takes};
 
 /// The options of `rcgrep`.
-pub static OPTIONS: [Entry; 37] = [
+pub static OPTIONS: [Entry; 38] = [
     Entry {
         id: Id::Regexp,
         section: Section::Patterns,
@@ -29,12 +29,20 @@ pub static OPTIONS: [Entry; 37] = [
         help: "Patterns are texts, not expressions.",
     },
     Entry {
+        id: Id::Stated,
+        section: Section::Patterns,
+        letter: None,
+        name: "stated",
+        takes: Takes::Nothing,
+        help: "Patterns are of the stated grammar: it has no classes by property, set or POSIX name.",
+    },
+    Entry {
         id: Id::IgnoreCase,
         section: Section::Patterns,
         letter: Some('i'),
         name: "ignore-case",
         takes: Takes::Nothing,
-        help: "ASCII letters match in either case.",
+        help: "Letters match in either case. With --stated only those of ASCII do.",
     },
     Entry {
         id: Id::SmartCase,
@@ -308,7 +316,8 @@ pub static RCGREP: Program = Program {
     version: "0.1.0",
     usage: "rcgrep [OPTION].. [-e PATTERN].. PATTERN [FILE]..",
     about: "Print the lines of files in which a pattern matches.",
-    notes: "If no file is named, or its name is -, the standard input is read.\n\
+    notes: "In patterns \\d, \\s, \\w and \\b are of Unicode. Behind (?-u) they are of ASCII.\n\
+If no file is named, or its name is -, the standard input is read.\n\
 The status is 0 if a line was selected, 1 if none was, and 2 at a fault.",
     operands: "'(-e -f)1:pattern:' '*:file:_files'",
 };

@@ -1,7 +1,12 @@
 //! Command lines: the options and operands that the words give.
-ghost use Rattle.std.specs.Prelude.{IfOk};
+ghost use Rattle.std.specs.Prelude.{◌≡◌, [], IfOk, MatchResult, chars, map};
 ghost use Rattle.std.specs.Option.{option_map};
+ghost use Rattle.grep_options.specs.Given.{IsWordsError, chosen_of, operands_of, turn_of};
+ghost use Rattle.grep_options.specs.Taken.{HasTaken};
 ghost use Rattle.grep_options.specs.Nearest.{IsNearest, names_of};
+ghost use Rattle.grep_options.specs.Words.{behind_dash, first, has_letter, has_name, letters_say, name_in, name_says, next_says, option_says, some_text, value_in, word_says, words_give};
+ghost use Rattle.grep_options.specs.Words.Outcome.{gives};
+ghost use Rattle.grep_options.specs.Words.Turn.{any};
 
 use crate::table::{Entry, Id, Takes};
 use std::alloc::{AllocError, AllocFailed, Global};
@@ -33,20 +38,31 @@ pub enum WordsError<'w> {
 }
 
 impl<'w, T: Drop> From<AllocFailed<T>> for WordsError<'w> {
+    ghost use Rattle.std.specs.Prelude.{◌≡◌};
+    ghost use Rattle.grep_options.specs.declared.read.WordsError.TheVariants.{Memory};
+
+    ghost from_gives = { λ _ r. r ≡ Memory };
+
     fn from(_: AllocFailed<T>) -> WordsError<'w> {
         WordsError::Memory
     }
 }
 
-/// An option whose value is the next word.
+/// What the next word is.
 #[derive(Clone, Copy)]
-struct Awaiting<'w> {
-    id: Id,
-    word: &'w str,
+enum Next<'w> {
+    /// An option or an operand.
+    Any,
+    /// The value of the option in this word.
+    Value(Id, &'w str),
+    /// An operand, as is each word behind it.
+    Operand,
 }
 
 /// The option with a letter.
-fn by_letter(table: &[Entry], letter: char) -> Option<Entry> {
+fn by_letter(table: &[Entry], letter: char) -> Option<Entry>
+    ensures { result ≡ first (has_letter letter) table.now }
+{
     for entry in table {
         if entry.letter == Some(letter) {
             return Some(*entry);
@@ -56,7 +72,9 @@ fn by_letter(table: &[Entry], letter: char) -> Option<Entry> {
 }
 
 /// The option with a long name.
-fn by_name(table: &[Entry], name: &str) -> Option<Entry> {
+fn by_name(table: &[Entry], name: &str) -> Option<Entry>
+    ensures { result ≡ first (has_name name.now) table.now }
+{
     for entry in table {
         if entry.name == name {
             return Some(*entry);
@@ -65,78 +83,138 @@ fn by_name(table: &[Entry], name: &str) -> Option<Entry> {
     None
 }
 
+/// The text behind a dash, if it begins with one.
+fn behind_dash(text: &str) -> Option<&str>
+    ensures { option_map (λ t. t.now) result ≡ behind_dash text.now }
+{
+    text.strip_prefix('-')
+}
+
+/// The text, unless it is empty.
+fn some_text(text: &str) -> Option<&str>
+    ensures { option_map (λ t. t.now) result ≡ some_text text.now }
+{
+    if text.is_empty() { None } else { Some(text) }
+}
+
+/// A long name, and the value behind `=` if there is one.
+fn name_and_value(text: &str) -> (&str, Option<&str>)
+    ensures name { result.0.now ≡ name_in text.now }
+    ensures value { option_map (λ v. v.now) result.1 ≡ value_in text.now }
+{
+    match text.split_once('=') {
+        Some((name, value)) => (name, Some(value)),
+        None => (text, None),
+    }
+}
+
 impl<'w> Given<'w> {
-    fn new(alloc: Global) -> Given<'w> {
+    fn new(alloc: Global) -> Given<'w>
+        ensures options { chosen_of result ≡ [] }
+        ensures operands { operands_of result ≡ [] }
+    {
         Given {
             options: Vec::new(alloc),
             operands: Vec::new(alloc),
         }
     }
 
-    /// Takes a word that begins with `--`. Returns the option if its value is the next word.
+    /// Takes an option, which stands in this word, and its value if that stands there too.
+    fn take_option(
+        &mut self,
+        entry: Entry,
+        word: &'w str,
+        value: Option<&'w str>,
+    ) -> Result<Next<'w>, WordsError<'w>>
+        ensures { HasTaken self.old self.new word.now result
+            (option_says word.now (option_map (λ v. v.now) value.entry) entry.id entry.takes) }
+    {
+        match (entry.takes, value) {
+            (Takes::Nothing, Some(_)) => return Err(WordsError::Unneeded(word)),
+            (Takes::Value(_), None) => return Ok(Next::Value(entry.id, word)),
+            _ => {}
+        }
+        self.options.push((entry.id, value))?;
+        Ok(Next::Any)
+    }
+
+    /// Takes the text behind two dashes.
     fn take_long(
         &mut self,
         table: &[Entry],
         word: &'w str,
         text: &'w str,
-    ) -> Result<Option<Awaiting<'w>>, WordsError<'w>> {
-        let (name, value) = match text.split_once('=') {
-            Some((name, value)) => (name, Some(value)),
-            None => (text, None),
-        };
-        let Some(entry) = by_name(table, name) else {
-            return Err(WordsError::Unknown(word));
-        };
-        match (entry.takes, value) {
-            (Takes::Nothing, Some(_)) => return Err(WordsError::Unneeded(word)),
-            (Takes::Value(_), None) => return Ok(Some(Awaiting { id: entry.id, word })),
-            _ => {}
+    ) -> Result<Next<'w>, WordsError<'w>>
+        ensures { HasTaken self.old self.new word.now result
+            (name_says table.now word.now text.now) }
+    {
+        let (name, value) = name_and_value(text);
+        match by_name(table, name) {
+            Some(entry) => self.take_option(entry, word, value),
+            None => Err(WordsError::Unknown(word)),
         }
-        self.options.push((entry.id, value))?;
-        Ok(None)
     }
 
-    /// Takes an option whose letter ends a word, or has its value right behind it. Returns the option
-    /// if its value is the next word.
-    fn take_value(
-        &mut self,
-        entry: Entry,
-        word: &'w str,
-        rest: &'w str,
-    ) -> Result<Option<Awaiting<'w>>, WordsError<'w>> {
-        if !rest.is_empty() {
-            self.options.push((entry.id, Some(rest)))?;
-            return Ok(None);
-        }
-        if let Takes::Value(_) = entry.takes {
-            return Ok(Some(Awaiting { id: entry.id, word }));
-        }
-        self.options.push((entry.id, None))?;
-        Ok(None)
-    }
-
-    /// Takes letters, of which the last one may have a value behind it. Returns the option if its
-    /// value is the next word.
+    /// Takes letters, of which the last one may have a value behind it.
     fn take_letters(
         &mut self,
         table: &[Entry],
         word: &'w str,
         text: &'w str,
-    ) -> Result<Option<Awaiting<'w>>, WordsError<'w>> {
+    ) -> Result<Next<'w>, WordsError<'w>>
+        ensures { HasTaken self.old self.new word.now result
+            (letters_say table.now word.now (chars text.now)) }
+    {
         let mut letters = text.chars();
-        for _ in 0..text.len() {
-            let Some(letter) = letters.next() else {
-                break;
-            };
+        while let Some(letter) = letters.next() {
             let Some(entry) = by_letter(table, letter) else {
                 return Err(WordsError::Unknown(word));
             };
-            if entry.takes != Takes::Nothing {
-                return self.take_value(entry, word, letters.as_str());
-            }
+            let Takes::Nothing = entry.takes else {
+                return self.take_option(entry, word, some_text(letters.as_str()));
+            };
             self.options.push((entry.id, None))?;
         }
-        Ok(None)
+        Ok(Next::Any)
+    }
+
+    /// Takes a word that is an option or an operand.
+    fn take_word(&mut self, table: &[Entry], word: &'w str) -> Result<Next<'w>, WordsError<'w>>
+        ensures { HasTaken self.old self.new word.now result (word_says table.now word.now) }
+    {
+        let text = behind_dash(word).unwrap_or("");
+        if text.is_empty() {
+            self.operands.push(word)?;
+            return Ok(Next::Any);
+        }
+        match behind_dash(text) {
+            None => self.take_letters(table, word, text),
+            Some(name) if name.is_empty() => Ok(Next::Operand),
+            Some(name) => self.take_long(table, word, name),
+        }
+    }
+
+    /// Takes the next word.
+    fn take(
+        &mut self,
+        table: &[Entry],
+        next: Next<'w>,
+        word: &'w str,
+    ) -> Result<Next<'w>, WordsError<'w>>
+        ensures { HasTaken self.old self.new word.now result
+            (next_says table.now (turn_of next.entry) word.now) }
+    {
+        match next {
+            Next::Any => self.take_word(table, word),
+            Next::Value(id, _) => {
+                self.options.push((id, Some(word)))?;
+                Ok(Next::Any)
+            }
+            Next::Operand => {
+                self.operands.push(word)?;
+                Ok(Next::Operand)
+            }
+        }
     }
 }
 
@@ -148,30 +226,20 @@ pub fn read_words<'w>(
     alloc: Global,
     table: &[Entry],
     words: &[&'w str],
-) -> Result<Given<'w>, WordsError<'w>> {
+) -> Result<Given<'w>, WordsError<'w>>
+    ensures { MatchResult result
+        (λ g. words_give table.now any (map (λ w. w.now) words.now)
+        ≡ gives (chosen_of g) (operands_of g))
+        (λ e. IsWordsError e (words_give table.now any (map (λ w. w.now) words.now))) }
+{
     let mut given = Given::new(alloc);
-    let mut awaiting: Option<Awaiting<'w>> = None;
-    let mut are_options_over = false;
+    let mut next = Next::Any;
     for word in words {
-        let word: &'w str = *word;
-        if let Some(option) = awaiting {
-            given.options.push((option.id, Some(word)))?;
-            awaiting = None;
-        } else if are_options_over || word == "-" {
-            given.operands.push(word)?;
-        } else if word == "--" {
-            are_options_over = true;
-        } else if let Some(text) = word.strip_prefix("--") {
-            awaiting = given.take_long(table, word, text)?;
-        } else if let Some(text) = word.strip_prefix('-') {
-            awaiting = given.take_letters(table, word, text)?;
-        } else {
-            given.operands.push(word)?;
-        }
+        next = given.take(table, next, word)?;
     }
-    match awaiting {
-        Some(option) => Err(WordsError::NoValue(option.word)),
-        None => Ok(given),
+    match next {
+        Next::Value(_, word) => Err(WordsError::NoValue(word)),
+        _ => Ok(given),
     }
 }
 

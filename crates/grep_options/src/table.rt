@@ -29,6 +29,7 @@ pub enum Id {
     Regexp,
     File,
     FixedStrings,
+    Stated,
     IgnoreCase,
     SmartCase,
     WordRegexp,
@@ -69,7 +70,7 @@ pub enum Id {
 }
 
 /// Whether an option takes a value.
-#[derive(Clone, Copy, PartialEq, Eq)]
+#[derive(Clone, Copy)]
 pub enum Takes {
     /// It takes none.
     Nothing,
