@@ -3,3 +3,4 @@ pub mod Selecting
 pub mod Local
 pub mod Unread
 pub mod Fitted
+pub mod Syntax

@@ -10,9 +10,9 @@ use Rattle.api_meta.specs.Views.{regex_kind, sought}
 use Rattle.api_meta.specs.declared.regex.Regex.{Regex}
 use Rattle.regex_cursor.specs.Output.{whole}
 
--- the settings of a regex for lines: matches may end inside a character
+-- the settings of a regex for lines: matches may end inside a character, and patterns may take 128 MiB
 abbrev pub line_settings : Settings
-line_settings = record unset { utf8_empty = Some false }
+line_settings = record unset { utf8_empty = Some false; nfa_size_limit = Some (Some 134217728) }
 
 -- the regex has a match in the line, as if there was nothing around it
 abbrev pub has_match : Regex → List ℕ → Bool

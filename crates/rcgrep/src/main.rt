@@ -9,7 +9,9 @@ mod texts;
 
 use crate::faults::{report_refusal, report_unread};
 use crate::line_regex::LineRegex;
-use crate::patterns::{MAX_PATTERNS, Patterns, Unread, all_fitted, build, read_patterns};
+use crate::patterns::{
+    MAX_PATTERNS, Patterns, Unread, all_fitted, build, read_patterns, syntax_of,
+};
 use crate::texts::{all_escaped, all_texts, has_newline, have_capital, read_files};
 use grep_options::filter::{Fit, Options, Refusal, When};
 use grep_options::{
@@ -62,7 +64,7 @@ fn patterns_of(rt: &HostRuntime, options: &Options<'_>, files: &[String]) -> Res
         return Err(RCGREP.report(rt, "a pattern has a newline, and no line has one"));
     }
     let folds_case = options.ignore_case || (options.smart_case && !have_capital(&texts));
-    let config = Config::new().case_insensitive(folds_case);
+    let config = syntax_of(options.is_stated, folds_case);
     if !options.is_fixed {
         return build_texts(rt, &texts, &config, options.fit());
     }

@@ -3,6 +3,7 @@ ghost use Rattle.std.specs.Prelude.{◌≡◌, ◌≤◌, All, IfErr, IfOk, IsTr
 ghost use Rattle.rc_text.specs.Limits.{most_patterns};
 ghost use Rattle.rc_pattern.specs.Meaning.{meaning};
 ghost use Rattle.rc_parser.specs.Settings.{settings_of};
+ghost use Rattle.rcgrep.specs.Syntax.{syntax_settings};
 ghost use Rattle.rc_settings.specs.Settings.{nfa_size_limit_of};
 ghost use Rattle.rc_build.specs.Refusals.{IsBuildable, IsRefusal};
 ghost use Rattle.rc_build.specs.TextRefusals.{AllRead, texts_of};
@@ -16,11 +17,14 @@ use grep_options::filter::Fit;
 use rc_pattern::check::properties_of;
 use regex_cursor::engines::meta::{BuildError, Regex};
 use regex_cursor::hir::{Hir, Look};
-use regex_cursor::syntax::{Config, Error, parse};
+use regex_cursor::syntax::{Config, Error, Grammar, parse};
 use std::alloc::{AllocError, AllocFailed, Global};
 
 /// The greatest number of patterns.
 pub const MAX_PATTERNS: usize = 2_147_483_647;
+
+/// The greatest size of the patterns, in bytes. A class of Unicode may take two million.
+const SIZE_LIMIT: usize = 134_217_728;
 
 /// Why texts don't parse as patterns.
 #[derive(Clone, Copy)]
@@ -40,6 +44,18 @@ impl<T: Drop> From<AllocFailed<T>> for Unread {
     fn from(_: AllocFailed<T>) -> Unread {
         Unread::Memory
     }
+}
+
+/// The syntax of the patterns: that of the full grammar, unless the stated one is asked for.
+pub fn syntax_of(is_stated: bool, folds_case: bool) -> Config
+    ensures { settings_of result ≡ syntax_settings is_stated folds_case }
+{
+    let grammar = if is_stated {
+        Grammar::Stated
+    } else {
+        Grammar::Full
+    };
+    Config::new().grammar(grammar).case_insensitive(folds_case)
 }
 
 /// Parses the texts as patterns, in their order. An `Err` is the first text that isn't a pattern, or
@@ -117,7 +133,11 @@ fn build_regex(alloc: Global, hirs: &[Hir]) -> Result<Regex, BuildError>
 {
     let mut builder = Regex::builder();
     builder
-        .configure(Regex::config().utf8_empty(false))
+        .configure(
+            Regex::config()
+                .utf8_empty(false)
+                .nfa_size_limit(Some(SIZE_LIMIT)),
+        )
         .build_many_from_hir(alloc, hirs)
 }
 

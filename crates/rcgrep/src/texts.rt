@@ -66,17 +66,39 @@ pub fn all_escaped(alloc: Global, texts: &[&str]) -> Result<Vec<String>, AllocEr
     Ok(patterns)
 }
 
-/// Whether a pattern has a capital letter. A letter behind a backslash is none.
+/// Where a character of a pattern stands.
+#[derive(Clone, Copy)]
+enum Place {
+    /// In no escape.
+    Plain,
+    /// Behind a backslash.
+    Escaped,
+    /// Behind `\p` or `\P`.
+    Property,
+    /// In the braces of a property.
+    Name,
+}
+
+/// Where the next character stands.
+fn place_behind(place: Place, letter: char) -> Place {
+    match place {
+        Place::Plain if letter == '\\' => Place::Escaped,
+        Place::Escaped if letter == 'p' || letter == 'P' => Place::Property,
+        Place::Property if letter == '{' => Place::Name,
+        Place::Name if letter != '}' => Place::Name,
+        _ => Place::Plain,
+    }
+}
+
+/// Whether a pattern has a capital letter. A letter behind a backslash, or in the name of a property,
+/// is none.
 fn has_capital(text: &str) -> bool {
-    let mut is_escaped = false;
-    for byte in text.bytes() {
-        if is_escaped {
-            is_escaped = false;
-        } else if byte == b'\\' {
-            is_escaped = true;
-        } else if byte.is_ascii_uppercase() {
+    let mut place = Place::Plain;
+    for letter in text.chars() {
+        if let (Place::Plain, true) = (place, letter.is_uppercase()) {
             return true;
         }
+        place = place_behind(place, letter);
     }
     false
 }
