@@ -1,1 +1,2 @@
 mod GlobLemmas
+pub mod WalkLemmas

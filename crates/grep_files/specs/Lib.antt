@@ -1,2 +1,4 @@
 pub mod Globs
 pub mod Marks
+pub mod Walks
+pub mod Entered

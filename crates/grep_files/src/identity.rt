@@ -1,4 +1,6 @@
 //! File identity: whether two open files are the same one.
+ghost use Rattle.std.specs.Prelude.{◌↔◌, IsSome};
+ghost use Rattle.std.specs.Fs.{IsFile, file_type};
 
 use std::fs;
 use std::fs::{File, Metadata};
@@ -18,7 +20,9 @@ pub struct Identity {
 
 impl Identity {
     /// That of a file with this metadata, or `None` if it isn't a regular file.
-    fn of_regular(metadata: &Metadata) -> Option<Identity> {
+    fn of_regular(metadata: &Metadata) -> Option<Identity>
+        ensures { IsSome result ↔ IsFile (file_type metadata.now) }
+    {
         if !metadata.is_file() {
             return None;
         }

@@ -1,9 +1,14 @@
 //! Folder walk: the files that a command line names, and those in folders, in the order of their
 //! names.
+ghost use Rattle.std.specs.Prelude.{◌≡◌, ◌∷◌, ◌↔◌, [], All, IfErr, IfOk, IfSome, IsTrue, MatchOption, MatchResult, false, map, string_bytes};
+ghost use Rattle.grep_files.specs.Walks.{GoesOn, fits_any, IsEntered, IsEntry, IsTaken, ahead, choice_of, is_chosen, seen};
+ghost use Rattle.grep_files.specs.Entered.{ArePaths, HasEntered};
 
 use crate::glob::fits;
 use std::alloc::{AllocError, Global};
-use std::fs::{DirEntry, ReadDir};
+use std::collections::VecDeque;
+use std::fs::{DirEntry, FileType, ReadDir};
+use std::io::ErrorKind;
 use std::{fs, io};
 
 /// Which files of folders are searched.
@@ -39,12 +44,14 @@ pub struct WalkError {
 pub struct Walk<'w> {
     alloc: Global,
     choice: Choice<'w>,
-    /// The files and folders that are left, the next one last.
-    left: Vec<FoundFile>,
+    /// The files and folders that are left, in order.
+    left: VecDeque<FoundFile>,
 }
 
 /// Whether a name fits one of the globs.
-fn fits_any(alloc: Global, globs: &[&str], name: &str) -> Result<bool, AllocError> {
+fn fits_any(alloc: Global, globs: &[&str], name: &str) -> Result<bool, AllocError>
+    ensures { IfOk result (λ b. b ≡ fits_any globs.now name.now) }
+{
     for glob in globs {
         if fits(alloc, glob, name)? {
             return Ok(true);
@@ -54,27 +61,36 @@ fn fits_any(alloc: Global, globs: &[&str], name: &str) -> Result<bool, AllocErro
 }
 
 impl<'w> Choice<'w> {
-    /// Whether a file or a folder of this name, in a folder, is searched.
-    fn takes(&self, alloc: Global, name: &str, is_folder: bool) -> Result<bool, AllocError> {
-        if name.starts_with('.') && !self.hidden {
-            return Ok(false);
-        }
-        if is_folder {
-            return Ok(true);
-        }
+    /// Whether a file of this name, in a folder, is searched by the globs.
+    fn is_chosen(&self, alloc: Global, name: &str) -> Result<bool, AllocError>
+        ensures { IfOk result (λ b. b ≡ is_chosen self.now name.now) }
+    {
         if !self.include.is_empty() && !fits_any(alloc, &self.include, name)? {
             return Ok(false);
         }
         Ok(!fits_any(alloc, &self.exclude, name)?)
     }
 
-    /// The path of an entry of a folder if it is searched.
-    fn path_of(&self, alloc: Global, entry: &DirEntry) -> io::Result<Option<String>> {
-        let kind = entry.file_type()?;
-        if !kind.is_dir() && !kind.is_file() {
-            return Ok(None);
+    /// Whether an entry of a folder, of this kind and name, is searched.
+    fn takes(&self, alloc: Global, kind: FileType, name: &str) -> Result<bool, AllocError>
+        ensures { IfOk result (λ b. IsTrue b ↔ IsTaken self.now kind name.now) }
+    {
+        if name.starts_with('.') && !self.hidden {
+            return Ok(false);
         }
-        if !self.takes(alloc, entry.file_name(), kind.is_dir())? {
+        if kind.is_dir() {
+            return Ok(true);
+        }
+        Ok(kind.is_file() && self.is_chosen(alloc, name)?)
+    }
+
+    /// The path of an entry of a folder if it is searched.
+    fn path_of(&self, alloc: Global, entry: io::Result<DirEntry>) -> io::Result<Option<String>>
+        ensures { IfOk result (λ o. IfSome o (λ p. IsEntry self.now (string_bytes p))) }
+    {
+        let entry = entry?;
+        let kind = entry.file_type()?;
+        if !self.takes(alloc, kind, entry.file_name())? {
             return Ok(None);
         }
         let path = String::from_str(alloc, entry.path().as_str())?;
@@ -87,15 +103,13 @@ impl<'w> Choice<'w> {
         &self,
         alloc: Global,
         entries: ReadDir,
-    ) -> Result<(Vec<String>, Option<io::Error>), AllocError> {
+    ) -> Result<(Vec<String>, Option<io::Error>), AllocError>
+        ensures { IfOk result (λ r. ArePaths self.now r.0.items) }
+    {
         let mut paths = Vec::new(alloc);
         let mut first_fault = None;
         for entry in entries {
-            let path = match entry {
-                Ok(entry) => self.path_of(alloc, &entry),
-                Err(fault) => Err(fault),
-            };
-            match path {
+            match self.path_of(alloc, entry) {
                 Ok(Some(path)) => paths.push(path)?,
                 Ok(None) => {}
                 Err(fault) => {
@@ -113,10 +127,14 @@ impl<'w> Choice<'w> {
 impl<'w> Walk<'w> {
     /// Returns a walk over the files and folders with these names, in their order. An `Err` means
     /// out of memory.
-    pub fn new(alloc: Global, names: &[&str], choice: Choice<'w>) -> Result<Walk<'w>, AllocError> {
-        let mut left = Vec::new(alloc);
-        for name in names.iter().rev() {
-            left.push(FoundFile {
+    pub fn new(alloc: Global, names: &[&str], choice: Choice<'w>) -> Result<Walk<'w>, AllocError>
+        ensures choice { IfOk result (λ w. choice_of w ≡ choice.entry) }
+        ensures names { IfOk result (λ w. map seen (ahead w)
+            ≡ map (λ n. (n.now, false)) names.now) }
+    {
+        let mut left = VecDeque::new(alloc);
+        for name in names {
+            left.push_back(FoundFile {
                 path: String::from_str(alloc, name)?,
                 is_in_folder: false,
             })?;
@@ -130,14 +148,13 @@ impl<'w> Walk<'w> {
 
     /// Takes the entries of a folder for the next files. An `Err` is a fault of the folder, or of an
     /// entry; the others are taken.
-    fn enter(&mut self, rt: &HostRuntime, path: &str) -> io::Result<()> {
+    fn enter(&mut self, rt: &HostRuntime, path: &str) -> io::Result<()>
+        ensures { HasEntered self.old self.new }
+    {
         let entries = fs::read_dir(rt, path)?;
         let (mut paths, fault) = self.choice.paths_in(self.alloc, entries)?;
-        for _ in 0..paths.len() {
-            let Some(path) = paths.pop() else {
-                break;
-            };
-            self.left.push(FoundFile {
+        while let Some(path) = paths.pop() {
+            self.left.push_front(FoundFile {
                 path,
                 is_in_folder: true,
             })?;
@@ -149,7 +166,9 @@ impl<'w> Walk<'w> {
     }
 
     /// Whether this is a folder that is searched.
-    fn is_folder(&self, rt: &HostRuntime, path: &str) -> bool {
+    fn is_folder(&self, rt: &HostRuntime, path: &str) -> bool
+        ensures { IsTrue result → IsEntered (choice_of self.now) path.now }
+    {
         if !self.choice.is_recursive || path == "-" {
             return false;
         }
@@ -161,9 +180,16 @@ impl<'w> Walk<'w> {
 
     /// The next file, or `None` at the end. An `Err` is a folder that can't be read; the walk goes on
     /// behind it.
-    pub fn next_file(&mut self, rt: &HostRuntime) -> Result<Option<FoundFile>, WalkError> {
+    pub fn next_file(&mut self, rt: &HostRuntime) -> Result<Option<FoundFile>, WalkError>
+        ensures choice { choice_of self.new ≡ choice_of self.old }
+        ensures found { MatchResult result
+            (λ o. MatchOption o
+            (GoesOn (choice_of self.old) (ahead self.old) [] × (ahead self.new ≡ []))
+            (λ f. GoesOn (choice_of self.old) (ahead self.old) (f ∷ ahead self.new)))
+            (λ _. GoesOn (choice_of self.old) (ahead self.old) (ahead self.new)) }
+    {
         for _ in 0..u64::MAX {
-            let Some(file) = self.left.pop() else {
+            let Some(file) = self.left.pop_front() else {
                 return Ok(None);
             };
             if !self.is_folder(rt, file.path.as_str()) {
@@ -176,6 +202,9 @@ impl<'w> Walk<'w> {
                 });
             }
         }
-        Ok(None)
+        Err(WalkError {
+            path: String::new(self.alloc),
+            fault: io::Error::from(ErrorKind::Other),
+        })
     }
 }
