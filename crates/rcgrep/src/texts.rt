@@ -90,8 +90,8 @@ fn place_behind(place: Place, letter: char) -> Place {
     }
 }
 
-/// Whether a pattern has a capital letter. A letter behind a backslash, or in the name of a property,
-/// is none.
+/// Whether a pattern has a capital letter. A letter behind a backslash, or in the name of a
+/// property, is none.
 fn has_capital(text: &str) -> bool {
     let mut place = Place::Plain;
     for letter in text.chars() {
