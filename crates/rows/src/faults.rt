@@ -73,6 +73,9 @@ pub enum Fault {
     SplitByTables,
     /// The pieces over a cursor that isn't lent.
     SplitByValue,
+    /// The matches of a stream, and how many come before it ends.
+    Stream,
+    StreamEarly,
     /// Which patterns have a match, by a regex.
     Which,
     WhichUnfiltered,

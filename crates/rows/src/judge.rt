@@ -9,7 +9,7 @@ use crate::faults::{Fault, Verdict};
 use crate::inputs::input;
 use crate::row::{Quits, Row, Want, is_refused};
 use crate::slots::Asker;
-use crate::{parses, searches, which};
+use crate::{parses, searches, streams, which};
 use rc_settings::error::BuildError;
 use rc_text::chunks::ChunkCursor;
 use rc_text::cursor::Cursor;
@@ -124,12 +124,16 @@ fn want_found(asker: &mut Asker, engines: &Engines, row: &mut Row, list: List)
     row.spans = spans.list;
 }
 
-/// The engines answer the row over every cutting of its text, and as the least parse says.
+/// The engines answer the row as the least parse says, and over every cutting of its text. Streams
+/// give all its matches.
 fn over_all_cuttings(asker: &mut Asker, engines: &mut Engines, row: &Row)
     requires { length row.now.patterns.items ≤ most_patterns }
 {
     parses::agree(asker, engines, row);
     over_each_cutting(asker, engines, row);
+    if matches!(row.want, Want::All) {
+        streams::all(asker, engines, row);
+    }
 }
 
 /// The engines answer the row over each cutting of its text.

@@ -2,6 +2,7 @@
 
 use crate::faults::{Fault, Verdict};
 use crate::settings::Settings;
+use rc_parser::Error;
 use rc_settings::error::BuildError;
 use rc_text::types::{Anchored, PatternID};
 use std::alloc::Global;
@@ -70,6 +71,8 @@ pub struct Row<'a> {
     pub quits: Quits,
     /// The least and the greatest number of bytes that may settle the first match.
     pub reach: Option<Pair>,
+    /// How many matches a stream gives before it ends, at least.
+    pub early: usize,
     /// The text, as it stands.
     escaped: &'a str,
     /// How many bytes stand before the text, each `a` where its offset has an even number of binary ones, else `b`.
@@ -107,6 +110,7 @@ impl<'a> Row<'a> {
             members: Vec::new(alloc),
             quits: Quits::Nowhere,
             reach: None,
+            early: 0,
             escaped: "",
             parities: 0,
         }
@@ -143,6 +147,7 @@ impl<'a> Row<'a> {
             }
             "refused" => self.wants(Want::Refused(value), "none", verdict),
             "alike" => self.wants(Want::Alike, "none", verdict),
+            "early" => self.early = number(value, verdict),
             "parities" => self.parities = number(value, verdict),
             _ => self.settings.set(name, value, verdict),
         }
@@ -257,11 +262,24 @@ pub fn is_refused(error: &BuildError, want: Want) -> bool {
         return false;
     };
     match error {
-        BuildError::Syntax { pattern, .. } => is_numbered(text, "syntax ", pattern.as_usize()),
+        BuildError::Syntax { pattern, error } => match text.split_once(" at ") {
+            Some((text, at)) => {
+                is_numbered(text, "syntax ", pattern.as_usize()) && is_at(error, at)
+            }
+            None => is_numbered(text, "syntax ", pattern.as_usize()),
+        },
         BuildError::SizeLimit { limit } => is_numbered(text, "size ", *limit),
         BuildError::PlaceLimit => text == "places",
         BuildError::DfaSizeLimit { limit } => is_numbered(text, "tables ", *limit),
         _ => false,
+    }
+}
+
+/// Whether the parser stopped at this byte.
+fn is_at(error: &Error, text: &str) -> bool {
+    match error {
+        Error::Syntax { at } => is_numbered(text, "", *at),
+        Error::Memory => false,
     }
 }
 

@@ -145,6 +145,7 @@ impl<'a> Settings<'a> {
             "needle" => self.needle = Some(value),
             "capacity" => self.capacity = Some(Capacity::read(value, verdict)),
             "dfa_limit" => self.dfa_limit = Some(number(value, verdict)),
+            "nest" => self.syntax = self.syntax.nest_limit(u32::from(byte(value, verdict))),
             _ => verdict.note(Fault::UnreadSetting),
         }
     }
@@ -156,6 +157,9 @@ impl<'a> Settings<'a> {
             "unicode=no" => self.syntax = self.syntax.unicode(false),
             "nocase=yes" => self.syntax = self.syntax.case_insensitive(true),
             "grammar=full" => self.syntax = self.syntax.grammar(Grammar::Full),
+            "verbose=yes" => self.syntax = self.syntax.ignore_whitespace(true),
+            "octal=yes" => self.syntax = self.syntax.octal(true),
+            "empty_min=yes" => self.syntax = self.syntax.empty_min(true),
             "lines=yes" => self.syntax = self.syntax.multi_line(true),
             "kind=all" => self.kind = MatchKind::All,
             "kind=longest" => self.kind = MatchKind::LeftmostLongest,

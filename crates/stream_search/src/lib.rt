@@ -4,8 +4,6 @@
 pub mod error;
 mod search;
 pub mod stream;
-#[cfg(test)]
-mod tests;
 
 pub use error::FeedError;
 pub use stream::StreamSearcher;

@@ -1,0 +1,77 @@
+//! Streams: the matches of a text that comes in by chunks.
+
+ghost use Rattle.std.specs.Prelude.{◌<◌};
+
+use crate::calls::{Placed, Spans};
+use crate::engines::Engines;
+use crate::faults::Fault;
+use crate::row::Row;
+use crate::slots::Asker;
+use api_meta::finder::Finder;
+use api_meta::regex::Regex;
+use rc_text::types::Anchored;
+use stream_search::error::FeedError;
+use stream_search::stream::StreamSearcher;
+
+/// Streams of the text give the row's matches, by each regex, where it is searched whole: in chunks
+/// of one byte, and of three.
+pub fn all(asker: &mut Asker, engines: &Engines, row: &Row) {
+    if row.slice.is_some() || row.span.is_some() || row.anchored != Anchored::No {
+        return;
+    }
+    for regex in [&engines.regex, &engines.unfiltered, &engines.tabled] {
+        stream(asker, regex, row, 1);
+        stream(asker, regex, row, 3);
+    }
+}
+
+/// A stream of chunks of so many bytes gives the row's matches.
+fn stream(asker: &mut Asker, regex: &Regex, row: &Row, len: usize)
+    requires { 0 < len }
+{
+    match Finder::new(asker.alloc, regex) {
+        Ok(finder) => {
+            let mut searcher = StreamSearcher::new(asker.alloc, finder);
+            let mut spans = Spans::new(asker.alloc);
+            let fed = feed(&mut searcher, row, len, &mut spans);
+            let early = spans.list.len();
+            finish(&mut searcher, row.spans.len(), &mut spans);
+            drop(searcher);
+            asker
+                .verdict
+                .expect(fed.is_ok() && spans.is_whole, Fault::Memory);
+            asker.verdict.expect(spans.list == row.spans, Fault::Stream);
+            asker.verdict.expect(early >= row.early, Fault::StreamEarly);
+        }
+        Err(_) => asker.verdict.note(Fault::Memory),
+    }
+}
+
+/// Feeds the text in chunks of so many bytes, or of a 32nd of it if that is more, and adds up to one
+/// match after each.
+fn feed(
+    searcher: &mut StreamSearcher,
+    row: &Row,
+    len: usize,
+    spans: &mut Spans,
+) -> Result<(), FeedError>
+    requires { 0 < len }
+{
+    for chunk in row.text.chunks(len.max(row.text.len() / 32)) {
+        StreamSearcher::feed(searcher, chunk)?;
+        if let Some(found) = searcher.next_match() {
+            found.put(spans);
+        }
+    }
+    Ok(())
+}
+
+/// Ends the stream, and adds the matches that are left: one more than so many are asked for.
+fn finish(searcher: &mut StreamSearcher, count: usize, spans: &mut Spans) {
+    searcher.finish();
+    for _ in 0..count.saturating_add(1) {
+        if let Some(found) = searcher.next_match() {
+            found.put(spans);
+        }
+    }
+}
