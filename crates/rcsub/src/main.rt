@@ -26,10 +26,16 @@ fn run(rt: &HostRuntime, options: &Options<'_>) -> u8 {
         Ok(hir) => hir,
         Err(status) => return status,
     };
-    match replacer_of(rt, &hir, options.template) {
-        Ok(replacer) => replace_files(rt, &replacer, options),
+    let status = match replacer_of(rt, &hir, options.template) {
+        Ok(replacer) => {
+            let status = replace_files(rt, &replacer, options);
+            drop(replacer);
+            status
+        }
         Err(status) => status,
-    }
+    };
+    drop(hir);
+    status
 }
 
 /// Writes what is asked for in place of replaced text, or reports what is wrong.

@@ -28,9 +28,10 @@ fn build(alloc: Global, hir: &Hir, is_utf8: bool) -> Result<Regex, BuildError>
     ensures settings { IfOk result (λ r. regex_settings r ≡ settings_in is_utf8) }
 {
     let mut builder = Regex::builder();
-    builder
-        .configure(Regex::config().utf8_empty(is_utf8))
-        .build_from_hir(alloc, hir)
+    builder.configure(Regex::config().utf8_empty(is_utf8));
+    let built = builder.build_from_hir(alloc, hir);
+    drop(builder);
+    built
 }
 
 impl<'t> Replacer<'t> {
@@ -41,11 +42,16 @@ impl<'t> Replacer<'t> {
         ensures template { IfOk result (λ r. template_items r.template ≡ template_items template.entry) }
     {
         let over_utf8 = build(alloc, hir, true)?;
-        let over_bytes = build(alloc, hir, false)?;
-        Ok(Replacer {
-            template,
-            over_utf8,
-            over_bytes,
-        })
+        match build(alloc, hir, false) {
+            Ok(over_bytes) => Ok(Replacer {
+                template,
+                over_utf8,
+                over_bytes,
+            }),
+            Err(refusal) => {
+                drop(over_utf8);
+                Err(refusal)
+            }
+        }
     }
 }
