@@ -27,10 +27,22 @@
 //! (a pattern for each line) or `one` (one alternation of all); and `matches` or `which` (the
 //! patterns that have a match). It prints the times and sizes of one build and one search.
 //!
+//! If the first argument is `live`, the next ones are the pattern, a file with the text, the number
+//! of edits, a seed, where the edits are (`near` a caret that moves, or `anywhere`), and maybe
+//! `check` and a kind of match: `first`, `longest` or `all`. An edit deletes up to 40 bytes, and
+//! inserts up to 40 of the file. It prints the number of matches after the edits, the median and
+//! the 99th percentile of the time that an edit of the list takes, and the number of bytes of the
+//! list. With `check` it prints, in place of times and bytes, how many matches differ: after each
+//! edit, the list is compared with that of `Regex::find_iter`. The edits are then smaller, most of
+//! them.
+//!
 //! Without arguments it prints nothing.
 #![tactic(auto)]
 
+mod live;
+mod random;
 mod sets;
+mod typing;
 
 use regex_cursor::Input;
 use regex_cursor::cursor::{ChunkCursor, TooLong};
@@ -471,6 +483,9 @@ fn run_with(rt: &HostRuntime, words: &[&str]) -> u8 {
     }
     if words[0] == sets::WORD {
         return sets::run_with(rt, &words[1..]);
+    }
+    if words[0] == live::WORD {
+        return live::run_with(rt, &words[1..]);
     }
     let Some(job) = job_of(words) else {
         let _ = writeln!(rt.stderr(), "{USAGE}");

@@ -1,6 +1,6 @@
 use Rattle.std.proofs.Common.{subst, sym}
 use Rattle.live_matches.specs.Live.{IsEdited}
-use Rattle.bench_live.proofs.typing.keep.Goals as goal
+use Rattle.bench_find.proofs.typing.keep.Goals as goal
 
 -- the list was that of the text before the change
 pub edit_within-requires-clause-was : goal.edit_within-requires-clause-was

@@ -1,25 +1,11 @@
 //! Benchmark of live matches: edits a text at random, keeps the list of its matches, and times what
 //! the list takes.
-//!
-//! The arguments are the pattern, a file with the text, the number of edits, a seed, where the
-//! edits are (`near` a caret that moves, or `anywhere`), and maybe `check` and a kind of match:
-//! `first`, `longest` or `all`. An edit deletes up to 40 bytes, and inserts up to 40 of the file.
-//!
-//! It prints the number of matches after the edits, the median and the 99th percentile of the time
-//! that an edit of the list takes, and the number of bytes of the list. With `check` it prints, in
-//! place of times and bytes, how many matches differ: after each edit, the list is compared with
-//! that of `Regex::find_iter`. The edits are then smaller, most of them.
-//!
-//! Without arguments it prints nothing.
-#![tactic(auto)]
 
 ghost use Rattle.std.specs.Prelude.{IfOk, IfSome};
 ghost use Rattle.live_matches.specs.Live.{IsCacheOf};
 ghost use Rattle.live_matches.specs.Quiet.{IsLongest};
 
-mod random;
-mod typing;
-
+use crate::FAULT;
 use crate::random::Random;
 use crate::typing::{MOST, change_of, differences, keep, whole_of};
 use gap_buffer::GapBuffer;
@@ -29,14 +15,13 @@ use regex_cursor::syntax;
 use regex_cursor::types::MatchKind;
 use std::alloc::{AllocError, AllocFailed, Global};
 use std::io::Write;
-use std::process::ExitCode;
 use std::{fs, io};
 
-/// The status of an error.
-const FAULT: u8 = 2;
+/// The word before the arguments of this benchmark.
+pub const WORD: &str = "live";
 
 const USAGE: &str =
-    "usage: bench_live PATTERN FILE EDITS SEED near|anywhere [check [first|longest|all]]";
+    "usage: bench_find live PATTERN FILE EDITS SEED near|anywhere [check [first|longest|all]]";
 
 /// What the arguments ask for.
 #[derive(Drop)]
@@ -72,7 +57,7 @@ struct Tally {
 
 /// Why the benchmark failed.
 #[derive(Drop)]
-pub(crate) enum BenchError {
+pub(crate) enum LiveError {
     /// The pattern doesn't parse.
     Syntax(syntax::Error),
     /// The pattern couldn't be built.
@@ -83,33 +68,33 @@ pub(crate) enum BenchError {
     Io(io::Error),
 }
 
-impl From<AllocError> for BenchError {
-    fn from(_: AllocError) -> BenchError {
-        BenchError::Memory
+impl From<AllocError> for LiveError {
+    fn from(_: AllocError) -> LiveError {
+        LiveError::Memory
     }
 }
 
-impl<T: Drop> From<AllocFailed<T>> for BenchError {
-    fn from(_: AllocFailed<T>) -> BenchError {
-        BenchError::Memory
+impl<T: Drop> From<AllocFailed<T>> for LiveError {
+    fn from(_: AllocFailed<T>) -> LiveError {
+        LiveError::Memory
     }
 }
 
-impl From<syntax::Error> for BenchError {
-    fn from(error: syntax::Error) -> BenchError {
-        BenchError::Syntax(error)
+impl From<syntax::Error> for LiveError {
+    fn from(error: syntax::Error) -> LiveError {
+        LiveError::Syntax(error)
     }
 }
 
-impl From<BuildError> for BenchError {
-    fn from(error: BuildError) -> BenchError {
-        BenchError::Build(error)
+impl From<BuildError> for LiveError {
+    fn from(error: BuildError) -> LiveError {
+        LiveError::Build(error)
     }
 }
 
-impl From<io::Error> for BenchError {
-    fn from(error: io::Error) -> BenchError {
-        BenchError::Io(error)
+impl From<io::Error> for LiveError {
+    fn from(error: io::Error) -> LiveError {
+        LiveError::Io(error)
     }
 }
 
@@ -153,14 +138,17 @@ fn kind_of(word: Option<&&str>) -> Option<MatchKind> {
 }
 
 /// Builds the pattern.
-fn pattern_of(alloc: Global, text: &str, kind: MatchKind) -> Result<Pattern, BenchError>
+fn pattern_of(alloc: Global, text: &str, kind: MatchKind) -> Result<Pattern, LiveError>
     ensures { IfOk result (λ p. IfSome p.longest (IsLongest p.regex)) }
 {
     let hir = syntax::parse(alloc, text, &syntax::Config::new())?;
     let longest = longest_of(std::slice::from_ref(&hir));
     let mut builder = Regex::builder();
     builder.configure(Regex::config().match_kind(kind));
-    let regex = builder.build_from_hir(alloc, &hir)?;
+    let built = builder.build_from_hir(alloc, &hir);
+    drop(builder);
+    drop(hir);
+    let regex = built?;
     Ok(Pattern { regex, longest })
 }
 
@@ -171,7 +159,7 @@ fn run_edits(
     cache: &mut Cache,
     job: &Job<'_>,
     source: &[u8],
-) -> Result<Tally, BenchError>
+) -> Result<Tally, LiveError>
     requires made { IsCacheOf pattern.now.regex cache.old }
     requires longest { IfSome pattern.now.longest (IsLongest pattern.now.regex) }
 {
@@ -214,7 +202,7 @@ fn time_at(times: &[u128], index: usize) -> u128 {
 }
 
 /// Writes what the edits took.
-fn put(rt: &HostRuntime, job: &Job<'_>, tally: &mut Tally) -> Result<(), BenchError> {
+fn put(rt: &HostRuntime, job: &Job<'_>, tally: &mut Tally) -> Result<(), LiveError> {
     let matches = tally.matches;
     writeln!(rt.stdout(), "{matches} matches")?;
     if job.is_checked {
@@ -235,21 +223,20 @@ fn put(rt: &HostRuntime, job: &Job<'_>, tally: &mut Tally) -> Result<(), BenchEr
 }
 
 /// Reads the text, edits it, and writes what that took.
-fn bench(rt: &HostRuntime, pattern: &Pattern, job: &Job<'_>) -> Result<(), BenchError>
+fn bench(rt: &HostRuntime, pattern: &Pattern, job: &Job<'_>) -> Result<(), LiveError>
     requires longest { IfSome pattern.now.longest (IsLongest pattern.now.regex) }
 {
     let source = fs::read(rt, job.file)?;
     let regex = &pattern.regex;
     let mut cache = regex.create_cache(rt.alloc())?;
-    let mut tally = run_edits(rt, pattern, &mut cache, job, &source)?;
+    let done = run_edits(rt, pattern, &mut cache, job, &source);
+    drop(cache);
+    let mut tally = done?;
     put(rt, job, &mut tally)
 }
 
-/// Does what the arguments ask for, which is nothing if there are none.
-fn run_with(rt: &HostRuntime, words: &[&str]) -> u8 {
-    if words.is_empty() {
-        return 0;
-    }
+/// Does what the arguments ask for.
+pub fn run_with(rt: &HostRuntime, words: &[&str]) -> u8 {
     let Some(job) = job_of(words) else {
         let _ = writeln!(rt.stderr(), "{USAGE}");
         return FAULT;
@@ -268,26 +255,12 @@ fn run_with(rt: &HostRuntime, words: &[&str]) -> u8 {
 }
 
 /// Writes the line of an error. An error of the standard error is ignored.
-fn report(rt: &HostRuntime, error: &BenchError) -> u8 {
+fn report(rt: &HostRuntime, error: &LiveError) -> u8 {
     let _ = match error {
-        BenchError::Syntax(error) => writeln!(rt.stderr(), "{error}"),
-        BenchError::Build(error) => writeln!(rt.stderr(), "{error}"),
-        BenchError::Memory => writeln!(rt.stderr(), "out of memory"),
-        BenchError::Io(error) => writeln!(rt.stderr(), "{error}"),
+        LiveError::Syntax(error) => writeln!(rt.stderr(), "{error}"),
+        LiveError::Build(error) => writeln!(rt.stderr(), "{error}"),
+        LiveError::Memory => writeln!(rt.stderr(), "out of memory"),
+        LiveError::Io(error) => writeln!(rt.stderr(), "{error}"),
     };
     FAULT
-}
-
-/// Reads the arguments, and does what they ask for.
-fn run(rt: &HostRuntime) -> Result<u8, BenchError> {
-    let words: Vec<String> = std::env::args(rt)?.skip(1).collect(rt.alloc())?;
-    let words: Vec<&str> = words.iter().map(|word| word.as_str()).collect(rt.alloc())?;
-    Ok(run_with(rt, &words))
-}
-
-fn main(rt: HostRuntime) -> ExitCode {
-    ExitCode::from(match run(&rt) {
-        Ok(status) => status,
-        Err(error) => report(&rt, &error),
-    })
 }

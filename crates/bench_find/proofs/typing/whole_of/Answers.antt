@@ -1,7 +1,7 @@
 use Rattle.std.proofs.Common.{length, sym, ap, ◌∙◌}
 use Rattle.rc_text.specs.Text.{end_by_total}
-use Rattle.bench_live.proofs.Whole.{whole_input}
-use Rattle.bench_live.proofs.typing.whole_of.Goals as goal
+use Rattle.bench_find.proofs.Whole.{whole_input}
+use Rattle.bench_find.proofs.typing.whole_of.Goals as goal
 
 pub returns-clause-whole : goal.returns-clause-whole
 returns-clause-whole c =

@@ -1,5 +1,5 @@
 use Rattle.live_matches.specs.Live.{IsCacheOf, IsLive}
-use Rattle.bench_live.proofs.run_edits.Given as goal
+use Rattle.bench_find.proofs.live.run_edits.Given as goal
 
 -- the list is that of the text
 abbrev pub invariant-edits : goal.invariant-edits

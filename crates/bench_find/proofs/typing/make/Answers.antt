@@ -1,8 +1,8 @@
 use Rattle.std.proofs.Common.{◌≡◌, ◌+◌, ◌≤◌, ◌++◌, min, length, drop, take, ap, sym, subst, ◌∙◌, arith}
 use Rattle.gap_buffer.specs.Edits.{Edited}
 use Rattle.live_matches.specs.Live.{IsEdited}
-use Rattle.bench_live.proofs.Replaced.{is_edited, put}
-use Rattle.bench_live.proofs.typing.make.Goals as goal
+use Rattle.bench_find.proofs.Replaced.{is_edited, put}
+use Rattle.bench_find.proofs.typing.make.Goals as goal
 
 pub returns : goal.returns
 returns c =

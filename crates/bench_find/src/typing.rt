@@ -3,8 +3,8 @@ ghost use Rattle.std.specs.Prelude.{◌≡◌, IfOk, IfSome};
 ghost use Rattle.live_matches.specs.Live.{IsCacheOf, IsEdited, IsLive, IsWhole};
 ghost use Rattle.live_matches.specs.Quiet.{IsLongest};
 
+use crate::live::{LiveError, Pattern};
 use crate::random::Random;
-use crate::{BenchError, Pattern};
 use gap_buffer::{GapBuffer, GapCursor};
 use live_matches::{Edit, LiveMatches};
 use regex_cursor::Input;
@@ -87,7 +87,7 @@ pub(crate) fn keep(
     text: &mut GapBuffer,
     live: &mut LiveMatches,
     change: &Change<'_>,
-) -> Result<Duration, BenchError>
+) -> Result<Duration, LiveError>
     requires made { IsCacheOf pattern.now.regex cache.old }
     requires longest { IfSome pattern.now.longest (IsLongest pattern.now.regex) }
     requires live { IsLive pattern.now.regex text.old.content live.old }
