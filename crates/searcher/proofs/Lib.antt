@@ -4,4 +4,5 @@ pub mod Lasts
 pub mod Limited
 pub mod Lives
 pub mod Marked
+pub mod Partials
 pub mod Texts

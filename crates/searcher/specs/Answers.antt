@@ -7,9 +7,12 @@ use Rattle.rc_text.specs.declared.types.MatchKind.{MatchKind}
 use Rattle.rc_program.specs.Answer.{Search}
 use Rattle.rc_program.specs.Kinds.{answer_by, matches_by_kind}
 use Rattle.rc_program.specs.Sought.{search_for}
+use Rattle.rc_reach.specs.Partial.{IsPartial, final, from_place}
 use Rattle.rc_build.specs.Refusals.{IsBuildable}
 use Rattle.rc_build.specs.TextRefusals.{AllRead, IsTextRefusal, texts_of}
 use Rattle.api_meta.specs.Views.{regex_kind, regex_patterns, regex_settings, sought}
+use Rattle.api_meta.specs.declared.partial.Partial.{Partial}
+use Rattle.api_meta.specs.declared.partial.Partial.TheVariants.{Final, From}
 use Rattle.api_meta.specs.declared.regex.Regex.{Regex}
 use Rattle.searcher.specs.Flags.{kind_of, search_settings, size_limit_in, syntax_settings}
 use Rattle.searcher.specs.Ranges.{AreTexts, IsBroken, at_start, in_range}
@@ -41,6 +44,12 @@ matches_in r text start end = matches_by_kind (regex_kind r) (search_in r text s
 -- the matches of the text, up to `end`, that are left to the iteration
 abbrev pub left_in : Searching → List ℕ → ℕ → List Found
 left_in s text end = matches_by_kind (regex_kind s.regex) (search_in s.regex text s.from end) s.from s.last
+
+-- The partial answer is true of the search from `start` on of each text that goes on from this one. A place to go on from is one of the text.
+abbrev pub IsPartialIn : Regex → List ℕ → ℕ → Partial → Type 0
+IsPartialIn r text start (Final m) = IsPartial (regex_kind r) (search_in r text start 18446744073709551615) (final m)
+IsPartialIn r text start (From k) =
+    IsPartial (regex_kind r) (search_in r text start 18446744073709551615) (from_place k) × (start ≤ k) × (k ≤ length text)
 
 -- the same regex, the same state of the iteration, and the same list
 pub record IsSame (s t : Searching) : Type 0 where

@@ -15,6 +15,7 @@ use crate::batch;
 use crate::parts::Parts;
 use crate::settings::Settings;
 use api_meta::cache::Cache;
+use api_meta::partial::Partial;
 use api_meta::regex::Regex;
 use live_matches::LiveMatches;
 use rc_captures::captures::Captures;
@@ -94,7 +95,7 @@ impl Searcher {
     ghost use Rattle.rc_pikevm_search.specs.Tells.{KeepsAll, TellsBy};
     ghost use Rattle.api_meta.specs.Views.{regex_kind, regex_names};
     ghost use Rattle.rc_text.specs.Joined.{joined};
-    ghost use Rattle.searcher.specs.Answers.{IsBuilt, IsRefused, IsSame, IsShare, answer_at, answer_in, left_in, matches_in, search_in};
+    ghost use Rattle.searcher.specs.Answers.{IsBuilt, IsPartialIn, IsRefused, IsSame, IsShare, answer_at, answer_in, left_in, matches_in, search_in};
     ghost use Rattle.searcher.specs.Last.{last_before};
     ghost use Rattle.searcher.specs.Places.{AreMarks, IsFilled};
     ghost use Rattle.searcher.specs.Ranges.{IsFault, IsServed};
@@ -241,6 +242,21 @@ impl Searcher {
     {
         let mut input = input_over(chunks, start, end)?;
         Ok(batch::last_before(&self.regex, &mut self.cache, &mut input, place))
+    }
+
+    /// Returns what the text from `start` on tells of a search, if more bytes may follow it. A final
+    /// match is the one of each text that goes on from this one. Else no match of such a text begins
+    /// before the place that is returned, and its search may go on from there. The place is `start`
+    /// or behind it, and not behind the end of the text.
+    pub fn find_partial(&mut self, chunks: &[&[u8]], start: usize) -> Result<Partial, Fault>
+        ensures told { IfOk result (IsPartialIn self.old.regex (joined chunks.now) start) }
+        ensures served { OnOk result (IsServed chunks.now start 18446744073709551615) }
+        ensures fault { IfErr result (IsFault chunks.now start 18446744073709551615) }
+        ensures kept { self.new ≡ self.old }
+    {
+        let mut input = input_over(chunks, start, usize::MAX)?;
+        let answer = self.regex.search_partial_with(&mut self.cache, &mut input);
+        Ok(answer)
     }
 
     /// Marks which patterns have a match in the text from `start` to `end`: the mark at the number
