@@ -35,8 +35,8 @@ extern "C" {
  * returned exactly if the handle is empty. A full handle stays full, whatever the status is, but for zf_compile, zf_free and the second of zf_share. Each other status
  * is returned exactly if it applies; if two do, the call says which, and ZF_OUTSIDE comes before ZF_TOO_LONG. */
 enum {
-    ZF_DONE = 0,      /* It is done. Of a search: there is no match. */
-    ZF_FOUND = 1,     /* There is a match. */
+    ZF_DONE = 0,      /* It is done. Of a search: there is no match; of zf_find_partial: none is final. */
+    ZF_FOUND = 1,     /* There is a match; of zf_find_partial: a final one. */
     ZF_EMPTY = 2,     /* The handle is empty. */
     ZF_TOO_LONG = 3,  /* The chunks hold SIZE_MAX bytes, or more. */
     ZF_OUTSIDE = 4,   /* The range begins behind its end, or behind the text's; or an edit lies outside of a list's text. */
@@ -220,6 +220,15 @@ uint32_t zf_match_at(struct zf_handle *handle, const struct zf_bytes *chunks, si
  * stays as it was. */
 uint32_t zf_find_last(struct zf_handle *handle, const struct zf_bytes *chunks, size_t chunk_count, size_t start, size_t end, size_t place,
                       struct zf_match *found);
+
+/* What the beginning of a text tells of a search from `start` on, where more bytes may follow the chunks. ZF_FOUND: `found` is the match of
+ * each text that goes on from them; some are told only once a few bytes more than their own are there. The next is then sought as zf_next
+ * seeks it. ZF_DONE: no match of such a text begins before `*from`, so once more of it is there, search from that place on. It is `start` or
+ * behind it, and not behind the end of the chunks. A caller may let go the bytes that are more than four before it, and then counts places
+ * without them. What the status doesn't name stays as it was. Once nothing follows, zf_find has the answer. ZF_FOUND or ZF_DONE; or
+ * ZF_EMPTY, ZF_TOO_LONG, ZF_OUTSIDE (`start` is behind the end of the chunks). The iteration stays as it was. */
+uint32_t zf_find_partial(struct zf_handle *handle, const struct zf_bytes *chunks, size_t chunk_count, size_t start, struct zf_match *found,
+                         size_t *from);
 
 /* The match of zf_find with its groups, and `found` as there. With ZF_FOUND and with ZF_DONE each of the `group_count` places is written: groups[i]
  * is group i of the pattern that matched, groups[0] the whole match; a group that took no part, or that the pattern doesn't have, is ZF_NONE,

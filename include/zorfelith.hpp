@@ -266,6 +266,15 @@ class regex {
         return found;
     }
 
+    // What the beginning of a text tells of a search from `start` on: the match of each text that goes on from it; or none, and no match of such a
+    // text begins before `from`, which is then set.
+    std::optional<match> find_partial(text in, std::size_t start, std::size_t &from) {
+        match found{};
+        if (!told(zf_find_partial(&handle_, first(in), in.size(), start, &found, &from)))
+            return std::nullopt;
+        return found;
+    }
+
     // The whole text with each match replaced by a template: in it `${1}` and `${name}` are the bytes of a group, and `$$` is a `$`. A fault in
     // the template is thrown with ZF_SYNTAX; `at` is a byte of the template.
     std::string replace(text in, std::string_view by) {

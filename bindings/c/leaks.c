@@ -162,6 +162,14 @@ static void call_find_last(struct zf_handle *handle) {
     wanted("behind the end", zf_find_last(handle, text, 2, 3, 2, 9, &found), ZF_OUTSIDE);
 }
 
+static void call_find_partial(struct zf_handle *handle) {
+    struct zf_match found;
+    size_t from;
+    wanted("a final match", zf_find_partial(handle, text, 2, 0, &found, &from), ZF_FOUND);
+    wanted("no final match", zf_find_partial(handle, text, 1, 0, &found, &from), ZF_DONE);
+    wanted("behind the text", zf_find_partial(handle, text, 2, 99, &found, &from), ZF_OUTSIDE);
+}
+
 static void call_replace(struct zf_handle *handle) {
     struct zf_replaced replaced;
     uint8_t place[8];
@@ -279,6 +287,7 @@ static const struct {
     {"zf_escape", call_escape},
     {"zf_match_at", call_match_at},
     {"zf_find_last", call_find_last},
+    {"zf_find_partial", call_find_partial},
     {"zf_replace", call_replace},
     {"zf_memory_parts", call_memory_parts},
     {"zf_share", call_share},

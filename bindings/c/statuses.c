@@ -122,6 +122,23 @@ static void places(struct zf_handle *handle) {
     told("a template that isn't UTF-8", zf_replace(handle, text, 2, (const uint8_t *)"\xff", 1, place, sizeof place, &replaced));
 }
 
+/* What the beginning of a text tells. */
+static void partials(struct zf_handle *handle) {
+    const struct zf_bytes text[2] = {{(const uint8_t *)"xa", 2}, {(const uint8_t *)"a", 1}};
+    const struct zf_bytes other[2] = {{(const uint8_t *)"xa", 2}, {(const uint8_t *)"b, then", 7}};
+    struct zf_match found = {7, 7, 7};
+    size_t from = 7;
+    told("partial of an empty handle", zf_find_partial(handle, text, 2, 0, &found, &from));
+    refused("of what may go on", handle, bytes_of("a+"), ZF_LEFTMOST_FIRST);
+    told("no final match", zf_find_partial(handle, text, 2, 0, &found, &from));
+    printf("  %zu..%zu, from %zu\n", found.start, found.end, from);
+    told("a start behind the chunks", zf_find_partial(handle, text, 2, 4, &found, &from));
+    from = 7;
+    refused("of what may not", handle, bytes_of("ab"), ZF_LEFTMOST_FIRST);
+    told("a final match", zf_find_partial(handle, other, 2, 0, &found, &from));
+    printf("  %zu..%zu, from %zu\n", found.start, found.end, from);
+}
+
 /* What one pattern finds of each kind. */
 static void kinds(struct zf_handle *handle) {
     const struct zf_bytes text[2] = {{(const uint8_t *)"xa", 2}, {(const uint8_t *)"b ab", 4}};
@@ -167,6 +184,7 @@ int main(void) {
     zf_free(&handle);
     zf_free(&handle);
     told("freed", zf_restart(&handle, 0, 0));
+    partials(&handle);
     kinds(&handle);
     refused("of the kind without groups", &handle, bytes_of("a"), ZF_ALL);
     told("replaced", zf_replace(&handle, (const struct zf_bytes[1]){zf_bytes_of(NULL, 0)}, 1, zf_none, 0, (uint8_t[1]){0}, 1, &(struct zf_replaced){0}));

@@ -82,11 +82,13 @@ static void many() {
     std::printf("%zu matches, the last up to %zu\n", count, end);
 }
 
-// One match at a place, the last before one, all replaced, and what is of patterns alone.
+// One match at a place, the last before one, a final one, all replaced, and what is of patterns alone.
 static void places(zorfelith::text text) {
     zorfelith::regex regex(R"((\d{4})-(\d{2})-\d{2})");
     std::printf("at 4: %s, at 5: %s\n", regex.match_at(text, {4}) ? "yes" : "no", regex.match_at(text, {5}) ? "yes" : "no");
     std::printf("before 21: %zu\n", regex.find_last(text, 21)->start);
+    std::size_t from = 0;
+    std::printf("final: %zu\n", regex.find_partial(text, from, from)->end);
     std::printf("%s\n", regex.replace(text, "${2}/${1}").c_str());
     const auto fault = zorfelith::explain("a(b");
     std::printf("%zu..%zu: %s\n", fault->where.start, fault->where.end, fault->words.c_str());

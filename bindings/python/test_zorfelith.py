@@ -181,6 +181,11 @@ class Places(unittest.TestCase):
         self.assertEqual([dates.last(text, place) and dates.last(text, place).span() for place in (4, 5, 18, 19)],
                          [None, (4, 11), (4, 11), (18, 25)])
 
+    def test_partial(self):
+        dates, text = zorfelith.compile(r"\d{4}-\d\d"), [b"due 20", b"26-11, paid 2027"]
+        self.assertEqual(dates.partial(text).span(), (4, 11))
+        self.assertEqual(dates.partial(text, 11), 18)
+
     def test_replace(self):
         dates = zorfelith.compile(r"(?P<y>\d+)-(\d+)")
         self.assertEqual(dates.replace("${2}/${y}$$", [b"on 2026-", b"11"]), (b"on 11/2026$", 1))

@@ -122,6 +122,7 @@ def _loaded():
         "zf_find": [handle, *text, _size, _size, match],
         "zf_match_at": [handle, *text, _size, _size, match],
         "zf_find_last": [handle, *text, _size, _size, _size, match],
+        "zf_find_partial": [handle, *text, _size, match, at],
         "zf_replace": [handle, *text, *chars, *chars, ctypes.POINTER(_Replaced)],
         "zf_find_groups": [handle, *text, _size, _size, match, ctypes.POINTER(_Group), _size],
         "zf_which_patterns": [handle, *text, _size, _size, ctypes.POINTER(ctypes.c_uint8), _size],
@@ -407,6 +408,14 @@ class Pattern:
         handle, text, found = self._own(), _Text(text), _Match()
         if not _told(_zf.zf_find_last(handle, text.array, text.count, start, _NONE if end is None else end, place, found)):
             return None
+        return Match(self, text, found.pattern, found.start, found.end)
+
+    def partial(self, text, start=0):
+        """What the beginning of a text tells of a search from start on: the Match of each text that goes on from it; or else a place, an int,
+        before which no match of such a text begins."""
+        handle, text, found, at = self._own(), _Text(text), _Match(), _size()
+        if not _told(_zf.zf_find_partial(handle, text.array, text.count, start, found, at)):
+            return at.value
         return Match(self, text, found.pattern, found.start, found.end)
 
     def replace(self, template, text):

@@ -1,12 +1,13 @@
--- What a search's status tells: 0, there is no match, or a batch is filled; 1, there is one; 3, the chunks are too long; 4, the range is
--- outside of the text. No other comes where the handle is full. Each comes exactly if that is so, and 4 if both 3 and 4 might.
+-- What a search's status tells: 0, there is no match, or none is final, or a batch is filled; 1, there is one; 3, the chunks are too long; 4,
+-- the range is outside of the text. No other comes where the handle is full. Each comes exactly if that is so, and 4 if both 3 and 4 might.
 use Rattle.std.specs.Prelude.{◌≡◌, ℕ, zero, suc, List, length, Option, Some, None, is_some, true, MatchOption}
 use Rattle.std.specs.Borrow.{Bor}
 use Rattle.rc_text.specs.Joined.{joined}
 use Rattle.rc_pikevm_search.specs.Tells.{KeepsAll, TellsBy}
 use Rattle.api_meta.specs.Views.{regex_kind, regex_names, regex_patterns}
+use Rattle.api_meta.specs.declared.partial.Partial.TheVariants.{Final, From}
 use Rattle.api_meta.specs.declared.regex.Regex.{Regex}
-use Rattle.searcher.specs.Answers.{IsSame, answer_at, answer_in, left_in, matches_in, search_in}
+use Rattle.searcher.specs.Answers.{IsPartialIn, IsSame, answer_at, answer_in, left_in, matches_in, search_in}
 use Rattle.searcher.specs.Last.{last_before}
 use Rattle.searcher.specs.Places.{AreGroups, AreMarks, IsFilled, found_at}
 use Rattle.searcher.specs.Ranges.{IsFault, IsServed}
@@ -45,6 +46,12 @@ abbrev pub TellsLast : Regex → List (Bor (List ℕ)) → ℕ → ℕ → ℕ �
 TellsLast r chunks start end place status m =
     TellsOf (last_before place (matches_in r (joined chunks) start end) ≡ None)
     (last_before place (matches_in r (joined chunks) start end) ≡ Some (found_at m)) chunks start end status
+
+-- what the text from `start` on tells, if more bytes may follow it: 1, a final match; 0, a place to go on from
+abbrev pub TellsPartial : Regex → List (Bor (List ℕ)) → ℕ → ℕ → MatchAt → ℕ → Type 0
+TellsPartial r chunks start status m from =
+    TellsOf (IsPartialIn r (joined chunks) start (From from)) (IsPartialIn r (joined chunks) start (Final (found_at m)))
+    chunks start 18446744073709551615 status
 
 -- which patterns have a match in the text
 abbrev pub TellsMarks : Regex → List (Bor (List ℕ)) → ℕ → ℕ → ℕ → List ℕ → Type 0

@@ -2,11 +2,12 @@
 ghost use Rattle.std.specs.Prelude.{◌≡◌, ◌≢◌, MatchOption, None, Some, if◌then◌else◌, option_map};
 ghost use Rattle.searcher.specs.Flags.{is_on};
 ghost use Rattle.searcher.specs.Searching.{Searching};
-ghost use Rattle.zorfelith_c.specs.Tells.{LeavesGroups, TellsBatch, TellsLast, TellsMarks, TellsMatch, TellsMatchAt, TellsWhether};
+ghost use Rattle.zorfelith_c.specs.Tells.{LeavesGroups, TellsBatch, TellsLast, TellsMarks, TellsMatch, TellsMatchAt, TellsPartial, TellsWhether};
 ghost use Rattle.zorfelith_c.specs.Statuses.{done, empty};
 
 use crate::handle::Handle;
 use crate::status::{DONE, EMPTY, FOUND, OUTSIDE, TOO_LONG};
+use api_meta::partial::Partial;
 use searcher::{Fault, GroupAt, MatchAt, MemoryParts};
 use std::alloc::Global;
 
@@ -141,6 +142,46 @@ pub extern "C" fn zf_find_last(
             FOUND
         }
         Ok(None) => DONE,
+        Err(Fault::TooLong) => TOO_LONG,
+        Err(Fault::Outside) => OUTSIDE,
+    }
+}
+
+/// Tells what the text from `start` on says of a search, if more bytes may follow it: `FOUND`, and
+/// the match that each text has that goes on from this one is written, or `DONE`, and the place is
+/// written from which the search has to go on.
+#[unsafe(no_mangle)]
+pub extern "C" fn zf_find_partial(
+    alloc: Global,
+    handle: &mut Handle,
+    chunks: &[&[u8]],
+    start: usize,
+    found: &mut MatchAt,
+    from: &mut usize,
+) -> u32
+    ensures answered { MatchOption handle.old.held.value (result ≡ empty)
+        (λ s. TellsPartial s.regex chunks.now start result found.new from.new) }
+    ensures unwritten { result ≢ 1 → found.new ≡ found.old }
+    ensures unplaced { result ≢ done → from.new ≡ from.old }
+    ensures kept { handle.new.held.value ≡ handle.old.held.value }
+{
+    if !handle.is_full() {
+        return EMPTY;
+    }
+    let mut held = handle.take(alloc);
+    let answer = held.find_partial(chunks, start);
+    *handle = Handle::of(held);
+    match answer {
+        Ok(partial) => match partial {
+            Partial::Final(m) => {
+                *found = MatchAt::of(m);
+                FOUND
+            }
+            Partial::From(place) => {
+                *from = place;
+                DONE
+            }
+        },
         Err(Fault::TooLong) => TOO_LONG,
         Err(Fault::Outside) => OUTSIDE,
     }

@@ -174,6 +174,14 @@ unsafe extern "C" {
         place: usize,
         found: *mut zf_match,
     ) -> u32;
+    pub fn zf_find_partial(
+        handle: *mut zf_handle,
+        chunks: *const zf_bytes<'_>,
+        chunk_count: usize,
+        start: usize,
+        found: *mut zf_match,
+        from: *mut usize,
+    ) -> u32;
     pub fn zf_find_groups(
         handle: *mut zf_handle,
         chunks: *const zf_bytes<'_>,

@@ -2,7 +2,7 @@
 //! of the whole text, wherever it is cut. All places are in bytes of the whole text.
 //!
 //! ```
-//! use zorfelith::{Input, Regex, chunk};
+//! use zorfelith::{Input, Partial, Regex, chunk};
 //!
 //! let text = [chunk(b"due 20"), chunk(b"26-11, paid 2027"), chunk(b"-01")];
 //! let mut dates = Regex::new(r"(?P<year>[0-9]{4})-([0-9]{2})")?;
@@ -18,6 +18,7 @@
 //! assert_eq!(dates.replace_by(&text, "${2}/${year}")?, (b"due 11/2026, paid 01/2027".to_vec(), 2));
 //! assert_eq!(dates.find_last(&text, 18)?.map(|found| found.range()), Some(4..11));
 //! assert_eq!(dates.match_at(Input::new(&text).range(18..))?.map(|found| found.range()), Some(18..25));
+//! assert_eq!(dates.find_partial(&text[..2], 11)?, Partial::From(18));
 //! assert_eq!(zorfelith::escape("1+1"), r"1\+1");
 //! let fault = zorfelith::explain("a(b", &zorfelith::Settings::default())?.unwrap();
 //! assert_eq!((fault.range, fault.words.as_str()), (1..2, "unclosed group"));
@@ -139,6 +140,15 @@ impl<'t> From<&'t Vec<Chunk<'t>>> for Input<'t> {
     fn from(text: &'t Vec<Chunk<'t>>) -> Input<'t> {
         Input::new(text)
     }
+}
+
+/// What the beginning of a text tells of a search, whatever follows.
+#[derive(Clone, Copy, Debug, PartialEq, Eq)]
+pub enum Partial {
+    /// The match of each text that goes on from it.
+    Final(Match),
+    /// No match of such a text begins before this place.
+    From(usize),
 }
 
 /// A match: the number of its pattern, and where it stands.
@@ -373,6 +383,14 @@ impl Regex {
         // SAFETY: above.
         let status = unsafe { sys::zf_find_last(&mut self.0, first(text), text.len(), start, end, place, &mut found.0) };
         Ok(told(status)?.then_some(found))
+    }
+
+    /// What the beginning of a text tells of a search from `start` on, where more bytes may follow it.
+    pub fn find_partial(&mut self, text: &[Chunk<'_>], start: usize) -> Result<Partial, Error> {
+        let (mut found, mut from) = (Match::default(), 0);
+        // SAFETY: above.
+        let status = unsafe { sys::zf_find_partial(&mut self.0, first(text), text.len(), start, &mut found.0, &mut from) };
+        Ok(if told(status)? { Partial::Final(found) } else { Partial::From(from) })
     }
 
     /// The match with its groups.
