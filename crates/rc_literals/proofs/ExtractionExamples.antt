@@ -54,3 +54,17 @@ left_out_in_group = refl
 unknown_behind : first_bytes (cat (literal (97 ∷ [])) (cat (capture 1 None (alt (literal (98 ∷ [])) (alt (repeat 1 None true (literal (99 ∷ []))) none))) empty))
     ≡ Some ((97 ∷ []) ∷ [])
 unknown_behind = refl
+
+-- `a{4,9}b`: each of four copies must be read
+copies : first_bytes (cat (repeat 4 (Some 9) true (literal (97 ∷ []))) (cat (literal (98 ∷ [])) empty)) ≡ Some ((97 ∷ 97 ∷ 97 ∷ 97 ∷ []) ∷ [])
+copies = refl
+
+-- `[ab]{5}`: three bytes are no longer short
+copied_class : first_bytes (repeat 5 (Some 5) true (byte_in ((97, 98) ∷ [])))
+    ≡ Some ((97 ∷ 97 ∷ 97 ∷ []) ∷ (97 ∷ 97 ∷ 98 ∷ []) ∷ (97 ∷ 98 ∷ 97 ∷ []) ∷ (97 ∷ 98 ∷ 98 ∷ [])
+    ∷ (98 ∷ 97 ∷ 97 ∷ []) ∷ (98 ∷ 97 ∷ 98 ∷ []) ∷ (98 ∷ 98 ∷ 97 ∷ []) ∷ (98 ∷ 98 ∷ 98 ∷ []) ∷ [])
+copied_class = refl
+
+-- `[0-9]{4}`: a hundred are too many
+many_copies : first_bytes (repeat 4 (Some 4) true (byte_in ((48, 49) ∷ (50, 57) ∷ []))) ≡ first_bytes (byte_in ((48, 49) ∷ (50, 57) ∷ []))
+many_copies = refl

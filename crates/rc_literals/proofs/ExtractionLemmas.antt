@@ -7,8 +7,8 @@ use lib.Utf8.{scalar}
 use Rattle.std.proofs.lemmas.Bool.{cases_Bool, cases_lt, and_parts, false≢true}
 use Rattle.std.proofs.lemmas.Bool.Decides.{nat_tests}
 use Rattle.std.proofs.lemmas.Option.{none-some, same_Some, slice_get-map, slice_get-get_or}
-use Rattle.std.proofs.lemmas.List.{length-append, length-drop, take_all, take_min, drop_all, at_drop_more}
-use Rattle.std.proofs.Math.Nat.{min_comm}
+use Rattle.std.proofs.lemmas.List.{map-id, length-append, length-drop, take_all, take_min, drop_all, at_drop_more}
+use Rattle.std.proofs.Math.Nat.{min_comm, min-le_left}
 use Rattle.std.proofs.lemmas.List.Elements.{All-more, All-weaker}
 use Rattle.rc_pattern.specs.Re.{Re, Range, empty, literal, byte_in, char_in, look, repeat, capture, cat, alt, none}
 use Rattle.rc_pattern.specs.Meaning.{class_meaning, meaning, kind_meaning, alt_all, cat_all}
@@ -23,7 +23,7 @@ use Rattle.rc_program.specs.Program.{in_ranges}
 use Rattle.rc_program.specs.Spells.{Stands, Turns, Spells, SpelledBy}
 use Rattle.rc_literals.specs.Literals.{Covers}
 use Rattle.rc_needles.specs.Needles.{StandsAt}
-use Rattle.rc_literals.specs.Extraction.{are_too_many, greatest_count, greatest_length, greatest_whole, range_bytes, range_chars, is_still, both, spelled_bytes, whole_bytes, crossed, may_cross, lengthened, begun_by, first_bytes, filled, grown, Extends}
+use Rattle.rc_literals.specs.Extraction.{are_too_many, greatest_count, greatest_length, greatest_whole, range_bytes, range_chars, is_still, both, spelled_bytes, whole_bytes, crossed, may_cross, lengthened, begun_by, may_copy, copied, begun_again, greatest_copies, first_bytes, filled, grown, Extends}
 use Rattle.rc_literals.specs.Prefixes.{ArePrefixes}
 use Rattle.rc_needles.specs.Tables.{IsUsable, needles_in}
 use Rattle.rc_needles.proofs.RelationLemmas.{range_of}
@@ -61,7 +61,7 @@ holds_among ws vs h keeps holds t i j s = let b = holds t i j s in let a = keeps
 
 -- What is spelled goes forward.
 
-turns_on : (R : ℕ → ℕ → Type 0) → ((i j : ℕ) → R i j → i ≤ j) → (n i j : ℕ) → Turns R n i j → i ≤ j
+pub turns_on : (R : ℕ → ℕ → Type 0) → ((i j : ℕ) → R i j → i ≤ j) → (n i j : ℕ) → Turns R n i j → i ≤ j
 turns_on R on zero i j h = omega (arith, h)
 turns_on R on (suc n) i j h = let a = on i h.0 h.1 in let b = turns_on R on n h.0 j h.2 in omega (arith, a, b)
 
@@ -274,7 +274,7 @@ among_crossed ws vs w v a b = at_number ws a.0 a.1
         (subst (λ z. IsAmong (map (λ u. z ++ u) vs) (w ++ v)) (sym (same_Some x w e)) (among_map (λ u. w ++ u) vs v b))
     at_number (x ∷ xs) (suc k) e = among_right (map (λ u. x ++ u) vs) (crossed xs vs) (w ++ v) (at_number xs k e)
 
-stands_joined : (content w v : List ℕ) (i m j : ℕ) → Stands content w i m → Stands content v m j → Stands content (w ++ v) i j
+pub stands_joined : (content w v : List ℕ) (i m j : ℕ) → Stands content w i m → Stands content v m j → Stands content (w ++ v) i j
 stands_joined content [] v i m j a b = subst (λ z. Stands content v z j) (sym a) b
 stands_joined content (x ∷ xs) v i m j a b = (a.0, stands_joined content xs v (i + 1) m j a.1 b)
 
@@ -319,6 +319,29 @@ lengthened_begin (cat h rest) ws t i m j a s =
 lengthened_begin (alt h rest) ws t i m j a s = begun_whole ws t.content i m j (spells_on t (alt h rest) m j s) a
 lengthened_begin none ws t i m j a s = absurd s
 
+-- what is lengthened by copies still begins each text
+copied_begin : (n : ℕ) (h : Re) (ws vs : List (List ℕ)) → AreWhole vs h → (t : Text) (k i m j : ℕ) → n ≤ k → IsWhole ws t.content i m →
+    Turns (Spells t h) k m j → IsBegun (copied ws vs n) t.content i j
+copied_begin zero h ws vs whole t k i m j le a turns = begun_whole ws t.content i m j (turns_on (Spells t h) (λ x y r. spells_on t h x y r) k m j turns) a
+copied_begin (suc n) h ws vs whole t zero i m j le a turns = absurd (omega (arith, le))
+copied_begin (suc n) h ws vs whole t (suc k) i m j le a turns =
+    ⊎_elim
+    (λ y.
+    rw y (copied_begin n h (crossed ws vs) vs whole t k i turns.0 j (omega (arith, le))
+    (whole_crossed ws vs t.content i m turns.0 a (whole t m turns.0 turns.1)) turns.2))
+    (λ f. rw f (begun_whole ws t.content i m j (turns_on (Spells t h) (λ x y r. spells_on t h x y r) (suc k) m j turns) a))
+    (cases_Bool (may_copy ws vs))
+
+holds_copies : (vs : List (List ℕ)) (more : ℕ) (max : Option ℕ) (greedy : Bool) (a : Re) → AreWhole vs a →
+    Holds (copied vs vs (min more greatest_copies)) (repeat (suc more) max greedy a)
+holds_copies vs more max greedy a whole t i j s = by_turns s.0 s.1 s.3
+  where
+    by_turns : (n : ℕ) → suc more ≤ n → Turns (Spells t a) n i j → IsBegun (copied vs vs (min more greatest_copies)) t.content i j
+    by_turns zero le turns = absurd (omega (arith, le))
+    by_turns (suc n) le turns =
+        let less = min-le_left more greatest_copies in
+        copied_begin (min more greatest_copies) a vs vs whole t n i turns.0 j (omega (arith, less, le)) (whole t i turns.0 turns.1) turns.2
+
 holds_either : (ws : List (List ℕ)) (a rest : Re) → Holds ws a → Holds ws rest → Holds ws (alt a rest)
 holds_either ws a rest one other t i j (inl s) = one t i j s
 holds_either ws a rest one other t i j (inr s) = other t i j s
@@ -335,7 +358,14 @@ first_hold (char_in rs) ws e =
     subst (λ z. Holds z (char_in rs)) (sym (filled_some greatest_whole [] (flat_map range_chars rs) ws (omega arith) e).0) (holds_chars rs)
 first_hold (look l) ws e = absurd (none-some ws e)
 first_hold (repeat zero max greedy a) ws e = absurd (none-some ws e)
-first_hold (repeat (suc min) max greedy a) ws e = holds_repeat ws (suc min) max greedy a (omega arith) (first_hold a ws e)
+first_hold (repeat (suc more) max greedy a) ws e = by_whole (whole_bytes a) refl (λ first. first_hold a ws first) e
+  where
+    by_whole : (o : Option (List (List ℕ))) → whole_bytes a ≡ o → (first_bytes a ≡ Some ws → Holds ws a) →
+        begun_again o (first_bytes a) more ≡ Some ws → Holds ws (repeat (suc more) max greedy a)
+    by_whole None is first begun = holds_repeat ws (suc more) max greedy a (omega arith) (first begun)
+    by_whole (Some vs) is first begun =
+        subst (λ z. Holds z (repeat (suc more) max greedy a)) (same_Some (copied vs vs (min more greatest_copies)) ws begun)
+        (holds_copies vs more max greedy a (are_whole a vs is))
 first_hold (capture n name a) ws e = first_hold a ws e
 first_hold (cat a rest) ws e =
     ⊎_elim
@@ -546,6 +576,22 @@ module _ (f : Hir → Re) where
 
   pub still_all : (xs : List Hir) (i : ℕ) → length xs ≤ i → of_members xs ≡ of_members (drop i xs) → of_members xs ≡ None
   still_all xs i le inv = inv ∙ ap of_members (drop_all i xs le)
+
+-- Copies of what is repeated.
+
+pub copies_begun : (before list vs : List (List ℕ)) (n : ℕ) → before ≡ [] → list ≡ before ++ map (λ v. [] ++ v) vs → copied vs vs n ≡ copied list vs (n - 0)
+copies_begun before list vs n nil e =
+    ap (λ ws. copied ws vs n) (sym (e ∙ ap (λ ws. ws ++ map (λ v. [] ++ v) vs) nil ∙ map-id vs))
+    ∙ ap (copied list vs) (let all : n ≡ n - 0 = omega arith in all)
+
+pub copies_stopped : (ws vs : List (List ℕ)) (n : ℕ) → may_copy ws vs ≡ false → copied ws vs n ≡ ws
+copies_stopped ws vs zero e = refl
+copies_stopped ws vs (suc n) e = rw e refl
+
+pub one_copied : (ws vs : List (List ℕ)) (n k : ℕ) → k < n → may_copy ws vs ≡ true → copied ws vs (n - k) ≡ copied (crossed ws vs) vs (n - (k + 1))
+one_copied ws vs n k inside e =
+    let left : n - k ≡ suc (n - (k + 1)) = omega (arith, inside) in
+    ap (copied ws vs) left ∙ rw e refl
 
 -- what stands from a place on
 pub rest_taken : (xs : List Hir) (n : ℕ) → take (length xs - n) (drop n xs) ≡ drop n xs

@@ -48,3 +48,7 @@ stays_alone = refl
 -- `[0-9]ab[0-9]`: of two bytes it is no more than they are
 of_two_bytes : needed true (cat digit (cat (literal (97 ∷ 98 ∷ [])) (cat digit empty))) ≡ Some ((97 ∷ 98 ∷ []) ∷ [])
 of_two_bytes = refl
+
+-- `[a-z](ab){3,}`: each copy that must be read
+three_copies : needed false (cat letter (cat (repeat 3 None true (literal (97 ∷ 98 ∷ []))) empty)) ≡ Some ((97 ∷ 98 ∷ 97 ∷ 98 ∷ 97 ∷ 98 ∷ []) ∷ [])
+three_copies = refl

@@ -1,24 +1,25 @@
 -- What each match of patterns holds, and the loops that gather it.
-use Rattle.std.proofs.Common.{◌≡◌, ℕ, zero, suc, ◌+◌, ◌<◌, ◌≤◌, List, [], ◌∷◌, ◌++◌, length, map, min, take, drop, get_or, Bool, true, false, Option, Some, None, is_some, not, true≢false, option_map, ◌&&◌, take-append-drop, nat_le, nat_lt, sym, ap, ap₂, subst, ◌∙◌, refl, arith, inl, inr, ⊎_elim, slice_get}
+use Rattle.std.proofs.Common.{◌≡◌, ℕ, zero, suc, ◌+◌, ◌-◌, ◌<◌, ◌≤◌, List, [], ◌∷◌, ◌++◌, length, map, min, take, drop, get_or, Bool, true, false, Option, Some, None, is_some, not, true≢false, option_map, ◌&&◌, take-append-drop, append_assoc, nat_le, nat_lt, sym, ap, ap₂, subst, ◌∙◌, refl, arith, inl, inr, ⊎_elim, slice_get}
 use Rattle.std.proofs.lemmas.Bool.{cases_Bool, and_parts, false≢true}
 use Rattle.std.proofs.lemmas.Bool.Decides.{nat_tests}
 use Rattle.std.specs.Bool.{◌==◌}
 use Rattle.std.specs.Prelude.{if◌then◌else◌}
 use Rattle.std.proofs.lemmas.Option.{none-some, same_Some, slice_get-map}
 use Rattle.std.proofs.lemmas.List.{at_drop_more}
+use Rattle.std.proofs.Math.Nat.{min-le_left}
 use Rattle.rc_pattern.specs.Re.{Re, empty, literal, byte_in, char_in, look, repeat, capture, cat, alt, none}
 use Rattle.rc_pattern.specs.Meaning.{meaning, alt_all, cat_all}
 use Rattle.rc_pattern.specs.declared.hir.Hir.{Hir}
 use Rattle.rc_program.specs.Text.{Text}
 use Rattle.rc_program.specs.Spells.{Stands, Turns, Spells, SpelledBy}
 use Rattle.rc_needles.specs.Needles.{StandsAt}
-use Rattle.rc_literals.specs.Extraction.{are_too_many, both, first_bytes, greatest_few, greatest_length, has_short}
+use Rattle.rc_literals.specs.Extraction.{are_too_many, both, first_bytes, greatest_copies, greatest_few, greatest_length, has_short}
 use Rattle.rc_literals.specs.Literals.{literal_bytes}
 use Rattle.rc_literals.specs.Prefixes.{ArePrefixes}
 use Rattle.rc_needles.specs.Tables.{AreSome, IsUsable}
-use Rattle.rc_literals.proofs.ExtractionLemmas.{IsBegun, first_hold, holds_literal, literal_prefix, spells_on}
+use Rattle.rc_literals.proofs.ExtractionLemmas.{IsBegun, first_hold, holds_literal, literal_prefix, spells_on, stands_joined, turns_on}
 use Rattle.rc_literals.specs.Needs.{Holds}
-use Rattle.rc_literals.specs.Required.{better, few, greatest_needed, greatest_rest, joined, literal_needle, needed, next_bytes, only_byte, shortest, with_each, with_rest}
+use Rattle.rc_literals.specs.Required.{better, copies_of, few, greatest_needed, greatest_rest, joined, literal_needle, needed, next_bytes, only_byte, shortest, with_copies, with_each, with_rest}
 
 -- a needle stands in the content from i to j
 abbrev pub HasOne : List (List ℕ) → List ℕ → ℕ → ℕ → Type 0
@@ -73,6 +74,49 @@ held_rest ws a rest held t i j s = has_wider ws t.content s.0 j i j (spells_on t
 held_either : (ws vs : List (List ℕ)) (a rest : Re) → AreHeld ws a → AreHeld vs rest → AreHeld (ws ++ vs) (alt a rest)
 held_either ws vs a rest one other t i j (inl s) = has_left ws vs t.content i j (one t i j s)
 held_either ws vs a rest one other t i j (inr s) = has_right ws vs t.content i j (other t i j s)
+
+-- Copies of a literal.
+
+literal_is : (a : Re) (bs : List ℕ) → literal_bytes a ≡ Some bs → a ≡ literal bs
+literal_is (literal (b ∷ bs)) cs e = ap literal (same_Some (b ∷ bs) cs e)
+literal_is (literal []) cs e = absurd (none-some cs e)
+literal_is empty cs e = absurd (none-some cs e)
+literal_is (byte_in rs) cs e = absurd (none-some cs e)
+literal_is (char_in rs) cs e = absurd (none-some cs e)
+literal_is (look l) cs e = absurd (none-some cs e)
+literal_is (repeat min max greedy a) cs e = absurd (none-some cs e)
+literal_is (capture n name a) cs e = absurd (none-some cs e)
+literal_is (cat a rest) cs e = absurd (none-some cs e)
+literal_is (alt a rest) cs e = absurd (none-some cs e)
+literal_is none cs e = absurd (none-some cs e)
+
+-- turns of a literal begin with so many copies of it
+copies_stand : (k n : ℕ) (bs : List ℕ) (t : Text) (i j : ℕ) → k ≤ n → Turns (Spells t (literal bs)) n i j →
+    (x : ℕ) × Stands t.content (copies_of k bs) i x × (x ≤ j)
+copies_stand zero n bs t i j le turns = (i, refl, turns_on (Spells t (literal bs)) (λ x y r. spells_on t (literal bs) x y r) n i j turns)
+copies_stand (suc k) zero bs t i j le turns = absurd (omega (arith, le))
+copies_stand (suc k) (suc n) bs t i j le turns =
+    let r = copies_stand k n bs t turns.0 j (omega (arith, le)) turns.2 in
+    (r.0, stands_joined t.content bs (copies_of k bs) i turns.0 r.0 turns.1 r.1, r.2)
+
+-- one copy more
+pub copy_added : (xs bs whole : List ℕ) (n k : ℕ) → k < n → xs ++ copies_of (n - k) bs ≡ whole → (xs ++ bs) ++ copies_of (n - (k + 1)) bs ≡ whole
+copy_added xs bs whole n k inside e =
+    let left : n - k ≡ suc (n - (k + 1)) = omega (arith, inside) in
+    append_assoc xs bs (copies_of (n - (k + 1)) bs) ∙ ap (λ m. xs ++ copies_of m bs) (sym left) ∙ e
+
+held_copies : (bs : List ℕ) (more : ℕ) (max : Option ℕ) (greedy : Bool) →
+    AreHeld (take greatest_length (copies_of (suc (min more greatest_copies)) bs) ∷ []) (repeat (suc more) max greedy (literal bs))
+held_copies bs more max greedy t i j s =
+    let less = min-le_left more greatest_copies in
+    let some = s.1 in
+    let whole = copies_of (suc (min more greatest_copies)) bs in
+    let r = copies_stand (suc (min more greatest_copies)) s.0 bs t i j (omega (arith, less, some)) s.3 in
+    let w = take greatest_length whole in
+    let a = holds_literal (w ∷ []) whole w (drop greatest_length whole) (sym (take-append-drop greatest_length whole)) (0, refl) t i r.0 r.1 in
+    let on = r.2 in
+    let end = a.4 in
+    (i, a.0, a.1, a.2, a.3, omega arith, omega (arith, end, on))
 
 -- A byte with what is read behind it.
 
@@ -137,7 +181,19 @@ needed_held longer (byte_in rs) ws e = absurd (none-some ws e)
 needed_held longer (char_in rs) ws e = absurd (none-some ws e)
 needed_held longer (look l) ws e = absurd (none-some ws e)
 needed_held longer (repeat zero max greedy a) ws e = absurd (none-some ws e)
-needed_held longer (repeat (suc min) max greedy a) ws e = held_repeat ws (suc min) max greedy a (omega arith) (needed_held longer a ws e)
+needed_held longer (repeat (suc more) max greedy a) ws e = by_literal (literal_bytes a) refl (λ once. needed_held longer a ws once) e
+  where
+    by_literal : (o : Option (List ℕ)) → literal_bytes a ≡ o → (needed longer a ≡ Some ws → AreHeld ws a) →
+        with_copies o more (needed longer a) ≡ Some ws → AreHeld ws (repeat (suc more) max greedy a)
+    by_literal None is once needs = held_repeat ws (suc more) max greedy a (omega arith) (once needs)
+    by_literal (Some bs) is once needs =
+        ⊎_elim
+        (λ y.
+        subst (λ z. AreHeld ws (repeat (suc more) max greedy z)) (sym (literal_is a bs is))
+        (subst (λ z. AreHeld z (repeat (suc more) max greedy (literal bs)))
+        (same_Some (take greatest_length (copies_of (suc (min more greatest_copies)) bs) ∷ []) ws (rw y at needs)) (held_copies bs more max greedy)))
+        (λ f. held_repeat ws (suc more) max greedy a (omega arith) (once (rw f at needs)))
+        (cases_Bool (nat_le (length bs) greatest_length))
 needed_held longer (capture n name a) ws e = needed_held longer a ws e
 needed_held longer (cat a rest) ws e =
     by_better (if longer then with_rest a rest (needed longer a) else needed longer a) (needed longer rest)

@@ -1,5 +1,5 @@
 -- Prefix literals: those that are extracted from a pattern.
-use Rattle.std.specs.Prelude.{◌≡◌, ℕ, zero, suc, ◌+◌, ◌-◌, ◌*◌, Bool, true, false, ◌&&◌, ◌||◌, List, [], ◌∷◌, ◌++◌, length, map, take, Option, Some, None, unwrap_or, nat_lt, nat_le, encode_utf8, if◌then◌else◌}
+use Rattle.std.specs.Prelude.{◌≡◌, ℕ, zero, suc, ◌+◌, ◌-◌, ◌*◌, Bool, true, false, ◌&&◌, ◌||◌, List, [], ◌∷◌, ◌++◌, length, map, min, take, Option, Some, None, unwrap_or, nat_lt, nat_le, encode_utf8, if◌then◌else◌}
 use Rattle.std.specs.List.{filter, flat_map, range_with_len}
 use lib.Utf8.{scalar}
 use Rattle.rc_pattern.specs.Re.{Re, Range, empty, literal, byte_in, char_in, look, repeat, capture, cat, alt, none}
@@ -108,6 +108,26 @@ abbrev pub begun_by : Option (List (List ℕ)) → Option (List (List ℕ)) → 
 begun_by None first rest = first
 begun_by (Some ws) first rest = Some (lengthened ws rest)
 
+-- The most copies that are read after the first of what is repeated.
+abbrev pub greatest_copies : ℕ
+greatest_copies = 31
+
+-- One of the needles is short, or the texts are one, and there are few enough once each needle has each
+-- of the texts after it.
+abbrev pub may_copy : List (List ℕ) → List (List ℕ) → Bool
+may_copy ws vs = (has_short ws || nat_le (length vs) 1) && nat_le (length ws * length vs) greatest_variants
+
+-- The needles with so many copies of the texts after them, as long as one needle is short or the texts
+-- are one, and there are few enough.
+abbrev pub copied : List (List ℕ) → List (List ℕ) → ℕ → List (List ℕ)
+copied ws vs zero = ws
+copied ws vs (suc n) = if may_copy ws vs then copied (crossed ws vs) vs n else ws
+
+-- The needles of what is read once and so many times more; or its prefixes, if it isn't kept whole.
+abbrev pub begun_again : Option (List (List ℕ)) → Option (List (List ℕ)) → ℕ → Option (List (List ℕ))
+begun_again None first more = first
+begun_again (Some vs) first more = Some (copied vs vs (min more greatest_copies))
+
 -- The beginnings of the texts that the pattern spells: the literals and classes that may be read
 -- first. None if an optional body, a large class, or nothing but assertions may come first.
 abbrev pub first_bytes : Re → Option (List (List ℕ))
@@ -117,7 +137,7 @@ first_bytes (byte_in rs) = whole_bytes (byte_in rs)
 first_bytes (char_in rs) = whole_bytes (char_in rs)
 first_bytes (look l) = None
 first_bytes (repeat zero max greedy a) = None
-first_bytes (repeat (suc min) max greedy a) = first_bytes a
+first_bytes (repeat (suc more) max greedy a) = begun_again (whole_bytes a) (first_bytes a) more
 first_bytes (capture n name a) = first_bytes a
 first_bytes (cat a rest) = if is_still a then first_bytes rest else begun_by (whole_bytes a) (first_bytes a) rest
 first_bytes (alt a rest) = both (first_bytes a) (first_bytes rest)

@@ -3,7 +3,7 @@
 use Rattle.std.specs.Prelude.{◌≡◌, ℕ, zero, suc, Bool, ◌&&◌, List, [], ◌∷◌, ◌++◌, length, map, min, take, Option, Some, None, nat_lt, nat_le, if◌then◌else◌}
 use Rattle.rc_pattern.specs.Re.{Re, empty, literal, byte_in, char_in, look, repeat, capture, cat, alt, none}
 use Rattle.rc_pattern.specs.Meaning.{alt_all}
-use Rattle.rc_literals.specs.Extraction.{greatest_length, first_bytes}
+use Rattle.rc_literals.specs.Extraction.{greatest_copies, greatest_length, first_bytes}
 use Rattle.rc_literals.specs.Literals.{literal_bytes}
 use Rattle.rc_needles.specs.Tables.{IsUsable}
 
@@ -63,6 +63,25 @@ with_each _ _ needles = needles
 abbrev pub with_rest : Re → Re → Option (List (List ℕ)) → Option (List (List ℕ))
 with_rest a rest needles = with_each (only_byte (literal_bytes a)) (next_bytes rest) needles
 
+-- So many copies of the bytes, one after another.
+abbrev pub copies_of : ℕ → List ℕ → List ℕ
+copies_of zero bs = []
+copies_of (suc n) bs = bs ++ copies_of n bs
+
+-- These bytes, if they are no more than are kept.
+abbrev pub short_bytes : Option (List ℕ) → Option (List ℕ)
+short_bytes None = None
+short_bytes (Some bs) = if nat_le (length bs) greatest_length then Some bs else None
+
+-- The first of the bytes read once and so many times more, if there are some; else the needles.
+abbrev pub copied_needle : Option (List ℕ) → ℕ → Option (List (List ℕ)) → Option (List (List ℕ))
+copied_needle None more needles = needles
+copied_needle (Some bs) more needles = Some (take greatest_length (copies_of (suc (min more greatest_copies)) bs) ∷ [])
+
+-- The needle of a literal that isn't long, read once and so many times more; else the needles.
+abbrev pub with_copies : Option (List ℕ) → ℕ → Option (List (List ℕ)) → Option (List (List ℕ))
+with_copies o more needles = copied_needle (short_bytes o) more needles
+
 -- Needles of which each text that the pattern spells contains one. They are literals that must be
 -- read: those of one member of a concatenation, and those of each member of an alternation. None if
 -- no literal must be read, or there are too many. The longer ones have what is read after a single
@@ -74,7 +93,7 @@ needed longer (byte_in rs) = None
 needed longer (char_in rs) = None
 needed longer (look l) = None
 needed longer (repeat zero max greedy a) = None
-needed longer (repeat (suc min) max greedy a) = needed longer a
+needed longer (repeat (suc more) max greedy a) = with_copies (literal_bytes a) more (needed longer a)
 needed longer (capture n name a) = needed longer a
 needed longer (cat a rest) = better (if longer then with_rest a rest (needed longer a) else needed longer a) (needed longer rest)
 needed longer (alt a rest) = joined (needed longer a) (needed longer rest)

@@ -4,7 +4,7 @@ ghost use Rattle.std.specs.Bool.{Decides};
 ghost use Rattle.rc_pattern.specs.Meaning.{alt_all, byte_range, cat_all, char_range, class_meaning, meaning};
 ghost use Rattle.rc_pattern.specs.Re.{byte_in, char_in, literal};
 ghost use Rattle.rc_program.specs.Text.{Text};
-ghost use Rattle.rc_literals.specs.Extraction.{Extends, are_too_many, begun_by, crossed, first_bytes, greatest_count, greatest_whole, has_short, is_still, lengthened, may_cross, range_bytes, range_chars, spelled_bytes, whole_bytes};
+ghost use Rattle.rc_literals.specs.Extraction.{Extends, are_too_many, begun_again, begun_by, copied, crossed, first_bytes, greatest_count, greatest_whole, has_short, is_still, lengthened, may_copy, may_cross, range_bytes, range_chars, spelled_bytes, whole_bytes};
 ghost use Rattle.rc_literals.specs.Literals.{Covers};
 ghost use Rattle.rc_needles.specs.Prefilters.{needles_of};
 ghost use Rattle.rc_literals.specs.Prefixes.{ArePrefixes, BeginsWithOne, EachBegins};
@@ -32,13 +32,17 @@ const SHORT_LENGTH: usize = 3;
 /// The most needles that lengthening may make.
 const GREATEST_VARIANTS: usize = 32;
 
+/// The most copies that are read after the first of what is repeated.
+const GREATEST_COPIES: u32 = 31;
+
 /// Returns prefix literals: each text that one of the patterns spells begins with one of them, and
 /// none is empty.
 ///
 /// They are what may be read first: a literal, of which at most 32 bytes are kept, or each byte or
 /// character of a class. If one has fewer than 3 bytes, all are lengthened by the literals and
 /// classes that follow, also in groups and alternations, as long as that makes at most 32. So
-/// `[ab]cd` has `acd` and `bcd`.
+/// `[ab]cd` has `acd` and `bcd`. What must be read several times lengthens itself: `[ab]{2}` has
+/// `aa`, `ab`, `ba` and `bb`, and one text has up to 32 copies, as `aaaa` for `a{4,9}`.
 ///
 /// Returns None if there is no prefix, if there are more than 16,384, or more than 64 and one of
 /// them has fewer than 3 bytes, or if in some pattern an optional body, a class of more than 64
@@ -83,7 +87,7 @@ fn add(alloc: Global, hir: &Hir, list: &mut Vec<Vec<u8>>) -> Result<bool, AllocE
             if repetition.min == 0 {
                 return Ok(false);
             }
-            add(alloc, &repetition.sub, list)
+            add_repeated(alloc, &repetition.sub, repetition.min - 1, list)
         }
         HirKind::Capture(capture) => add(alloc, &capture.sub, list),
         HirKind::Concat(subs) => {
@@ -132,6 +136,53 @@ fn add_begun(
         }
         None => add(alloc, first, list),
     }
+}
+
+/// Adds the prefixes of what is read once and `more` times again. If each text of it is known, they
+/// are lengthened by copies. Returns false if it has none of use.
+#[cycle(add)]
+fn add_repeated(
+    alloc: Global,
+    hir: &Hir,
+    more: u32,
+    list: &mut Vec<Vec<u8>>,
+) -> Result<bool, AllocError>
+    ensures { IfOk result (λ done. Extends greatest_count done (needles_in list.old.items)
+        (needles_in list.new.items)
+        (begun_again (whole_bytes (meaning hir.now)) (first_bytes (meaning hir.now)) more)) }
+{
+    match whole_bytes(alloc, hir)? {
+        Some(texts) => {
+            let longer = copied(alloc, &texts, more.min(GREATEST_COPIES))?;
+            add_needles(alloc, &longer, list)
+        }
+        None => add(alloc, hir, list),
+    }
+}
+
+/// Returns the texts, lengthened by copies of them.
+fn copied(alloc: Global, texts: &[Vec<u8>], copies: u32) -> Result<Vec<Vec<u8>>, AllocError>
+    ensures { IfOk result (λ longer. needles_in longer.items
+        ≡ copied (needles_in texts.now) (needles_in texts.now) copies) }
+{
+    let mut longer = Vec::new(alloc);
+    add_joined(alloc, &[], texts, &mut longer)?;
+    for _ in 0..copies {
+        if !may_copy(&longer, texts) {
+            return Ok(longer);
+        }
+        longer = crossed(alloc, &longer, texts)?;
+    }
+    Ok(longer)
+}
+
+/// Whether each of the needles may have each of the texts after it: one needle is short or the texts
+/// are one, and there are few enough.
+fn may_copy(needles: &[Vec<u8>], texts: &[Vec<u8>]) -> bool
+    ensures { result ≡ may_copy (needles_in needles.now) (needles_in texts.now) }
+{
+    let is_of_use = has_short(needles) || texts.len() <= 1;
+    is_of_use && needles.len().saturating_mul(texts.len()) <= GREATEST_VARIANTS
 }
 
 /// Returns each text that a pattern spells, if that is a literal, a class, or a group or an

@@ -5,7 +5,7 @@ ghost use Rattle.rc_program.specs.Text.{Text};
 ghost use Rattle.rc_literals.specs.Literals.{literal_bytes};
 ghost use Rattle.rc_needles.specs.Tables.{IsUsable, needles_in};
 ghost use Rattle.rc_literals.specs.Needs.{Holds};
-ghost use Rattle.rc_literals.specs.Required.{AreNeeded, better, joined, literal_needle, needed, next_bytes, only_byte, shortest, with_rest};
+ghost use Rattle.rc_literals.specs.Required.{AreNeeded, better, copies_of, joined, literal_needle, needed, next_bytes, only_byte, short_bytes, shortest, with_copies, with_rest};
 
 use crate::prefixes::prefixes;
 use rc_needles::prefilter::is_usable;
@@ -21,13 +21,17 @@ const GREATEST_COUNT: usize = 64;
 /// The most bytes of a literal that are kept.
 const GREATEST_LENGTH: usize = 32;
 
+/// The most copies of a literal that are read after the first.
+const GREATEST_COPIES: u32 = 31;
+
 /// The most needles that a byte may become with what is read after it.
 const GREATEST_REST: usize = 16;
 
 /// Returns required literals: each text that one of the patterns spells contains one of them,
 /// somewhere, and none is empty.
 ///
-/// They are literals that must be read, of each at most its first 32 bytes. Of a concatenation,
+/// They are literals that must be read, of each at most its first 32 bytes. A literal that must be
+/// read several times is as many copies of it. Of a concatenation,
 /// they are those of the member whose shortest literal is the longest; of an alternation, those of
 /// each member. An alternation has none if a member has none, or if there would be more than 64.
 /// The patterns are taken as an alternation: the result is None if that has none.
@@ -82,7 +86,8 @@ fn put_needed(alloc: Global, hir: &Hir, longer: bool, found: &mut Needles) -> Re
                 *found = None;
                 return Ok(());
             }
-            put_needed(alloc, &repetition.sub, longer, found)
+            put_needed(alloc, &repetition.sub, longer, found)?;
+            put_copies(alloc, &repetition.sub, repetition.min - 1, found)
         }
         HirKind::Capture(capture) => put_needed(alloc, &capture.sub, longer, found),
         HirKind::Concat(subs) => put_needed_by_one(alloc, subs, longer, found),
@@ -148,6 +153,58 @@ fn put_literal(alloc: Global, bytes: &[u8], found: &mut Needles) -> Result<(), A
 {
     *found = literal_needle(alloc, bytes)?;
     Ok(())
+}
+
+/// Puts the first bytes of a literal that is read once and `more` times again, if the pattern is one
+/// that isn't long.
+#[inline(never)]
+fn put_copies(alloc: Global, hir: &Hir, more: u32, found: &mut Needles) -> Result<(), AllocError>
+    ensures { OnOk result (option_map (λ v. needles_in v.items) found.new
+        ≡ with_copies (literal_bytes (meaning hir.now)) more
+        (option_map (λ v. needles_in v.items) found.old)) }
+{
+    let Some(bytes) = short_literal(hir) else {
+        return Ok(());
+    };
+    let mut needle = copies_of(alloc, bytes, more.min(GREATEST_COPIES) + 1)?;
+    needle.truncate(GREATEST_LENGTH);
+    let mut list = Vec::with_capacity(alloc, 1)?;
+    list.push(needle)?;
+    *found = Some(list);
+    Ok(())
+}
+
+/// Returns the bytes of a literal that is neither empty nor long.
+fn short_literal(hir: &Hir) -> Option<&[u8]>
+    ensures { option_map (λ bytes. bytes.now) result
+        ≡ short_bytes (literal_bytes (meaning hir.now)) }
+{
+    match hir.kind() {
+        HirKind::Literal(bytes) => {
+            if bytes.is_empty() || bytes.len() > GREATEST_LENGTH {
+                return None;
+            }
+            Some(bytes)
+        }
+        HirKind::Empty
+        | HirKind::Class(_)
+        | HirKind::Look(_)
+        | HirKind::Repetition(_)
+        | HirKind::Capture(_)
+        | HirKind::Concat(_)
+        | HirKind::Alternation(_) => None,
+    }
+}
+
+/// Returns so many copies of the bytes, one after another.
+fn copies_of(alloc: Global, bytes: &[u8], count: u32) -> Result<Vec<u8>, AllocError>
+    ensures { IfOk result (λ v. v.items ≡ copies_of count bytes.now) }
+{
+    let mut copies = Vec::new(alloc);
+    for _ in 0..count {
+        copies.extend_from_slice(bytes)?;
+    }
+    Ok(copies)
 }
 
 /// Returns the first bytes of a literal, or None if it is empty.
