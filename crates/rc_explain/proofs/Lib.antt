@@ -1,7 +1,10 @@
 mod Begins
 mod Bytes
+mod FullLists
 mod FullMarks
 mod Members
 mod Numbers
+mod Rests
 mod Shapes
 mod Tokens
+mod Wholes

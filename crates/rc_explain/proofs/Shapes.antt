@@ -1,10 +1,12 @@
 -- What stands in a span stands there still where the text has more before it.
-use Rattle.std.proofs.Common.{◌≡◌, ◌∙◌, ◌+◌, ◌≤◌, ℕ, suc, [], ◌∷◌, ◌++◌, Some, ap, arith, drop, get_or, length, length-append, min, max, subst, sym, take, inl, inr}
-use Rattle.std.proofs.lemmas.List.{get_or-drop, get_or-take, length-drop, length-take}
+use Rattle.std.proofs.Common.{◌≡◌, ◌∙◌, ◌&&◌, Bool, true, false, true≢false, refl, ◌+◌, ◌<◌, ◌≤◌, ℕ, suc, [], ◌∷◌, ◌++◌, Some, ap, arith, drop, get_or, length, length-append, min, max, subst, sym, take, inl, inr}
+use Rattle.std.proofs.lemmas.List.{drop-drop, get_or-drop, get_or-take, length-drop, length-take}
+use Rattle.std.proofs.lemmas.Bool.{and_parts}
 use Rattle.std.proofs.lemmas.Option.{get_or_from_slice_get, slice_get-get_or, slice_get_within}
 use Rattle.rc_tokens.specs.Text.{Characters}
 use Rattle.rc_parser.specs.declared.config.Grammar.{Grammar}
-use Rattle.rc_explain.specs.Shown.{AreAt, Begins, Has, HasShape, Is, IsNamed, IsNoneOf, IsOne, IsOther, IsSuch, Shape, Shows, Stands, begins, either, exactly, named, none_of, nothing, one, other, part, shape_of, such}
+use Rattle.rc_parser.specs.declared.config.Grammar.TheVariants.{Stated}
+use Rattle.rc_explain.specs.Shown.{AreAt, Begins, Has, HasShape, Is, IsNamed, IsNoneOf, IsOne, IsOther, IsSuch, Shape, Shows, Stands, begins, either, exactly, named, none_of, nothing, one, other, read, shape_of, such}
 use Rattle.rc_explain.specs.declared.faults.FaultKind.{FaultKind}
 use Rattle.rc_explain.specs.declared.faults.FaultKind.TheVariants.{NestedTooDeeply}
 
@@ -78,7 +80,7 @@ module _ (n : ℕ) (t : Characters) (s e a b : ℕ) (fits : length t ≤ most) (
   shifted (either x y) (inl h) = inl (shifted x h)
   shifted (either x y) (inr h) = inr (shifted y h)
   shifted (such P) h = record { cs = h.cs; such = h.such; here = is_shifted h.cs h.here }
-  shifted named h =
+  shifted (named Names) h =
       let at = at_shifted (60 ∷ (h.name ++ 62 ∷ [])) n t h.opener h.here in
       let within = at_within 60 (h.name ++ 62 ∷ []) t (h.opener + n) at in
       let long = length-append h.name (62 ∷ []) in
@@ -92,7 +94,17 @@ module _ (n : ℕ) (t : Characters) (s e a b : ℕ) (fits : length t ≤ most) (
         starts = omega (arith, within, long, starts, fits, from);
         ends = omega (arith, within, long, starts, ends, fits, from, to);
       }
-  shifted part h = let begins = h.0 in let within = h.1 in let long = length-drop n t in (omega (arith, begins, within, long, fits, from, to), omega (arith, begins, within, long, fits, from, to))
+  shifted (read Reads) h =
+      let begins = h.0 in
+      let within = h.1 in
+      let long = length-drop n t in
+      let first : n + s ≡ a = omega (arith, begins, within, long, fits, from) in
+      let last : n + e ≡ b = omega (arith, begins, within, long, fits, to) in (
+        omega (arith, begins, first, last),
+        omega (arith, within, long, begins, last),
+        subst (λ x. Reads x (drop b t)) (drop-drop s n t ∙ ap (λ k. drop k t) first)
+            (subst (Reads (drop s (drop n t))) (drop-drop e n t ∙ ap (λ k. drop k t) last) h.2),
+      )
   shifted nothing h = absurd h
 
 stands_wider : (n : ℕ) (t : Characters) (s c : ℕ) → Stands (take n t) s c → Stands t s c
@@ -106,19 +118,29 @@ at_wider : (cs : Characters) (n : ℕ) (t : Characters) (s : ℕ) → AreAt (tak
 at_wider [] n t s h = tt
 at_wider (c ∷ cs) n t s h = (stands_wider n t s c h.0, at_wider cs n t (suc s) h.1)
 
+-- it doesn't look at the rest of a text
+abbrev pub is_plain : Shape → Bool
+is_plain (read Reads) = false
+is_plain (either x y) = is_plain x && is_plain y
+is_plain shape = true
+
+pub plain_stated : (kind : FaultKind) → is_plain (shape_of Stated kind) ≡ true
+plain_stated NestedTooDeeply = refl
+plain_stated kind = refl
+
 -- what stands in a text's beginning stands in the text
-pub wider : (shape : Shape) (n : ℕ) (t : Characters) (s e : ℕ) → Has shape (take n t) s e → Has shape t s e
-wider (exactly cs) n t s e h = record { here = at_wider cs n t s h.here; ends = h.ends }
-wider (begins c cs) n t s e h = record { here = at_wider (c ∷ cs) n t s h.here; ends = h.ends }
-wider (one test) n t s e h = record { c = h.c; here = stands_wider n t s h.c h.here; passes = h.passes; alone = h.alone }
-wider (other test) n t s e h = record { c = h.c; here = stands_wider n t s h.c h.here; fails = h.fails; alone = h.alone }
-wider (none_of cs) n t s e h = record { c = h.c; here = stands_wider n t s h.c h.here; none = h.none; alone = h.alone }
-wider (either x y) n t s e (inl h) = inl (wider x n t s e h)
-wider (either x y) n t s e (inr h) = inr (wider y n t s e h)
-wider (such P) n t s e h = record { cs = h.cs; such = h.such; here = record { here = at_wider h.cs n t s h.here.here; ends = h.here.ends } }
-wider named n t s e h = record { opener = h.opener; name = h.name; named = h.named; here = at_wider (60 ∷ (h.name ++ 62 ∷ [])) n t h.opener h.here; starts = h.starts; ends = h.ends }
-wider part n t s e h = let within = h.1 in let long = length-take n t in (h.0, omega (arith, within, long))
-wider nothing n t s e h = absurd h
+pub wider : (shape : Shape) (n : ℕ) (t : Characters) (s e : ℕ) → is_plain shape ≡ true → Has shape (take n t) s e → Has shape t s e
+wider (exactly cs) n t s e plain h = record { here = at_wider cs n t s h.here; ends = h.ends }
+wider (begins c cs) n t s e plain h = record { here = at_wider (c ∷ cs) n t s h.here; ends = h.ends }
+wider (one test) n t s e plain h = record { c = h.c; here = stands_wider n t s h.c h.here; passes = h.passes; alone = h.alone }
+wider (other test) n t s e plain h = record { c = h.c; here = stands_wider n t s h.c h.here; fails = h.fails; alone = h.alone }
+wider (none_of cs) n t s e plain h = record { c = h.c; here = stands_wider n t s h.c h.here; none = h.none; alone = h.alone }
+wider (either x y) n t s e plain (inl h) = inl (wider x n t s e (and_parts (is_plain x) (is_plain y) plain).0 h)
+wider (either x y) n t s e plain (inr h) = inr (wider y n t s e (and_parts (is_plain x) (is_plain y) plain).1 h)
+wider (such P) n t s e plain h = record { cs = h.cs; such = h.such; here = record { here = at_wider h.cs n t s h.here.here; ends = h.here.ends } }
+wider (named Names) n t s e plain h = record { opener = h.opener; name = h.name; named = h.named; here = at_wider (60 ∷ (h.name ++ 62 ∷ [])) n t h.opener h.here; starts = h.starts; ends = h.ends }
+wider (read Reads) n t s e plain h = absurd (true≢false (sym plain))
+wider nothing n t s e plain h = absurd h
 
 -- a span that shows something doesn't end before it begins
 pub ordered : (shape : Shape) (t : Characters) (s e m : ℕ) → m ≡ max e s → Has shape t s e → Has shape t s m
@@ -130,8 +152,8 @@ ordered (none_of cs) t s e m is h = let ends = h.alone in subst (λ k. IsNoneOf 
 ordered (either x y) t s e m is (inl h) = inl (ordered x t s e m is h)
 ordered (either x y) t s e m is (inr h) = inr (ordered y t s e m is h)
 ordered (such P) t s e m is h = let ends = h.here.ends in subst (λ k. IsSuch P t s k) (omega (arith, ends, is)) h
-ordered named t s e m is h = let ends = h.ends in subst (λ k. IsNamed t s k) (omega (arith, ends, is)) h
-ordered part t s e m is h = let begins = h.0 in let within = h.1 in (omega (arith, is, begins), omega (arith, is, begins, within))
+ordered (named Names) t s e m is h = let ends = h.ends in subst (λ k. IsNamed Names t s k) (omega (arith, ends, is)) h
+ordered (read Reads) t s e m is h = let begins = h.0 in subst (λ k. (s < k) × (k ≤ length t) × Reads (drop s t) (drop k t)) (omega (arith, begins, is)) h
 ordered nothing t s e m is h = absurd h
 
 -- what a part shows, the whole does

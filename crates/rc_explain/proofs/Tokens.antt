@@ -21,7 +21,7 @@ use Rattle.rc_explain.specs.Shown.{AreAt, Is, IsAtom, IsAssertion, IsNamed, IsSe
 pub alike : (t : Characters) (s c d : ℕ) → Stands t s c → Stands t s d → c ≡ d
 alike t s c d a b = same_Some c d (sym a ∙ b)
 
-at_behind : (cs t : Characters) (c s : ℕ) → AreAt t s cs → AreAt (c ∷ t) (suc s) cs
+pub at_behind : (cs t : Characters) (c s : ℕ) → AreAt t s cs → AreAt (c ∷ t) (suc s) cs
 at_behind [] t c s h = tt
 at_behind (d ∷ cs) t c s h = (h.0, at_behind cs t c (suc s) h.1)
 
@@ -226,7 +226,7 @@ plain_at t c m at says = record { atom = plain c; says = says; here = record { h
 
 -- ---- whole texts
 
-at_whole : (t : Characters) → AreAt t 0 t
+pub at_whole : (t : Characters) → AreAt t 0 t
 at_whole t = subst (λ s. AreAt s 0 t) (append-nil t) (at_front t [])
 
 same_whole : (t cs : Characters) → AreAt t 0 cs → length t ≡ length cs → t ≡ cs
@@ -250,17 +250,17 @@ whole_atom t h = record { cs = t; such = h; here = record { here = at_whole t; e
 -- ---- names
 
 -- the place of the name in an opening
-pub record IsNaming (t : Characters) : Type 0 where
+pub record IsNaming (t : Characters) (m : ℕ) : Type 0 where
   pub p : Bool
   pub name : Characters
   pub says : is_name name ≡ true
   pub here : AreAt t 0 (written (opens (naming p name)))
-  pub ends : length t ≡ length (written (opens (naming p name)))
+  pub ends : m ≡ length (written (opens (naming p name)))
 
-pub naming_of : (t : Characters) (n : List ℕ) → IsToken (Opens (Named n)) t 0 (length t) → IsNaming t
-naming_of t n k = go k.mark k.says k.here.here k.here.ends
+pub naming_of : (t : Characters) (n : List ℕ) (count : ℕ) → IsToken (Opens (Named n)) t 0 count → IsNaming t count
+naming_of t n count k = go k.mark k.says k.here.here k.here.ends
   where
-    go : (m : Mark) → said m ≡ Some (Opens (Named n)) → AreAt t 0 (written m) → length t ≡ 0 + length (written m) → IsNaming t
+    go : (m : Mark) → said m ≡ Some (Opens (Named n)) → AreAt t 0 (written m) → count ≡ 0 + length (written m) → IsNaming t count
     go (opens (naming p name)) says at ends =
         let (s, h, same) = some_parts (is_name name >> Some (Named (encode_utf8_all name))) (λ s. Some (Opens s)) (Opens (Named n)) says in
         let (ok, rest) = guard_parts (is_name name) (Some (Named (encode_utf8_all name))) s h in
@@ -276,20 +276,20 @@ naming_of t n k = go k.mark k.says k.here.here k.here.ends
     go (repeats o) says at ends = let (b, h, same) = some_parts (bounds_of o.lazy o.amount) (λ b. Some (Repeats b)) (Opens (Named n)) says in absurd (cc)
 
 -- one with a `P`
-pub name_long : (t : Characters) (n : List ℕ) (e : ℕ) → Stands t 2 80 → e ≡ length t - 1 → IsToken (Opens (Named n)) t 0 (length t) → IsNamed t 4 e
-name_long t n e letter to k = let h = naming_of t n k in go h.p h.name h.here h.ends h.says
+pub name_long : (t : Characters) (n : List ℕ) (count e : ℕ) → Stands t 2 80 → e ≡ count - 1 → IsToken (Opens (Named n)) t 0 count → IsNamed is_name t 4 e
+name_long t n count e letter to k = let h = naming_of t n count k in go h.p h.name h.here h.ends h.says
   where
-    go : (p : Bool) (name : Characters) → AreAt t 0 (written (opens (naming p name))) → length t ≡ length (written (opens (naming p name))) → is_name name ≡ true → IsNamed t 4 e
+    go : (p : Bool) (name : Characters) → AreAt t 0 (written (opens (naming p name))) → count ≡ length (written (opens (naming p name))) → is_name name ≡ true → IsNamed is_name t 4 e
     go true name at ends says =
         let long = length-append name (62 ∷ []) in
         record { opener = 3; name = name; named = says; here = at.1.1.1; starts = refl; ends = omega (arith, ends, long, to) }
     go false name at ends says = absurd (let same = alike t 2 60 80 at.1.1.0 letter in omega (arith, same))
 
 -- one without
-pub name_short : (t : Characters) (n : List ℕ) (e : ℕ) → (Stands t 2 80 → ⊥) → e ≡ length t - 1 → IsToken (Opens (Named n)) t 0 (length t) → IsNamed t 3 e
-name_short t n e none to k = let h = naming_of t n k in go h.p h.name h.here h.ends h.says
+pub name_short : (t : Characters) (n : List ℕ) (count e : ℕ) → (Stands t 2 80 → ⊥) → e ≡ count - 1 → IsToken (Opens (Named n)) t 0 count → IsNamed is_name t 3 e
+name_short t n count e none to k = let h = naming_of t n count k in go h.p h.name h.here h.ends h.says
   where
-    go : (p : Bool) (name : Characters) → AreAt t 0 (written (opens (naming p name))) → length t ≡ length (written (opens (naming p name))) → is_name name ≡ true → IsNamed t 3 e
+    go : (p : Bool) (name : Characters) → AreAt t 0 (written (opens (naming p name))) → count ≡ length (written (opens (naming p name))) → is_name name ≡ true → IsNamed is_name t 3 e
     go true name at ends says = absurd (none at.1.1.0)
     go false name at ends says =
         let long = length-append name (62 ∷ []) in

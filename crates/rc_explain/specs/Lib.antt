@@ -1,3 +1,4 @@
 pub mod Explained
+pub mod Full
 pub mod Reading
 pub mod Shown

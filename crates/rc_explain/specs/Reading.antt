@@ -1,15 +1,25 @@
 -- Only proofs use this file.
 -- What the tokens of a text tell of it.
-use Rattle.std.specs.Prelude.{◌≡◌, ◌-◌, ◌^◌, All, IfSome, List, Option, Some, ℕ, min, true}
+use Rattle.std.specs.Prelude.{◌≡◌, ◌≢◌, ◌⊎◌, ◌-◌, ◌^◌, ◌∷◌, [], All, Bool, IfSome, List, MatchOption, Option, Some, ℕ, drop, length, min, true}
 use Rattle.rc_tokens.specs.Marks.{Atom, Mark, member_of, said, written, written_atom}
-use Rattle.rc_tokens.specs.Said.{Said}
+use Rattle.rc_tokens.specs.Said.{Said, Named}
 use Rattle.rc_tokens.specs.Text.{Characters, each, is_digit_of, value_from}
 use Rattle.rc_tokens.specs.declared.tokens.Member.{Member}
 use Rattle.rc_tokens.specs.declared.tokens.Member.TheVariants.{Hyphen}
+use Rattle.rc_full_lists.specs.Parts.{IsAtom}
+use Rattle.rc_full_lists.specs.declared.parts.Atom.{Atom as FullAtom}
+use Rattle.rc_full_lists.specs.declared.parts.Atom.TheVariants.{Code}
+use Rattle.rc_full_lists.specs.declared.parts.Settings.{Settings}
+use Rattle.rc_full_parser.specs.Marks as full
+use Rattle.rc_full_parser.specs.declared.marks.MarkSettings.{MarkSettings}
+use Rattle.rc_explain.specs.Full.{AreBrackets, IsSetAtom}
 use Rattle.rc_explain.specs.Shown.{Is, IsPerl, Stands}
+use Rattle.rc_explain.specs.declared.faults.FaultKind.TheVariants.{LineTerminator, NotUtf8}
+use Rattle.rc_explain.specs.declared.full_lists.Atom as code
 use Rattle.rc_explain.specs.declared.lists.Item.{Item}
 use Rattle.rc_explain.specs.declared.lists.Placed.{Placed}
 use Rattle.rc_explain.specs.declared.marks.OpenGroup.{OpenGroup}
+use Rattle.rc_explain.specs.declared.places.Found.{Found}
 
 -- the span is a token that says this
 pub record IsToken (k : Said) (text : Characters) (start end : ℕ) : Type 0 where
@@ -68,3 +78,30 @@ pub record IsClass (text : Characters) (at : ℕ) (p : Placed) : Type 0 where
 
 abbrev pub IsClassBefore : Characters → ℕ → Option Placed → Type 0
 IsClassBefore text at o = IfSome o (IsClass text at)
+
+-- the fault is that of a whole text, which is a set or `.`
+pub record IsAtomFault (text : Characters) (f : Found) : Type 0 where
+  pub starts : f.start ≡ 0
+  pub ends : f.end ≡ length text
+  pub kind : (f.kind ≡ NotUtf8) ⊎ ((f.kind ≡ LineTerminator) × (text ≡ 46 ∷ []))
+
+-- ---- the full grammar
+
+-- the mark there opens a group with this name
+abbrev pub OpensNamed : List ℕ → Characters → Characters → Type 0
+OpensNamed name text rest = (s : MarkSettings) × (x : Option Bool) × full.IsMark s text (full.opens (Named name) x) rest
+
+-- the atom's code, or none if it is a class
+abbrev pub IsCoded : Option ℕ → FullAtom → Type 0
+IsCoded o a = MatchOption o (IsSetAtom a) (λ n. a ≡ Code n)
+
+-- an atom of a list begins the text
+pub record BeginsAtom (s : Settings) (text : Characters) (a : code.Atom) : Type 0 where
+  pub value : FullAtom
+  pub reads : IsAtom s text value (drop a.count text)
+  pub coded : IsCoded a.code value
+
+-- the text begins with so many characters that are the mark, and of a list all of it
+pub record BeginsMark (k : full.Mark) (text : Characters) (count : ℕ) : Type 0 where
+  pub listed : k ≡ full.brackets → AreBrackets text (drop count text)
+  pub marked : k ≢ full.brackets → (s : MarkSettings) × full.IsMark s text k (drop count text)

@@ -1,5 +1,5 @@
 -- What stands in the span of a fault, by its kind.
-use Rattle.std.specs.Prelude.{◌≡◌, ◌≢◌, ◌⊎◌, ℕ, suc, ◌+◌, ◌^◌, ◌<◌, ◌≤◌, Bool, true, false, ◌||◌, ◌==◌, List, [], ◌∷◌, ◌++◌, length, take, chars, slice_get, Some, encode_utf8_all}
+use Rattle.std.specs.Prelude.{◌≡◌, ◌≢◌, ◌⊎◌, ℕ, suc, ◌+◌, ◌^◌, ◌<◌, ◌≤◌, Bool, true, false, ◌||◌, ◌==◌, List, [], ◌∷◌, ◌++◌, length, take, drop, chars, slice_get, Some, encode_utf8_all}
 use Rattle.std.specs.Char.{is_ascii_alphabetic, is_ascii_hexdigit}
 use Rattle.rc_tokens.specs.Text.{Characters, each, is_digit_of, value_from}
 use Rattle.rc_tokens.specs.Said.{Sense, Character as a_character, Byte as a_byte, Dot, PerlClass, Asserts, Members}
@@ -10,6 +10,8 @@ use Rattle.rc_tokens.specs.declared.tokens.Member.{Member}
 use Rattle.rc_tokens.specs.declared.tokens.Member.TheVariants.{Character, Byte, Hyphen, Perl}
 use Rattle.rc_parser.specs.declared.config.Grammar.{Grammar}
 use Rattle.rc_parser.specs.declared.config.Grammar.TheVariants.{Stated, Full}
+use Rattle.rc_full_tokens.specs.Names.{is_group_name}
+use Rattle.rc_explain.specs.Full.{EscapesAssertion, HasSetAtom, IsCodeAbove, ReadsPastAscii, ReadsRange, ReadsSet}
 use Rattle.rc_explain.specs.declared.faults.Fault.{Fault}
 use Rattle.rc_explain.specs.declared.faults.FaultKind.{FaultKind}
 use Rattle.rc_explain.specs.declared.faults.FaultKind.TheVariants as kinds
@@ -65,10 +67,10 @@ pub record IsSuch (Such : Characters → Type 0) (text : Characters) (start end 
   pub here : Is cs text start end
 
 -- the span is the name of a group, between `<` and `>`
-pub record IsNamed (text : Characters) (start end : ℕ) : Type 0 where
+pub record IsNamed (Names : Characters → Bool) (text : Characters) (start end : ℕ) : Type 0 where
   pub opener : ℕ
   pub name : Characters
-  pub named : is_name name ≡ true
+  pub named : Names name ≡ true
   pub here : AreAt text opener (60 ∷ (name ++ 62 ∷ []))
   pub starts : start ≡ suc opener
   pub ends : end ≡ start + length name
@@ -176,11 +178,11 @@ pub data Shape : Type 1 where
   none_of : Characters → Shape
   -- such a text
   such : (Characters → Type 0) → Shape
-  -- the name of a group
-  named : Shape
+  -- the name of a group, which passes the test
+  named : (Characters → Bool) → Shape
   either : Shape → Shape → Shape
-  -- one character or more
-  part : Shape
+  -- one character or more, from a text to a rest of it that are so related
+  read : (Characters → Characters → Type 0) → Shape
   -- no part of the text alone
   nothing : Shape
 
@@ -191,15 +193,15 @@ Has (one test) t s e = IsOne test t s e
 Has (other test) t s e = IsOther test t s e
 Has (none_of cs) t s e = IsNoneOf cs t s e
 Has (such P) t s e = IsSuch P t s e
-Has named t s e = IsNamed t s e
+Has (named Names) t s e = IsNamed Names t s e
 Has (either a b) t s e = Has a t s e ⊎ Has b t s e
-Has part t s e = (s < e) × (e ≤ length t)
+Has (read Reads) t s e = (s < e) × (e ≤ length t) × Reads (drop s t) (drop e t)
 Has nothing t s e = ⊥
 
--- such a part in a text of the stated grammar, and any part in one of the full grammar
-abbrev pub or_part : Grammar → Shape → Shape
-or_part Stated shape = shape
-or_part Full shape = part
+-- the first in a text of the stated grammar, the second in one of the full grammar
+abbrev pub by_grammar : Grammar → Shape → Shape → Shape
+by_grammar Stated stated full = stated
+by_grammar Full stated full = full
 
 -- such a part, in a text of the stated grammar alone
 abbrev pub in_stated : Grammar → Shape → Shape
@@ -229,7 +231,7 @@ shape_of g kinds.DanglingNegation = exactly (45 ∷ [])
 shape_of g kinds.EmptyName = exactly (60 ∷ 62 ∷ [])
 shape_of g kinds.NameCharacter = other begins_name
 shape_of g kinds.UnclosedName = exactly (60 ∷ [])
-shape_of g kinds.DuplicateName = or_part g named
+shape_of g kinds.DuplicateName = by_grammar g (named is_name) (named is_group_name)
 -- it begins with one of `*+?{`
 shape_of g kinds.RepetitionOfNothing = either (begins 42 []) (either (begins 43 []) (either (begins 63 []) (begins 123 [])))
 shape_of g kinds.UncountedRepetition = exactly (123 ∷ [])
@@ -244,10 +246,10 @@ shape_of g kinds.NestedList = in_stated g (exactly (91 ∷ []))
 shape_of g kinds.PosixClass = in_stated g (exactly (91 ∷ 58 ∷ []))
 -- `&&`, `~~` or `--`
 shape_of g kinds.SetOperation = in_stated g (either (exactly (38 ∷ 38 ∷ [])) (either (exactly (126 ∷ 126 ∷ [])) (exactly (45 ∷ 45 ∷ []))))
-shape_of g kinds.AssertionInList = or_part g (such IsAssertion)
-shape_of g kinds.ClassInRange = or_part g (such (AreRange HasPerl))
-shape_of g kinds.RangeOutOfOrder = or_part g (such (AreRange IsAbove))
-shape_of g kinds.MemberPastAscii = or_part g (such IsPastAscii)
+shape_of g kinds.AssertionInList = by_grammar g (such IsAssertion) (read EscapesAssertion)
+shape_of g kinds.ClassInRange = by_grammar g (such (AreRange HasPerl)) (read (ReadsRange HasSetAtom))
+shape_of g kinds.RangeOutOfOrder = by_grammar g (such (AreRange IsAbove)) (read (ReadsRange IsCodeAbove))
+shape_of g kinds.MemberPastAscii = by_grammar g (such IsPastAscii) (read ReadsPastAscii)
 shape_of g kinds.DanglingBackslash = exactly (92 ∷ [])
 shape_of g kinds.UnknownEscape = begins 92 []
 -- `\p` or `\P`
@@ -262,7 +264,7 @@ shape_of g kinds.NoScalar = begins 92 []
 shape_of g kinds.UnclosedBrace = exactly (123 ∷ [])
 -- `\b{`
 shape_of g kinds.UnknownBoundary = begins 92 (98 ∷ 123 ∷ [])
-shape_of g kinds.NotUtf8 = or_part g (such IsAtom)
+shape_of g kinds.NotUtf8 = by_grammar g (such IsAtom) (read ReadsSet)
 shape_of g kinds.LineTerminator = exactly (46 ∷ [])
 shape_of g kinds.NestedTooDeeply = nothing
 

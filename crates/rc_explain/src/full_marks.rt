@@ -1,20 +1,20 @@
 //! Diagnostics scan of the full grammar: the marks of a text, up to the one that isn't read.
 
-ghost use Rattle.std.specs.Prelude.{◌≡◌, ◌⊎◌, ◌<◌, ◌≤◌, Bool, Option, IfOk, IfSome, MatchResult, OnOk, length};
+ghost use Rattle.std.specs.Prelude.{◌≡◌, ◌⊎◌, ◌↔◌, ◌<◌, ◌≤◌, Bool, Option, IfOk, IfSome, IsTrue, MatchResult, OnOk, length};
 ghost use Rattle.rc_tokens.specs.Said.{Opens, Start};
 ghost use Rattle.rc_tokens.specs.Text.{Characters};
 ghost use Rattle.rc_tokens.specs.View.{said_of};
 ghost use Rattle.rc_parser.specs.declared.config.Grammar.TheVariants.{Full};
 ghost use Rattle.rc_full_parser.specs.Marks as spec;
 ghost use Rattle.rc_full_parser.specs.View.{mark_of};
-ghost use Rattle.rc_explain.specs.Reading.{AreOpen};
+ghost use Rattle.rc_explain.specs.Reading.{AreOpen, BeginsMark};
 ghost use Rattle.rc_explain.specs.Shown.{HasShape, Shows, Stands};
 
 use crate::escapes::full_escape_fault;
 use crate::faults::FaultKind;
 use crate::full_lists::list_end;
 use crate::marks::{Standing, from};
-use crate::openings::opening_fault;
+use crate::openings::{name_of, opening_fault};
 use crate::places::Found;
 use crate::repetitions::counted_fault;
 use rc_full_lists::parts::{Settings, passed};
@@ -49,6 +49,13 @@ fn token_of(mark: Mark) -> Token
     }
 }
 
+/// Whether the mark is the `[` of a list.
+fn is_bracket(mark: &Mark) -> bool
+    ensures { IsTrue result ↔ (mark_of mark.now ≡ spec.brackets) }
+{
+    matches!(mark, Mark::Brackets)
+}
+
 impl Scan {
     /// The fault of a text that begins with no mark.
     fn unread_mark(
@@ -81,23 +88,11 @@ impl Scan {
         requires fits { length text.now ≤ usize.MAX }
         ensures { IfOk result (λ told. MatchResult told
             (λ r. (0 < r.1) × (r.1 ≤ length text.now)
-            × ((start : Start) (x : Option Bool) → mark_of r.0 ≡ spec.opens start x
-            → Stands text.now 0 40))
+            × BeginsMark (mark_of r.0) text.now r.1)
             (λ found. HasShape Full found.kind text.now found.start found.end)) }
     {
         let unicode = self.standing.is_unicode;
         let octal = config.get_octal();
-        if let ['[', ..] = text {
-            let settings = Settings {
-                unicode,
-                verbose: self.is_verbose,
-                octal,
-            };
-            return Ok(match list_end(alloc, settings, text)? {
-                Ok(count) => Ok((Mark::Brackets, count)),
-                Err(fault) => Err(fault),
-            });
-        }
         let settings = MarkSettings {
             unicode,
             octal,
@@ -105,7 +100,10 @@ impl Scan {
         };
         match first_mark(alloc, settings, text) {
             Ok((mark, rest)) => {
-                let count = text.len().saturating_sub(rest.len()).max(1);
+                if is_bracket(&mark) {
+                    return self.list_at(alloc, octal, text);
+                }
+                let count = text.len().saturating_sub(rest.len());
                 Ok(Ok((mark, count)))
             }
             Err(Refusal::Memory) => Err(AllocError),
@@ -113,31 +111,61 @@ impl Scan {
         }
     }
 
-    /// The fault of a mark that isn't allowed here; `None` if it is nested too deeply.
+    /// The list that begins the text, and its number of characters; or the fault there.
+    fn list_at(
+        &self,
+        alloc: Global,
+        octal: bool,
+        text: &[char],
+    ) -> Result<Result<(Mark, usize), Found>, AllocError>
+        requires opens { Stands text.now 0 91 }
+        requires fits { length text.now ≤ usize.MAX }
+        ensures { IfOk result (λ told. MatchResult told
+            (λ r. (0 < r.1) × (r.1 ≤ length text.now)
+            × BeginsMark (mark_of r.0) text.now r.1)
+            (λ found. HasShape Full found.kind text.now found.start found.end)) }
+    {
+        let settings = Settings {
+            unicode: self.standing.is_unicode,
+            verbose: self.is_verbose,
+            octal,
+        };
+        match list_end(alloc, settings, text)? {
+            Ok(count) => Ok(Ok((Mark::Brackets, count))),
+            Err(fault) => Ok(Err(fault)),
+        }
+    }
+
+    /// The fault of a mark that isn't allowed here; `None` if it is nested too deeply. The mark is the
+    /// first `count` characters.
     fn mark_fault(
         &self,
         alloc: Global,
         config: &Config,
         mark: &Mark,
         text: &[char],
+        count: usize,
     ) -> Result<Option<Found>, AllocError>
-        requires { 0 < length text.now }
+        requires some { 0 < count }
+        requires within { count ≤ length text.now }
+        requires begins { BeginsMark (mark_of mark.now) text.now count }
         ensures { IfOk result (λ told. IfSome told (λ found.
             HasShape Full found.kind text.now found.start found.end)) }
     {
-        if let Some(found) = self.standing.operator_fault(text) {
+        if let Some(found) = self.standing.operator_fault(text, count) {
             return Ok(Some(found));
         }
         match mark {
             Mark::Brackets | Mark::Stands(Piece::Byte(_) | Piece::Set(_) | Piece::Dot) => {
                 let config = config.ignore_whitespace(self.is_verbose);
-                self.standing.atom_fault(alloc, &config, text)
+                self.standing.atom_fault(alloc, &config, &text[..count])
             }
             Mark::Opens(Opening::Named(name), _) if self.standing.is_taken(name) => {
+                let (start, end) = name_of(text, count);
                 Ok(Some(Found {
                     kind: FaultKind::DuplicateName,
-                    start: 0,
-                    end: text.len(),
+                    start,
+                    end,
                 }))
             }
             _ => Ok(None),
@@ -199,7 +227,7 @@ pub fn full_fault_at(
         };
         let end = at.saturating_add(count);
         if at >= stop {
-            return match scan.mark_fault(alloc, config, &mark, &rest[..count])? {
+            return match scan.mark_fault(alloc, config, &mark, rest, count)? {
                 Some(fault) => Ok(fault.after(at)),
                 None => Ok(scan.standing.too_deep(end)),
             };

@@ -7,7 +7,7 @@ ghost use Rattle.rc_tokens.specs.Lexer.{lex};
 ghost use Rattle.rc_tokens.specs.Said.{Opens, Start};
 ghost use Rattle.rc_tokens.specs.Text.{Characters};
 ghost use Rattle.rc_tokens.specs.View.{said_of};
-ghost use Rattle.rc_explain.specs.Reading.{AreOpen, IsToken};
+ghost use Rattle.rc_explain.specs.Reading.{AreOpen, IsAtomFault, IsToken};
 ghost use Rattle.rc_explain.specs.Shown.{HasShape, Shows, Stands};
 
 use crate::escapes::escape_fault;
@@ -170,10 +170,7 @@ impl Standing {
         config: &Config,
         mark: &[char],
     ) -> Result<Option<Found>, AllocError>
-        ensures { (grammar : Grammar)
-            → HasShape grammar FaultKind.NotUtf8 mark.now 0 (length mark.now)
-            → IfOk result (λ told. IfSome told (λ found.
-            HasShape grammar found.kind mark.now found.start found.end)) }
+        ensures { IfOk result (λ told. IfSome told (IsAtomFault mark.now)) }
     {
         let end = mark.len();
         if parses_alone(
@@ -200,13 +197,15 @@ impl Standing {
         }
     }
 
-    /// The fault of a `)` or an operator that isn't allowed here. `mark` is its text.
-    pub fn operator_fault(&self, mark: &[char]) -> Option<Found>
+    /// The fault of a `)` or an operator that isn't allowed here. It is the first `count` characters of
+    /// the text.
+    pub fn operator_fault(&self, text: &[char], count: usize) -> Option<Found>
+        requires { 0 < count }
         ensures { (grammar : Grammar) → IfSome result (λ found.
-            HasShape grammar found.kind mark.now found.start found.end) }
+            HasShape grammar found.kind text.now found.start found.end) }
     {
-        match mark {
-            [')'] if self.groups.is_empty() => {
+        match text {
+            [')', ..] if self.groups.is_empty() => {
                 Some(Found {
                     kind: FaultKind::UnopenedGroup,
                     start: 0,
@@ -217,7 +216,7 @@ impl Standing {
                 Some(Found {
                     kind: FaultKind::RepetitionOfNothing,
                     start: 0,
-                    end: mark.len(),
+                    end: count,
                 })
             }
             _ => None,
@@ -233,12 +232,13 @@ impl Standing {
         token: &Token,
         mark: &[char],
     ) -> Result<Option<Found>, AllocError>
+        requires some { 0 < length mark.now }
         requires fits { length mark.now ≤ usize.MAX }
         requires token { IsToken (said_of token.now) mark.now 0 (length mark.now) }
         ensures { IfOk result (λ told. IfSome told (λ found.
             HasShape Stated found.kind mark.now found.start found.end)) }
     {
-        if let Some(found) = self.operator_fault(mark) {
+        if let Some(found) = self.operator_fault(mark, mark.len()) {
             return Ok(Some(found));
         }
         match token {
@@ -248,7 +248,7 @@ impl Standing {
                 None => self.atom_fault(alloc, config, mark),
             },
             Token::Opens(Opening::Named(name)) if self.is_taken(name) => {
-                let (start, end) = name_of(mark);
+                let (start, end) = name_of(mark, mark.len());
                 Ok(Some(Found {
                     kind: FaultKind::DuplicateName,
                     start,

@@ -1,9 +1,11 @@
 //! Diagnostics of group openings that don't parse.
 
-ghost use Rattle.std.specs.Prelude.{◌≡◌, ◌<◌, ◌-◌, ℕ, List, false, length};
+ghost use Rattle.std.specs.Prelude.{◌≡◌, ◌<◌, ◌≤◌, ◌-◌, ℕ, List, drop, false, length};
+ghost use Rattle.rc_tokens.specs.Marks.{is_name};
 ghost use Rattle.rc_tokens.specs.Said.{Named, Opens};
+ghost use Rattle.rc_full_tokens.specs.Names.{is_group_name};
 ghost use Rattle.rc_parser.specs.declared.config.Grammar.TheVariants.{Stated};
-ghost use Rattle.rc_explain.specs.Reading.{IsToken};
+ghost use Rattle.rc_explain.specs.Reading.{IsToken, OpensNamed};
 ghost use Rattle.rc_explain.specs.Shown.{HasShape, IsNamed, Stands, begins_name};
 
 use crate::faults::FaultKind;
@@ -95,13 +97,16 @@ fn name_fault(grammar: Grammar, mark: &[char], from: usize) -> Found
     }
 }
 
-/// The name that an opening gives its group: what is between `<` and `>`.
-pub fn name_of(mark: &[char]) -> (usize, usize)
-    ensures { (name : List ℕ) → IsToken (Opens (Named name)) mark.now 0 (length mark.now)
-        → IsNamed mark.now result.0 result.1 }
+/// The name that an opening of `count` characters gives its group: what is between `<` and `>`.
+pub fn name_of(text: &[char], count: usize) -> (usize, usize)
+    ensures stated { (name : List ℕ) → IsToken (Opens (Named name)) text.now 0 count
+        → IsNamed is_name text.now result.0 result.1 }
+    ensures full { (name : List ℕ) → count ≤ length text.now
+        → OpensNamed name text.now (drop count text.now)
+        → IsNamed is_group_name text.now result.0 result.1 }
 {
-    let end = mark.len().saturating_sub(1);
-    if is_at(mark, 2, 'P') {
+    let end = count.saturating_sub(1);
+    if is_at(text, 2, 'P') {
         (4, end)
     } else {
         (3, end)

@@ -150,7 +150,12 @@ const FULL: &str = r"a[b→unclosed list 1..2
 \p{L→unclosed brace 2..3
 (?-u)\pL→a property of characters among bytes 5..8
 [\pL-z]→a class as an end of a range 1..6
+[\d-é]→a class as an end of a range 1..6
+(?x)[a - \d]→a class as an end of a range 5..11
 [a[z-a]]→range out of order 3..6
+(?x)[\x{E9} - b]→range out of order 5..15
+(?<été>a)(?P<été>b)→duplicate group name 15..20
+(?-u)[^a]→bytes past ASCII where UTF-8 is asked for 5..9
 [a-z&&[\b]]→an assertion in a list 7..9
 (?-u)[a\x{E9}]→a character past ASCII in a list of bytes 7..13
 a{2, }→no counted repetition 1..2

@@ -1,6 +1,8 @@
-use Rattle.std.proofs.Common.{All, ℕ, rules, subst, sym}
+use Rattle.std.proofs.Common.{◌∙◌, ◌<◌, All, ap, length, ℕ, rules, subst, sym}
 use Rattle.std.proofs.lemmas.List.Elements.{All-pop, All-push}
+use Rattle.rc_full_lists.specs.Read.{read_part}
 use Rattle.rc_explain.specs.Shown.{Stands}
+use Rattle.rc_explain.proofs.FullLists.{closes_there}
 use Rattle.rc_explain.proofs.full_lists.list_end.Goals.{in-Ok-Closes-default+else-is_empty, in-Ok-Opens-default, then-is_at+in_ok-push-in-Ok-Opens-default, else-is_at, in-Ok}
 use Rattle.rc_explain.proofs.full_lists.list_end.Goals as goal
 
@@ -21,3 +23,10 @@ loop-preserved c =
           ])
       | in-Ok w ↦ subst (λ v. All P v.items) (sym w.opens-is) c.loop.invariant
     ]
+
+pub returns-then-is_empty : goal.returns-then-is_empty
+returns-then-is_empty c =
+    let w = c.in-Ok-Closes-default in
+    let inside : c.saturating_sub-at.result < length c.args.mark.now = search rules in
+    closes_there c.args.settings c.args.mark.now w.field-0-1.now c.saturating_sub-at.result w.field-0-0 c.requires.opens
+    (ap (read_part c.args.settings) (sym c.from-in-loop.ensures) ∙ w.ensures) w.field-0-0-is inside

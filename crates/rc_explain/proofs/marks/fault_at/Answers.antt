@@ -4,7 +4,7 @@ use Rattle.rc_parser.specs.declared.config.Grammar.TheVariants.{Stated}
 use Rattle.rc_explain.specs.Reading.{IsToken}
 use Rattle.rc_explain.specs.Shown.{HasShape, Shows, Stands, shape_of}
 use Rattle.rc_explain.proofs.Begins.{opens_at}
-use Rattle.rc_explain.proofs.Shapes.{shows, stands_shifted, wider}
+use Rattle.rc_explain.proofs.Shapes.{plain_stated, shows, stands_shifted, wider}
 use Rattle.rc_explain.proofs.Tokens.{token_alone}
 use Rattle.rc_explain.proofs.marks.fault_at.Goals.{in-None, in-Some-2}
 use Rattle.rc_explain.proofs.marks.fault_at.Goals as goal
@@ -19,7 +19,7 @@ returns-then-at-stop c =
           let here : HasShape Stated f.kind (take c.in-Some.count (drop c.loop.at t)) f.start f.end = search rules in
           subst (λ r. IfOk r (λ found. Shows Stated found.kind t found.start found.end)) (sym w.result-is)
           (shows Stated g.kind t g.start g.end
-          (w.after-in-Some-2.ensures Stated t c.requires (wider (shape_of Stated f.kind) c.in-Some.count (drop c.loop.at t) f.start f.end here)))
+          (w.after-in-Some-2.ensures Stated t c.requires (wider (shape_of Stated f.kind) c.in-Some.count (drop c.loop.at t) f.start f.end (plain_stated f.kind) here)))
       | in-None w ↦
           subst (λ r. IfOk r (λ found. Shows Stated found.kind t found.start found.end)) (sym w.result-is)
           (w.too_deep.ensures Stated t c.loop.invariant)
