@@ -1,6 +1,6 @@
 -- Caches: what callers see of one.
-use Rattle.std.specs.Prelude.{◌≡◌, ℕ, ◌≤◌, refl}
-use Rattle.std.specs.Coded.{Coded, code_by, coded×, coded_ℕ}
+use Rattle.std.specs.Prelude.{◌≡◌, ℕ, ◌+◌, ◌*◌, ◌≤◌, List, [], ◌∷◌, refl}
+use Rattle.std.specs.Coded.{Coded, code_by, coded×, coded_ℕ, coded_list}
 
 pub record Made : Type 0 where
   -- How many places programs have for which it is made.
@@ -9,11 +9,20 @@ pub record Made : Type 0 where
   pub columns : ℕ
   -- How many places the last pass of the last search entered.
   pub insertions : ℕ
+  -- How many elements each of its lists has room for.
+  pub room : List ℕ
 
 abbrev pub made_code : Coded Made
 made_code =
-    code_by (ℕ × (ℕ × ℕ)) (coded× coded_ℕ (coded× coded_ℕ coded_ℕ)) (λ m. (m.places, (m.columns, m.insertions)))
-    (λ p. record { places = p.0; columns = p.1.0; insertions = p.1.1 }) (λ _. refl)
+    code_by (ℕ × (ℕ × (ℕ × List ℕ))) (coded× coded_ℕ (coded× coded_ℕ (coded× coded_ℕ (coded_list coded_ℕ))))
+    (λ m. (m.places, (m.columns, (m.insertions, m.room))))
+    (λ p. record { places = p.0; columns = p.1.0; insertions = p.1.1.0; room = p.1.1.1 }) (λ _. refl)
+
+-- The room that it takes: of the threads of two positions and of their slots; of the places entered
+-- and of their indexes; of the closure's stack; and of two rows of slots.
+abbrev pub room_for : ℕ → ℕ → List ℕ
+room_for places columns =
+    (4 * places) ∷ (4 * places * columns) ∷ (4 * places) ∷ (4 * places * columns) ∷ places ∷ places ∷ (places + 1) ∷ columns ∷ columns ∷ []
 
 -- The cache is made for programs of so many places, and for rows of so many columns or more.
 abbrev pub IsCacheFor : ℕ → ℕ → Made → Type 0

@@ -14,8 +14,9 @@ pub record Thread : Type 0 where
 
 pub record ThreadList : Type 0 where
   pub items : List Thread
-  -- How many threads fit.
+  -- How many threads there is room for, and how many slots for all of them.
   pub room : ℕ
+  pub cells : ℕ
   -- How many slots a thread may have.
   pub most : ℕ
   -- How many slots each thread has.
@@ -29,9 +30,9 @@ thread_code =
 
 abbrev pub thread_list_code : Coded ThreadList
 thread_list_code =
-    code_by (List Thread × (ℕ × (ℕ × ℕ))) (coded× (coded_list thread_code) (coded× coded_ℕ (coded× coded_ℕ coded_ℕ)))
-    (λ l. (l.items, (l.room, (l.most, l.width))))
-    (λ p. record { items = p.0; room = p.1.0; most = p.1.1.0; width = p.1.1.1 }) (λ _. refl)
+    code_by (List Thread × (ℕ × (ℕ × (ℕ × ℕ)))) (coded× (coded_list thread_code) (coded× coded_ℕ (coded× coded_ℕ (coded× coded_ℕ coded_ℕ))))
+    (λ l. (l.items, (l.room, (l.cells, (l.most, l.width)))))
+    (λ p. record { items = p.0; room = p.1.0; cells = p.1.1.0; most = p.1.1.1.0; width = p.1.1.1.1 }) (λ _. refl)
 
 -- The thread of a head and its slots.
 abbrev pub thread_of : BareThread → List (Option ℕ) → Thread

@@ -18,6 +18,7 @@ pub struct Cache {
 impl Model for Cache {
     ghost use Rattle.std.specs.Prelude.{◌≡◌};
     ghost use Rattle.rc_pikevm.specs.Caches.{Made, made_code};
+    ghost use Rattle.rc_pikevm.specs.Scratches.{room_of};
 
     ghost Value = { Made };
 
@@ -27,6 +28,7 @@ impl Model for Cache {
       places = a.places;
       columns = a.columns;
       insertions = a.scratch.insertions;
+      room = room_of a.scratch;
     } };
 
     ghost invariant = { λ a. (a.scratch.next.entered.capacity ≡ a.places)
@@ -35,13 +37,17 @@ impl Model for Cache {
 
 impl Cache {
     ghost use Rattle.std.specs.Prelude.{◌≡◌, IfOk};
-    ghost use Rattle.rc_pikevm.specs.Caches.{IsCacheFor};
+    ghost use Rattle.rc_pikevm.specs.Caches.{IsCacheFor, room_for};
 
     /// A cache for programs of `places` places, and for searches whose rows of slots have at most
     /// `columns` columns. It allocates all that these searches need.
     pub fn new(alloc: Global, places: usize, columns: usize) -> Result<Cache, AllocError>
-        ensures { IfOk result (λ c. c
-            ≡ record { places = places; columns = columns; insertions = 0 }) }
+        ensures { IfOk result (λ c. c ≡ record {
+          places = places;
+          columns = columns;
+          insertions = 0;
+          room = room_for places columns;
+        }) }
     {
         Ok(Cache {
             scratch: Scratch::new(alloc, places, columns)?,

@@ -26,9 +26,11 @@ pub struct Growth {
     /// The slots of the thread that the closure is for.
     pub slots: Vec<Option<usize>>,
     ghost fits: { (threads.room ≡ 4 * entered.capacity)
-        × (entered.capacity + 1 ≤ vec_capacity stack) },
+        × (vec_capacity stack ≡ entered.capacity + 1) },
     ghost wide: { (length slots.items ≡ threads.width) × (threads.width ≤ threads.most)
-        × (threads.most ≤ vec_capacity slots) },
+        × (vec_capacity slots ≡ threads.most) },
+    ghost exact: { (threads.cells ≡ threads.room * threads.most)
+        × (entered.room ≡ entered.capacity) × (entered.indexes ≡ entered.capacity) },
 }
 
 /// Fills the row with `width` empty slots, in place of what it held.

@@ -22,7 +22,8 @@ pub struct Scratch {
     ghost alike: { (curr.room ≡ next.threads.room) × (curr.most ≡ next.threads.most)
         × (curr.width ≡ next.threads.width) },
     ghost wide: { (length found.items ≡ next.threads.width)
-        × (next.threads.most ≤ vec_capacity found) },
+        × (vec_capacity found ≡ next.threads.most) },
+    ghost exact: { curr.cells ≡ next.threads.cells },
 }
 
 /// If no place was entered and yet threads wait, inserts the first one's place. So a position that
@@ -31,6 +32,8 @@ fn touch(entered: &mut SparseSet, threads: &Threads)
     requires inside { (lo hi : ℕ) × AllIn entered.old.capacity lo hi threads.now.items }
     requires few { length entered.old.items ≤ entered.old.capacity }
     ensures capacity { entered.new.capacity ≡ entered.old.capacity }
+    ensures room { (entered.new.room ≡ entered.old.room)
+        × (entered.new.indexes ≡ entered.old.indexes) }
     ensures few { length entered.new.items ≤ entered.old.capacity }
     ensures more { length entered.old.items ≤ length entered.new.items }
     ensures some { (0 < length threads.now.items) → 0 < length entered.new.items }

@@ -20,7 +20,12 @@ impl Model for SparseSet {
 
     ghost coded = { members_code };
 
-    ghost view = { λ a. record { capacity = vec_len a.sparse; items = a.dense.items } };
+    ghost view = { λ a. record {
+      capacity = vec_len a.sparse;
+      items = a.dense.items;
+      room = vec_capacity a.dense;
+      indexes = vec_capacity a.sparse;
+    } };
 
     ghost invariant = { λ a. (vec_len a.sparse ≤ vec_capacity a.dense)
         × IsIndexed a.dense.items a.sparse.items };
@@ -29,10 +34,18 @@ impl Model for SparseSet {
 impl SparseSet {
     /// An empty set of numbers below `capacity`.
     pub fn new(alloc: Global, capacity: usize) -> Result<SparseSet, AllocError>
-        ensures { IfOk result (λ s. s ≡ record { capacity = capacity; items = [] }) }
+        ensures { IfOk result (λ s. s ≡ record {
+          capacity = capacity;
+          items = [];
+          room = capacity;
+          indexes = capacity;
+        }) }
     {
         let dense = Vec::with_capacity(alloc, capacity)?;
-        let sparse = vec![in alloc; 0usize; capacity]?;
+        let mut sparse = Vec::with_capacity(alloc, capacity)?;
+        for _ in 0..capacity {
+            sparse.push_reserved(0);
+        }
         Ok(SparseSet { dense, sparse })
     }
 

@@ -23,7 +23,6 @@ pub struct Threads {
     heads: Vec<BareThread>,
     /// The slots, `width` for each thread.
     rows: Vec<Option<usize>>,
-    room: usize,
     most: usize,
     width: usize,
 }
@@ -38,24 +37,24 @@ impl Model for Threads {
 
     ghost view = { λ a. record {
       items = threads_of a.width a.heads.items a.rows.items;
-      room = a.room;
+      room = vec_capacity a.heads;
+      cells = vec_capacity a.rows;
       most = a.most;
       width = a.width;
     } };
 
-    ghost invariant = { λ a. (vec_len a.heads ≤ a.room) × (a.room ≤ vec_capacity a.heads)
-        × (vec_len a.rows ≡ vec_len a.heads * a.width) × (a.width ≤ a.most)
-        × (a.room * a.most ≤ vec_capacity a.rows) };
+    ghost invariant = { λ a. (vec_len a.rows ≡ vec_len a.heads * a.width) × (a.width ≤ a.most)
+        × (vec_capacity a.heads * a.most ≤ vec_capacity a.rows) };
 }
 
 impl Threads {
-    ghost use Rattle.std.specs.Prelude.{◌≡◌, ◌<◌, ◌≤◌, [], ◌∷◌, ◌++◌, length, IfOk, Some, slice_get};
+    ghost use Rattle.std.specs.Prelude.{◌≡◌, ◌*◌, ◌<◌, ◌≤◌, [], ◌∷◌, ◌++◌, length, IfOk, Some, slice_get};
     ghost use Rattle.rc_pikevm.specs.Threads.{Thread, thread_of};
 
     /// Allocates for `room` threads of at most `most` slots each.
     pub fn new(alloc: Global, room: usize, most: usize) -> Result<Threads, AllocError>
         ensures { IfOk result (λ t. t
-            ≡ record { items = []; room = room; most = most; width = 0 }) }
+            ≡ record { items = []; room = room; cells = room * most; most = most; width = 0 }) }
     {
         let Some(cells) = room.checked_mul(most) else {
             return Err(AllocError);
@@ -65,7 +64,6 @@ impl Threads {
         Ok(Threads {
             heads,
             rows,
-            room,
             most,
             width: 0,
         })
@@ -140,10 +138,9 @@ impl Threads {
 fn append(cells: &mut Vec<Option<usize>>, row: &[Option<usize>])
     requires { vec_len cells.old + length row.now ≤ vec_capacity cells.old }
     ensures items { cells.new.items ≡ cells.old.items ++ row.now }
-    ensures capacity { vec_capacity cells.old ≤ vec_capacity cells.new }
+    ensures capacity { vec_capacity cells.new ≡ vec_capacity cells.old }
 {
-    if row.is_empty() {
-        return;
+    for cell in row {
+        cells.push_reserved(*cell);
     }
-    let _ = cells.extend_from_slice(row);
 }

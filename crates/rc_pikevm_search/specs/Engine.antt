@@ -18,7 +18,7 @@ engine_search e = search_of e.program
 abbrev pub IsEngineCache : Engine → ℕ → Made → Type 0
 IsEngineCache e slots cache = IsCacheFor (length e.program.places.items) (row_width (places_of e.program.places.items) slots) cache
 
--- The cache is made for what it was made for before.
+-- The second cache is made for what the first is made for, and its lists have the same room.
 abbrev pub IsSameCache : Made → Made → Type 0
 IsSameCache c d = d ≡ record c { insertions = d.insertions }
 

@@ -15,4 +15,5 @@ invariant_of-scratch c =
         ap (λ (l : ThreadList). l.width) moved ∙ alike.2,
       );
       wide = c.args.scratch.now.wide;
+      exact = ap (λ (l : ThreadList). l.cells) moved ∙ c.args.scratch.now.exact;
     }
