@@ -92,8 +92,8 @@ module _ {C : Type 0} {cursor : Ghosts C} where
   find_runs p s = as_is p (find_left p.from) (from_front (FindSteps {C = C} {cursor = cursor}) (λ x. x) find_left (λ s t h. ap length h.0.0) (λ s x t h. h.0) p s)
 
   pub find_keeps_along : (first : FindMatches C cursor) → FindKeepsAlong first
-  find_keeps_along first [] later run = subst (FindKeeps first) run (refl, refl, still first.input)
+  find_keeps_along first [] later run = subst (FindKeeps first) run (refl, refl, refl, still first.input)
   find_keeps_along first (item ∷ items) later run =
       let step = run.1.1.0 in
       let rest = find_keeps_along run.0 items later run.2 in
-      (rest.0 ∙ step.0, rest.1 ∙ step.1, moved_on step.2 rest.2)
+      (rest.0 ∙ step.0, rest.1 ∙ step.1, rest.2 ∙ step.2, moved_on step.3 rest.3)

@@ -1,5 +1,5 @@
 -- What caches are made for, and what they count.
-use Rattle.std.specs.Prelude.{ℕ, length}
+use Rattle.std.specs.Prelude.{◌≡◌, ℕ, length}
 use Rattle.rc_captures.specs.Names.{slot_len}
 use Rattle.rc_program.specs.Columns.{row_width}
 use Rattle.rc_program.specs.Program.{program, shown}
@@ -15,6 +15,10 @@ columns_of q = row_width (program (shown q.grouped q.patterns)) (slot_len (names
 -- The cache was made for searches for this: it has room for the program, and for rows of the slots of all groups that are kept.
 abbrev pub IsCacheFor : Sought → Cache → Type 0
 IsCacheFor q cache = pikevm.IsCacheFor (length (program (shown q.grouped q.patterns))) (columns_of q) cache.inner
+
+-- Each list of the second cache has room for as many elements as in the first: no memory was taken.
+abbrev pub HasSameRoom : Cache → Cache → Type 0
+HasSameRoom old new = new.inner.room ≡ old.inner.room
 
 -- how many places the last pass of the last search entered, over all positions
 abbrev pub insertions_of : Cache → ℕ

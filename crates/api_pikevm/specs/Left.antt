@@ -9,7 +9,7 @@ use Rattle.rc_program.specs.Kinds.{matches_by_kind}
 use Rattle.rc_program.specs.Sought.{search_for}
 use Rattle.rc_pikevm_search.specs.Moved.{IsMoved}
 use Rattle.rc_settings.specs.SearchSettings.{match_kind_of}
-use Rattle.api_pikevm.specs.Caches.{insertions_of}
+use Rattle.api_pikevm.specs.Caches.{HasSameRoom, insertions_of}
 use Rattle.api_pikevm.specs.Views.{sought, states_of, vm_settings}
 use Rattle.api_pikevm.specs.declared.vm.PikeVM.{PikeVM}
 use Rattle.api_pikevm.specs.declared.iterators.FindMatches.{FindMatches}
@@ -45,10 +45,12 @@ module _ {C : Type 0} {cursor : Ghosts C} where
   abbrev pub find_lender : FindMatches C cursor → GName
   find_lender s = s.cache.ghost_name
 
-  -- Old and new search for the same, borrow the same cache, and have the same input but for its chunk, its position and the start of
-  -- its span.
+  -- Old and new search for the same, borrow the same cache, whose lists have the same room, and have the same input but for its chunk,
+  -- its position and the start of its span.
   abbrev pub FindKeeps : FindMatches C cursor → FindMatches C cursor → Type 0
-  FindKeeps old new = (find_vm new ≡ find_vm old) × (find_lender new ≡ find_lender old) × IsMoved (find_input old) (find_input new)
+  FindKeeps old new =
+      (find_vm new ≡ find_vm old) × (find_lender new ≡ find_lender old) × HasSameRoom old.cache.now new.cache.now
+      × IsMoved (find_input old) (find_input new)
 
   -- no match is left, whatever the input becomes
   abbrev pub IsOver : FindMatches C cursor → Type 0

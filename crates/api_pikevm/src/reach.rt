@@ -10,7 +10,7 @@ ghost use Rattle.rc_program.specs.Sought.{passes_over, search_for};
 ghost use Rattle.rc_reach.specs.Reads.{ReadsBelow};
 ghost use Rattle.rc_reach.specs.Settled.{IsSettled};
 ghost use Rattle.rc_settings.specs.SearchSettings.{match_kind_of};
-ghost use Rattle.api_pikevm.specs.Caches.{IsCacheFor};
+ghost use Rattle.api_pikevm.specs.Caches.{HasSameRoom, IsCacheFor};
 ghost use Rattle.api_pikevm.specs.Views.{sought, vm_settings};
 
 use crate::cache::Cache;
@@ -42,6 +42,7 @@ pub struct Reached {
 pub fn search_reach<C: Cursor>(vm: &PikeVM, cache: &mut Cache, input: &mut Input<C>) -> Reached
     requires made { IsCacheFor (sought vm.now) cache.old }
     ensures cache { IsCacheFor (sought vm.now) cache.new }
+    ensures room { HasSameRoom cache.old cache.new }
     ensures keeps { Keeps input.old input.new }
     ensures found { result.found
         ≡ answer_by (match_kind_of (vm_settings vm.now)) (search_for (sought vm.now) input.old) }

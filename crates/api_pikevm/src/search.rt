@@ -12,7 +12,7 @@ ghost use Rattle.rc_program.specs.Matches.{matches_left};
 ghost use Rattle.rc_pikevm.specs.KindSlots.{slots_by};
 ghost use Rattle.rc_pikevm_search.specs.Moved.{IsMoved};
 ghost use Rattle.rc_pikevm_search.specs.Tells.{TellsBy};
-ghost use Rattle.api_pikevm.specs.Caches.{IsCacheFor, insertions_of};
+ghost use Rattle.api_pikevm.specs.Caches.{HasSameRoom, IsCacheFor, insertions_of};
 ghost use Rattle.rc_settings.specs.SearchSettings.{match_kind_of};
 ghost use Rattle.api_pikevm.specs.Views.{sought, states_of, vm_names, vm_settings};
 ghost use Rattle.api_pikevm.specs.Left.{FindKeepsAlong, FindSteps, IsCounted, find_input, find_left, find_lender, find_vm, matches_in};
@@ -38,6 +38,7 @@ use rc_text::types::{Match, PatternID};
 pub fn is_match<C: Cursor>(vm: &PikeVM, cache: &mut Cache, input: &mut Input<C>) -> bool
     requires made { IsCacheFor (sought vm.now) cache.old }
     ensures cache { IsCacheFor (sought vm.now) cache.new }
+    ensures room { HasSameRoom cache.old cache.new }
     ensures keeps { Keeps input.old input.new }
     ensures found_by { IsTrue result ↔ IsSome
         (answer_by (match_kind_of (vm_settings vm.now)) (search_for (sought vm.now) input.old)) }
@@ -70,6 +71,7 @@ pub fn search<C: Cursor>(vm: &PikeVM, cache: &mut Cache, input: &mut Input<C>, c
     requires made { IsCacheFor (sought vm.now) cache.old }
     requires for_vm { IsCapturesFor (vm_names vm.now) caps.old }
     ensures cache { IsCacheFor (sought vm.now) cache.new }
+    ensures room { HasSameRoom cache.old cache.new }
     ensures keeps { Keeps input.old input.new }
     ensures still_made { IsCapturesFor (vm_names vm.now) caps.new }
     ensures long { length (captures_slots caps.new) ≡ length (captures_slots caps.old) }
@@ -119,6 +121,7 @@ pub fn search_slots<C: Cursor>(
     requires made { IsCacheFor (sought vm.now) cache.old }
     requires few_slots { length slots.old ≤ slot_len (vm_names vm.now) }
     ensures cache { IsCacheFor (sought vm.now) cache.new }
+    ensures room { HasSameRoom cache.old cache.new }
     ensures keeps { Keeps input.old input.new }
     ensures pattern_by { result
         ≡ option_map (λ (m : Found). m.pattern)
@@ -189,6 +192,7 @@ pub(crate) fn next_match<C: Cursor>(
 ) -> Option<Match>
     requires made { IsCacheFor (sought vm.now) cache.old }
     ensures cache { IsCacheFor (sought vm.now) cache.new }
+    ensures room { HasSameRoom cache.old cache.new }
     ensures left { MatchOption result
         (matches_in vm.now input.old last ≡ [])
         (λ m. matches_in vm.now input.old last ≡ m ∷ matches_in vm.now input.new (Some m.end)) }
