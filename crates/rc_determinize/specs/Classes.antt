@@ -1,5 +1,5 @@
 -- Byte classes: which bytes a program can tell apart.
-use Rattle.std.specs.Prelude.{◌≡◌, ℕ, ◌+◌, ◌<◌, Bool, false, ◌&&◌, ◌||◌, List, [], ◌∷◌, length, Some, nat_le, nat_eq, slice_index, if◌then◌else◌}
+use Rattle.std.specs.Prelude.{◌≡◌, ℕ, ◌+◌, ◌<◌, Bool, false, ◌&&◌, ◌||◌, List, [], ◌∷◌, length, Some, nat_le, nat_eq, slice_index, slice_index_or, if◌then◌else◌}
 use Rattle.std.specs.List.{list_any}
 use Rattle.rc_pattern.specs.Re.{Range}
 use Rattle.rc_program.specs.Looks.{differ}
@@ -20,6 +20,10 @@ parts b r = differ (is_within r b) (is_within r (b + 1))
 abbrev pub are_parted : List Place → ℕ → Bool
 are_parted [] b = false
 are_parted (q ∷ qs) b = list_any (parts b) (ranges_of q) || are_parted qs b
+
+-- The flags say of which bytes some range of the places does.
+abbrev pub ArePartedAt : List Place → List Bool → Type 0
+ArePartedAt places flags = (b : ℕ) → b < 255 → slice_index_or flags b false ≡ are_parted places b
 
 -- The facts about the two are different: those about lines, or those about words.
 abbrev pub is_other_line : Seen → Seen → Bool
