@@ -15,5 +15,7 @@ pub mod FrontLemmas
 pub mod HeldLemmas
 pub mod StartLemmas
 pub mod OverlapLemmas
+pub mod LookaheadLemmas
+pub mod NearLemmas
 pub mod ReachLemmas
 pub mod PartialLemmas

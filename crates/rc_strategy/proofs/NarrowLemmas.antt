@@ -26,7 +26,7 @@ use Rattle.rc_strategy.specs.Narrow.{narrowed, NarrowLaw}
 abbrev Leaves : ℕ → List Pair → List Pair → Type 0
 Leaves low wide slim = (slim ≡ wide) ⊎ ((slim ≡ []) × ((m : Pair) → IsIn m wide → low < m.1))
 
-first_in : (ways : Pair → List Pair) (Ends : Pair → Type 0) {p f w : List Pair} → IsWalk ways Ends p f w → (m : Pair) × IsIn m f × IsIn m w
+pub first_in : (ways : Pair → List Pair) (Ends : Pair → Type 0) {p f w : List Pair} → IsWalk ways Ends p f w → (m : Pair) × IsIn m f × IsIn m w
 first_in ways Ends (stops n here fresh stop) = (n, here, inl refl)
 first_in ways Ends (goes n here fresh rest) = (n, here, inl refl)
 

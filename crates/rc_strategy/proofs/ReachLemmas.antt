@@ -1,5 +1,8 @@
 -- How many bytes settle what engines find.
-use Rattle.std.proofs.Common.{◌≡◌, ◌∙◌, ℕ, zero, suc, ◌+◌, ◌≤◌, min, false, List, [], ◌∷◌, take, Option, Some, None, IfSome, ap, sym, subst, refl, arith}
+use Rattle.std.proofs.Common.{◌≡◌, ◌∙◌, ℕ, zero, suc, ◌+◌, ◌-◌, ◌^◌, ◌<◌, ◌≤◌, max, min, true, false, true≢false, List, [], ◌∷◌, take, Option, Some, None, IfSome, ⊎_elim, ap, sym, subst, refl, arith}
+use Rattle.std.specs.Prelude.{MatchOption}
+use Rattle.std.specs.Option.{option_map}
+use Rattle.std.proofs.lemmas.Bool.{cases_lt}
 use Rattle.std.proofs.lemmas.List.{length-take, take-take}
 use Rattle.rc_text.specs.declared.types.MatchKind.{MatchKind}
 use Rattle.rc_program.specs.Answer.{Search}
@@ -11,10 +14,18 @@ use Rattle.rc_text.specs.Text.{Keeps, Searched, slice_end}
 use Rattle.rc_program.specs.Kinds.{answer_by}
 use Rattle.rc_pikevm_search.specs.Engine.{engine_search}
 use Rattle.rc_pikevm_search.specs.declared.engine.Engine.{Engine}
-use Rattle.rc_reach.specs.Settled.{AgreesBelow, IsInside, IsSettled}
+use Rattle.rc_program.specs.Places.{places_of}
+use Rattle.rc_reach.specs.Settled.{AgreesBelow, IsInside, IsSettled, IsWalkSettled}
+use Rattle.rc_reach.proofs.LawLemmas.{reach_law}
+use Rattle.rc_reach.proofs.SliceLemmas.{slice_law}
 use Rattle.rc_dfa_search.specs.Reaches.{IsAnswerBelow}
 use Rattle.rc_dfa_search.specs.declared.reach.Settled.{Settled}
-use Rattle.rc_dfa_search.proofs.ReachLemmas.{answer_far}
+use Rattle.rc_dfa_search.proofs.ReachLemmas.{answer_far, itself}
+use Rattle.rc_dfa_search.proofs.SettledLemmas.{agrees_less}
+use Rattle.rc_strategy.specs.Lengths.{BoundsWalks, is_leftmost}
+use Rattle.rc_strategy.specs.Lookahead.{IsLookahead}
+use Rattle.rc_strategy.specs.declared.lengths.Lengths.{Lengths}
+use Rattle.rc_strategy.proofs.NearLemmas.{groups_settled, near_settled, none_settled}
 
 engine_inside : (e : Engine) (i : Searched) → IsInside (engine_search e i)
 engine_inside e i = record { lo = omega arith; hi = omega arith; slice_end = omega arith }
@@ -89,3 +100,58 @@ below e i o r is settled t inside agrees = settled t inside agrees ∙ sym is
 
 pub past_reach : (e : Engine) (i : Searched) (o : Option Found) (r : ℕ) → IsAnswerBelow e.kind (engine_search e i) r o → IfSome o (λ m. m.end ≤ r)
 past_reach e i o r = settled_past e.kind r (engine_search e i) o (engine_inside e i)
+
+-- BY LENGTHS
+
+pub by_length : (e : Engine) (i : Searched) (k : Lengths) (a n r : ℕ) (m : Found) → BoundsWalks k (places_of e.program.places.items) →
+    IsLookahead e.program.passes_over (places_of e.program.places.items) a → Some m ≡ answer_by e.kind (engine_search e i) → is_leftmost e.kind ≡ true →
+    k.greatest ≡ Some n → slice_end i + 1 < 2 ^ 64 → r ≡ min (min (m.start + n) (2 ^ 64 - 1) + a) (2 ^ 64 - 1) →
+    IsAnswerBelow e.kind (engine_search e i) r (Some m)
+by_length e i k a n r m bound looking is left most fits at =
+    ⊎_elim
+    (λ over. answer_far e.kind (engine_search e i) r (Some m) (engine_inside e i) (omega (arith, at, over, fits)) (sym is))
+    (λ within.
+    near_settled e.kind (engine_search e i) a n r m (λ all. true≢false (sym left ∙ ap is_leftmost all)) (engine_inside e i) looking.looks
+    (λ u f same spells. (bound u f same spells).greatest n most) (omega (arith, at, within))
+    (λ over. let one = looking.passing over in omega (arith, at, within, one)) (sym is))
+    (cases_lt (2 ^ 64 - 1) (m.start + n + a))
+
+-- the lesser of two counts
+pub lesser : (e : Engine) (i : Searched) (o : Option Found) (m n : ℕ) → IsAnswerBelow e.kind (engine_search e i) m o → IsAnswerBelow e.kind (engine_search e i) n o →
+    IsAnswerBelow e.kind (engine_search e i) (min m n) o
+lesser e i o m n x y =
+    ⊎_elim (λ l. let same : m ≡ min m n = omega (arith, l) in subst (λ r. IsAnswerBelow e.kind (engine_search e i) r o) same x)
+    (λ g. let same : n ≡ min m n = omega (arith, g) in subst (λ r. IsAnswerBelow e.kind (engine_search e i) r o) same y) (cases_lt m n)
+
+-- what was found is the answer
+pub answered : (e : Engine) (i : Searched) (r : ℕ) (o : Option Found) → IsAnswerBelow e.kind (engine_search e i) r o → o ≡ answer_by e.kind (engine_search e i)
+answered e i r o h = sym (h (engine_search e i) (engine_inside e i) (itself (engine_search e i) r))
+
+-- GROUPS
+
+settled_more : (e : Engine) (i : Searched) (r q : ℕ) (o : Option Found) → r ≤ q → IsAnswerBelow e.kind (engine_search e i) r o →
+    IsSettled e.kind q (engine_search e i)
+settled_more e i r q o le h t in2 agrees =
+    h t in2 (agrees_less (engine_search e i) t r q le agrees) ∙ answered e i r o h
+
+-- without a match
+pub groups_none : (e : Engine) (i : Searched) (r : ℕ) (o : Option Found) → o ≡ None → IsAnswerBelow e.kind (engine_search e i) r o →
+    IsWalkSettled e.kind r (engine_search e i)
+groups_none e i r o none h =
+    none_settled e.kind (engine_search e i) r (sym (answered e i r o h) ∙ none) (settled_more e i r r o (omega arith) h)
+
+pub groups_some : (e : Engine) (i : Searched) (a r q : ℕ) (o : Option Found) (m : Found) → IsLookahead e.program.passes_over (places_of e.program.places.items) a →
+    o ≡ Some m → IsAnswerBelow e.kind (engine_search e i) r o → slice_end i + 1 < 2 ^ 64 → q ≡ max r (min (m.end + a) (2 ^ 64 - 1)) →
+    IsWalkSettled e.kind q (engine_search e i)
+groups_some e i a r q o m looking some h fits at =
+    ⊎_elim
+    (λ over. reach_law.more e.kind (engine_search e i) (slice_end i + 1) q (omega (arith, at, over, fits)) (slice_law e.kind (engine_search e i) (engine_inside e i)))
+    (λ within.
+    groups_settled e.kind (engine_search e i) a q m (engine_inside e i) looking.looks (omega (arith, at, within)) (sym (answered e i r o h) ∙ some)
+    (settled_more e i r q o (omega (arith, at)) h))
+    (cases_lt (2 ^ 64 - 1) (m.end + a))
+
+-- what holds with a match holds with its pattern
+pub slots_by_pattern : (o : Option Found) (A B : Type 0) → MatchOption o A (λ _. B) → MatchOption (option_map (λ (m : Found). m.pattern) o) A (λ _. B)
+slots_by_pattern None A B h = h
+slots_by_pattern (Some m) A B h = h

@@ -10,5 +10,6 @@ pub mod Route
 pub mod Routes
 pub mod Slots
 pub mod Lengths
+pub mod Lookahead
 pub mod Starts
 pub mod Tables

@@ -5,10 +5,12 @@ ghost use Rattle.rc_strategy.specs.Needed.{NeedsConfine};
 ghost use Rattle.rc_strategy.specs.Routes.{AreLongest, Serves, ServesAll};
 ghost use Rattle.rc_strategy.specs.Slots.{IsOfPatterns, MayBeOnePass, NamesGroups};
 ghost use Rattle.rc_strategy.specs.Lengths.{BoundsWalks};
+ghost use Rattle.rc_strategy.specs.Lookahead.{IsLookahead};
 ghost use Rattle.rc_strategy.specs.Tables.{MayBeLazyFor, MayBeTablesFor};
 
 use crate::cache::Cache;
 use crate::lengths::Lengths;
+use crate::lookahead::lookahead_of;
 use crate::onepass::onepass_of;
 use crate::question::{Question, half_of};
 use crate::route::{LongestLiterals, Route, anchored_route, free_route};
@@ -65,6 +67,8 @@ pub struct Engines {
     pub(crate) sought_fast: bool,
     /// How many bytes the longest literals have.
     pub(crate) longest: LongestLiterals,
+    /// How many bytes after their position the assertions look at, at most.
+    pub(crate) lookahead: usize,
     /// How DFA searches go that aren't anchored.
     pub(crate) free_route: Route,
     /// How anchored DFA searches go.
@@ -78,6 +82,8 @@ pub struct Engines {
     ghost needed: { NeedsConfine needs
         (places_of engine.program.places.items) engine.program.terminator },
     ghost measured: { AreLongest engine.literals needs longest },
+    ghost looking: { IsLookahead engine.program.passes_over
+        (places_of engine.program.places.items) lookahead },
     ghost free: { Serves engine.kind spans No free_route },
     ghost anchored: { ServesAll engine.kind spans anchored_route },
 }
@@ -150,6 +156,7 @@ impl Engines {
         let onepass = onepass_of(alloc, &engine)?;
         let sought_fast = are_fast(&engine.literals);
         let longest = LongestLiterals::new(&engine.literals, &needs);
+        let lookahead = lookahead_of(&engine.program);
         let free_route = free_route(engine.kind, &spans);
         let anchored_route = anchored_route(engine.kind, &spans);
         Ok(Engines {
@@ -162,6 +169,7 @@ impl Engines {
             needs,
             sought_fast,
             longest,
+            lookahead,
             free_route,
             anchored_route,
         })

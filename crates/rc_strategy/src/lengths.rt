@@ -142,6 +142,14 @@ impl Lengths {
         self.ends && (self.begins || input.get_anchored().is_anchored())
     }
 
+    /// Returns the greatest length of the spans in bytes, if it is known.
+    #[inline(always)]
+    pub(crate) fn greatest_length(&self) -> Option<usize>
+        ensures { result ≡ self.now.greatest }
+    {
+        self.greatest
+    }
+
     /// Returns the length of each span in bytes, if all are known to have the same.
     pub(crate) fn only_length(&self) -> Option<usize>
         ensures { IfSome result (λ n. IsOneLength self.now n) }

@@ -7,6 +7,7 @@ mod entries;
 pub mod laws;
 pub mod lengths;
 mod longest;
+mod lookahead;
 mod onepass;
 mod overlap;
 pub mod partial;

@@ -1,5 +1,7 @@
 //! Reaches: searches that tell how many bytes settle what they find.
 ghost use Rattle.std.specs.Prelude.{◌≡◌, ◌+◌, ◌≤◌};
+ghost use Rattle.std.specs.Option.{option_map};
+ghost use Rattle.rc_text.specs.Found.{Found};
 ghost use Rattle.rc_text.specs.Text.{slice_end};
 
 use crate::cache::Cache;
@@ -7,6 +9,8 @@ use crate::engines::Engines;
 use crate::pass::settle_by_pass;
 use crate::question::Question;
 use crate::route::{Route, TableChoice};
+use rc_captures::captures;
+use rc_captures::captures::Captures;
 use rc_dense_dfa::dense::NoCache;
 use rc_dfa::halves::Halves;
 use rc_dfa_search::first::find_settled_near;
@@ -19,7 +23,7 @@ use rc_needles::prefilter::Prefilter;
 use rc_pikevm_search::literals::guards_of;
 use rc_text::cursor::Cursor;
 use rc_text::input::{Input, content_fits};
-use rc_text::types::{Anchored, Match, MatchError};
+use rc_text::types::{Anchored, Match, MatchError, MatchKind, PatternID};
 
 /// A search that may have looked at the end of the slice and the byte there.
 #[inline(always)]
@@ -34,12 +38,27 @@ pub(crate) fn settled_at_end<C: Cursor>(input: &Input<C>, found: Option<Match>) 
     }
 }
 
+/// Returns the pattern of a match, if there is one.
+fn pattern_of(found: Option<Match>) -> Option<PatternID>
+    ensures { result ≡ option_map (λ (m : Found). m.pattern) found }
+{
+    match found {
+        Some(found) => Some(found.pattern()),
+        None => None,
+    }
+}
+
 impl Engines {
-    ghost use Rattle.std.specs.Prelude.{◌≡◌, ◌≤◌, IfOk, IfSome, IsTrue, true};
+    ghost use Rattle.std.specs.Prelude.{◌≡◌, ◌≤◌, IfOk, IfSome, IsTrue, MatchOption, Some, length, true};
     ghost use Rattle.rc_text.specs.Bounds.{IsWithinBounds};
     ghost use Rattle.rc_text.specs.Text.{Keeps};
     ghost use Rattle.rc_text.specs.declared.types.Anchored.TheVariants.{No};
+    ghost use Rattle.rc_captures.specs.Captures.{captures_names, captures_slots};
+    ghost use Rattle.rc_program.specs.Kinds.{answer_by};
     ghost use Rattle.rc_program.specs.Places.{places_of};
+    ghost use Rattle.rc_reach.specs.Settled.{IsWalkSettled};
+    ghost use Rattle.rc_pikevm.specs.KindSlots.{slots_by};
+    ghost use Rattle.rc_pikevm_search.specs.Tells.{TellsBy};
     ghost use Rattle.rc_needles.specs.Guards.{Guards};
     ghost use Rattle.rc_needles.specs.Needles.{longest};
     ghost use Rattle.rc_needles.specs.Prefilters.{needles_of};
@@ -47,6 +66,7 @@ impl Engines {
     ghost use Rattle.rc_dfa_search.specs.Aims.{AreBounds};
     ghost use Rattle.rc_dfa_search.specs.Reaches.{IsAnswerBelow, TellsReach};
     ghost use Rattle.rc_strategy.specs.Caches.{IsCacheIn, IsCacheOfBoth, IsSameCacheIn, KeepsStates};
+    ghost use Rattle.rc_strategy.specs.Lengths.{is_leftmost};
     ghost use Rattle.rc_strategy.specs.Tables.{AreHalvesFor, aim_of};
 
     /// Whether a DFA search of this input tells its reach: it goes forwards, and the match is
@@ -237,6 +257,64 @@ impl Engines {
         Some(settled_at_end(input, found))
     }
 
+    /// Returns the match by an engine, and how many bytes settle it as far as that engine tells. It
+    /// allocates nothing but states that the lazy DFA reaches for the first time, within the
+    /// cache's capacity.
+    #[inline(always)]
+    fn settle_by_engine<C: Cursor>(&self, cache: &mut Cache, input: &mut Input<C>) -> Settled
+        requires made { IsCacheIn self.now 0 cache.old }
+        ensures keeps { Keeps input.old input.new }
+        ensures settled { IsAnswerBelow self.now.engine.kind
+            (engine_search self.now.engine input.old) result.reach result.found }
+        ensures within { IfSome result.found (IsWithinBounds input.old) }
+        ensures cache { IsSameCacheIn self.now cache.old cache.new }
+    {
+        let Some(bounds) = self.spans.bounds(input) else {
+            return settled_at_end(input, None);
+        };
+        if let Some(settled) = self.settle_by_tables(&mut cache.lazy, input, bounds) {
+            return settled;
+        }
+        settle_by_pass(&self.engine, &mut cache.pass, input)
+    }
+
+    /// Returns how many bytes settle a leftmost match, if no match has more than `longest` bytes:
+    /// as many as the longest match from its start has, and those after them at which assertions
+    /// look.
+    #[inline(always)]
+    fn reach_of_length<C: Cursor>(&self, input: &Input<C>, found: Match, longest: usize) -> usize
+        requires answer { Some found
+            ≡ answer_by self.now.engine.kind (engine_search self.now.engine input.now) }
+        requires leftmost { is_leftmost self.now.engine.kind ≡ true }
+        requires longest { self.now.spans.greatest ≡ Some longest }
+        ensures { IsAnswerBelow self.now.engine.kind
+            (engine_search self.now.engine input.now) result (Some found) }
+    {
+        content_fits(input);
+        let end = found.start().saturating_add(longest);
+        end.saturating_add(self.lookahead)
+    }
+
+    /// Returns how many bytes settle what a search of the input found, by the greatest length of
+    /// the matches, if that is fewer bytes.
+    #[inline(always)]
+    fn least_reach<C: Cursor>(&self, input: &Input<C>, settled: Settled) -> usize
+        requires settled { IsAnswerBelow self.now.engine.kind
+            (engine_search self.now.engine input.now) settled.reach settled.found }
+        ensures { IsAnswerBelow self.now.engine.kind
+            (engine_search self.now.engine input.now) result settled.found }
+    {
+        let (Some(found), Some(longest)) = (settled.found, self.spans.greatest_length()) else {
+            return settled.reach;
+        };
+        match self.engine.kind {
+            MatchKind::All => settled.reach,
+            MatchKind::LeftmostFirst | MatchKind::LeftmostLongest => self
+                .reach_of_length(input, found, longest)
+                .min(settled.reach),
+        }
+    }
+
     /// Returns the match that `find` returns, and how many bytes settle it. It allocates nothing
     /// but states that the lazy DFA reaches for the first time, within the cache's capacity.
     pub fn find_settled<C: Cursor>(&self, cache: &mut Cache, input: &mut Input<C>) -> Settled
@@ -248,12 +326,78 @@ impl Engines {
         ensures within { IfSome result.found (IsWithinBounds input.old) }
         ensures cache { IsSameCacheIn self.now cache.old cache.new }
     {
-        let Some(bounds) = self.spans.bounds(input) else {
-            return settled_at_end(input, None);
-        };
-        if let Some(settled) = self.settle_by_tables(&mut cache.lazy, input, bounds) {
-            return settled;
+        let settled = self.settle_by_engine(cache, input);
+        Settled {
+            found: settled.found,
+            reach: self.least_reach(input, settled),
         }
-        settle_by_pass(&self.engine, &mut cache.pass, input)
+    }
+
+    /// Returns the match that `find` returns, and writes the first of its slots. Without a match
+    /// the slots stay as they are. Returns also how many bytes settle the match and its groups:
+    /// those that settle the match, and those after its end at which assertions look. It allocates
+    /// only what `find` does.
+    fn settle_slots<C: Cursor>(
+        &self,
+        cache: &mut Cache,
+        input: &mut Input<C>,
+        slots: &mut [Option<usize>],
+    ) -> Settled
+        requires made { IsCacheIn self.now (length slots.old) cache.old }
+        ensures keeps { Keeps input.old input.new }
+        ensures answer { result.found
+            ≡ answer_by self.now.engine.kind (engine_search self.now.engine input.old) }
+        ensures settled { IsWalkSettled self.now.engine.kind result.reach
+            (engine_search self.now.engine input.old) }
+        ensures past { IfSome result.found (λ m. m.end ≤ result.reach) }
+        ensures within { IfSome result.found (IsWithinBounds input.old) }
+        ensures long { length slots.new ≡ length slots.old }
+        ensures slots { MatchOption result.found
+            (slots.new ≡ slots.old)
+            (λ _. Some slots.new ≡ slots_by self.now.engine.kind
+            (engine_search self.now.engine input.old) (length slots.old)) }
+        ensures cache { IsSameCacheIn self.now cache.old cache.new }
+    {
+        let settled = self.find_settled(cache, input);
+        let Some(found) = settled.found else {
+            return settled;
+        };
+        content_fits(input);
+        self.fill_slots(&mut cache.pass, input, found, slots);
+        let groups = found.end().saturating_add(self.lookahead);
+        Settled {
+            found: settled.found,
+            reach: settled.reach.max(groups),
+        }
+    }
+
+    /// Writes the match that a search finds, with its groups, into captures of the program's
+    /// patterns, as `find_captures` does. Returns the match, and how many bytes settle it and its
+    /// groups. It allocates only what `find` does.
+    pub fn settle_captures<C: Cursor>(
+        &self,
+        cache: &mut Cache,
+        input: &mut Input<C>,
+        caps: &mut Captures,
+    ) -> Settled
+        requires made { IsCacheIn self.now (length (captures_slots caps.old)) cache.old }
+        ensures keeps { Keeps input.old input.new }
+        ensures names { captures_names caps.new ≡ captures_names caps.old }
+        ensures long { length (captures_slots caps.new) ≡ length (captures_slots caps.old) }
+        ensures told { TellsBy self.now.engine.kind
+            (engine_search self.now.engine input.old) caps.new }
+        ensures answer { result.found
+            ≡ answer_by self.now.engine.kind (engine_search self.now.engine input.old) }
+        ensures settled { IsWalkSettled self.now.engine.kind result.reach
+            (engine_search self.now.engine input.old) }
+        ensures past { IfSome result.found (λ m. m.end ≤ result.reach) }
+        ensures within { IfSome result.found (IsWithinBounds input.old) }
+        ensures cache { IsSameCacheIn self.now cache.old cache.new }
+    {
+        captures::clear(caps);
+        let settled = self.settle_slots(cache, input, caps.slots_mut());
+        let pattern = pattern_of(settled.found);
+        captures::set_pattern(caps, pattern);
+        settled
     }
 }
