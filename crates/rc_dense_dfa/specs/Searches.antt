@@ -41,4 +41,5 @@ view_of d backwards = record {
   leaps = true;
   Spends = λ a b n. Unit {0};
   GivesUp = λ a b n memory. ⊥;
+  era = λ c. 0;
 }

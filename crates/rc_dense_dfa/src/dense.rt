@@ -11,6 +11,8 @@ use crate::table::Table;
 use rc_dfa::automaton::{Automaton, Direction};
 use rc_dfa::ended::{Ended, Reading};
 use rc_dfa::halves::{Halves, Run};
+use rc_dfa::trail::Trail;
+use rc_table_search::again::search_again;
 use rc_table_search::run::Extent;
 use rc_table_search::search::{Request, search};
 use rc_table_search::way;
@@ -98,6 +100,11 @@ impl Dense {
 }
 
 impl Halves for Dense {
+    ghost use Rattle.std.specs.Prelude.{false};
+    ghost use Rattle.rc_table_search.specs.TrailLaws.{bare_trail, trail_kept};
+    ghost use Rattle.rc_table_search.specs.Trails.{IsTrail};
+    ghost use Rattle.rc_dense_dfa.specs.Searches.{view_of};
+
     type Cache = NoCache;
 
     ghost AreOf = { AreHalves };
@@ -107,6 +114,8 @@ impl Halves for Dense {
     ghost Spends = { λ d a b n. Unit {0} };
 
     ghost GivesUp = { λ d a b n memory. ⊥ };
+
+    ghost IsTrail = { λ d c. IsTrail (view_of d false) c };
 
     #[inline(always)]
     fn run_forwards<C: Cursor>(
@@ -127,6 +136,27 @@ impl Halves for Dense {
             },
         };
         search::<way::Forwards, Dense, C>(self, cache, input, &request)
+    }
+
+    fn run_again<C: Cursor>(
+        &self,
+        cache: &mut NoCache,
+        input: &mut Input<C>,
+        run: Run,
+        trail: &mut Trail,
+    ) -> Reading {
+        let extent = Extent {
+            earliest: run.earliest,
+            may_rest: false,
+            rest_from: 0,
+        };
+        let request = Request {
+            anchored: run.anchored,
+            from: run.low,
+            end: run.high,
+            extent,
+        };
+        search_again::<Dense, C>(self, cache, input, &request, trail)
     }
 
     #[inline(always)]
@@ -158,4 +188,8 @@ impl Halves for Dense {
     ghost gives_up_within = { λ h a b n k memory x y. y };
 
     ghost spends_within = { λ h a b n k x y. tt };
+
+    ghost bare_trail = { λ d c. bare_trail (view_of d false) c };
+
+    ghost trail_kept = { λ d c. trail_kept (view_of d false) c };
 }

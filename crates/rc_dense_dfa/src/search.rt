@@ -52,6 +52,7 @@ fn pass<W: Way>(table: &Table, piece: &[u8], row: usize, may_rest: bool) -> usiz
 }
 
 impl Transitions for Dense {
+    ghost use Rattle.rc_dense_dfa.specs.SearchLaws.{lawful};
     ghost use Rattle.rc_dense_dfa.specs.Searches.{view_of};
 
     type Cache = NoCache;
@@ -133,10 +134,11 @@ impl Transitions for Dense {
         at.saturating_add(gap).max(rest_from)
     }
 
-    ghost lawful = { λ d backwards. record {
-      spends_both = λ a b c n k x y. tt;
-      spends_within = λ a b n k le x. tt;
-      gives_up_later = λ a b c n k memory x y. y;
-      gives_up_within = λ a b n k memory le x. x;
-    } };
+    // No row is ever dropped.
+    #[inline(always)]
+    fn era<W: Way>(&self, _cache: &NoCache) -> usize {
+        0
+    }
+
+    ghost lawful = { lawful };
 }

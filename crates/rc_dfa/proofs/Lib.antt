@@ -20,3 +20,4 @@ pub mod NumberLemmas
 pub mod ListLemmas
 pub mod SideLemmas
 pub mod ReadLemmas
+mod TrailLemmas

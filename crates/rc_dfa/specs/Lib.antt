@@ -8,3 +8,4 @@ pub mod Laws
 pub mod Ended
 pub mod Keys
 pub mod Reads
+pub mod Trails

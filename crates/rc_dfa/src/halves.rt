@@ -1,12 +1,15 @@
 //! Forward and reverse search: the trait of the DFA and the lazy DFA.
-ghost use Rattle.std.specs.Prelude.{◌≡◌, ◌+◌, ◌-◌, ◌≤◌, ℕ, Bool, Some, is_some};
-ghost use Rattle.rc_text.specs.Text.{Keeps, high, low, slice_end};
+ghost use Rattle.std.specs.Prelude.{◌≡◌, ◌+◌, ◌-◌, ◌≤◌, ℕ, Bool, Some, false, is_some};
+ghost use Rattle.rc_text.specs.Text.{Keeps, Searched, high, low, slice_end};
 ghost use Rattle.rc_program.specs.Sought.{text_of};
 ghost use Rattle.rc_dfa.specs.Machine.{Machine, IsAsked};
 ghost use Rattle.rc_dfa.specs.Ended.{HasEndedDown, gave_up};
 ghost use Rattle.rc_dfa.specs.Reads.{HasEndedBelow};
+ghost use Rattle.rc_dfa.specs.Trails.{Has, IsBare};
+ghost use Rattle.rc_dfa.specs.declared.trail.Trail as trails;
 
 use crate::ended::{Ended, Reading};
+use crate::trail::Trail;
 use rc_text::cursor::Cursor;
 use rc_text::input::Input;
 use rc_text::types::Anchored;
@@ -39,6 +42,9 @@ pub trait Halves {
     // A search that found the first cache and left the second added at most this many states, and
     // may have given up, out of memory or not.
     ghost GivesUp: { Self → Self.Cache → Self.Cache → ℕ → Bool → Type 0 };
+    // By this cache, what the trail says is true of runs over the text up to the bound, which end at
+    // their first find or not.
+    ghost IsTrail: { Self → Self.Cache → Searched → ℕ → Bool → trails.Trail → Type 0 };
 
     /// Runs forwards, up to the end of the input's bounds. If it is to return what it finds first, it
     /// reads nothing beyond that. If there is a `rest_from`, the run may also return at a position
@@ -63,6 +69,30 @@ pub trait Halves {
         ensures spends { Spends self.now cache.old cache.new (high input.old - run.low + 2) }
         ensures gives_up { (memory : Bool) → gave_up result.ended ≡ Some memory
             → GivesUp self.now cache.old cache.new (high input.old - run.low + 2) memory };
+
+    /// Runs forwards as `run_forwards` does, and never rests. If it comes to a mark of the trail, it
+    /// ends as the run did that left it. It leaves marks of its own.
+    fn run_again<C: Cursor>(
+        &self,
+        cache: &mut Self::Cache,
+        input: &mut Input<C>,
+        run: Run,
+        trail: &mut Trail,
+    ) -> Reading
+        requires cache { IsCache self.now cache.old }
+        requires low { low input.old ≤ run.low }
+        requires ordered { run.low ≤ run.high }
+        requires high { run.high ≡ high input.old }
+        requires trail { IsTrail self.now cache.old input.old run.high run.earliest trail.old }
+        ensures cache { IsCache self.now cache.new }
+        ensures keeps { Keeps input.old input.new }
+        ensures ended { (m n : Machine) → AreOf self.now m n → IsAsked m run.anchored
+            → HasEndedBelow m (text_of m.setting.terminator input.old) (high input.old) run.low
+            run.anchored run.earliest false result.ended result.read }
+        ensures spends { Spends self.now cache.old cache.new (high input.old - run.low + 2) }
+        ensures gives_up { (memory : Bool) → gave_up result.ended ≡ Some memory
+            → GivesUp self.now cache.old cache.new (high input.old - run.low + 2) memory }
+        ensures trail { IsTrail self.now cache.new input.new run.high run.earliest trail.new };
 
     /// Runs backwards. What it finds last is what it finds at the least position.
     fn run_backwards<C: Cursor>(
@@ -97,4 +127,11 @@ pub trait Halves {
 
     ghost spends_within: { (h : Self) (a b : Self.Cache) (n k : ℕ) → n ≤ k → Spends h a b n
         → Spends h a b k };
+
+    ghost bare_trail: { (h : Self) (c : Self.Cache) (s : Searched) (bound : ℕ) (early : Bool)
+        (t : trails.Trail) → IsBare t → IsTrail h c s bound early t };
+
+    ghost trail_kept: { (h : Self) (c : Self.Cache) (s b : Searched) (bound : ℕ) (early : Bool)
+        (t : trails.Trail) → Keeps s b → IsTrail h c s bound early t
+        → IsTrail h c b bound early t };
 }

@@ -10,3 +10,4 @@ mod matches;
 mod samples;
 pub mod sides;
 pub mod states;
+pub mod trail;

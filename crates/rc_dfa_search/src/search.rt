@@ -1,6 +1,6 @@
 //! DFA search: forwards to the end of a match, then in reverse to its start, by either DFA.
 //! Positions are in bytes of the whole content.
-ghost use Rattle.std.specs.Prelude.{◌≡◌, ◌⊎◌, ◌↔◌, ◌+◌, ◌-◌, ◌*◌, ◌<◌, ◌≤◌, ◌&&◌, ◌||◌, ℕ, true, not, min, max, List, Option, IsTrue, IfOk, IfErr, IfSome, IfNone};
+ghost use Rattle.std.specs.Prelude.{◌≡◌, ◌⊎◌, ◌↔◌, ◌+◌, ◌-◌, ◌*◌, ◌<◌, ◌≤◌, ◌&&◌, ◌||◌, ℕ, true, not, min, max, List, Option, Some, IsTrue, IfOk, IfErr, IfSome, IfNone};
 ghost use Rattle.std.specs.Option.{option_map};
 ghost use Rattle.rc_text.specs.Found.{Found};
 ghost use Rattle.rc_text.specs.Plain.{is_anchored};
@@ -12,6 +12,8 @@ ghost use Rattle.rc_program.specs.Answer.{Search};
 ghost use Rattle.rc_program.specs.Kinds.{IsAnswerBy};
 ghost use Rattle.rc_program.specs.Sought.{text_of};
 ghost use Rattle.rc_dfa.specs.Machine.{Machine};
+ghost use Rattle.rc_dfa.specs.Trails.{IsBare};
+ghost use Rattle.rc_dfa.specs.declared.trail.Trail as trails;
 ghost use Rattle.rc_dfa_search.specs.Aims.{AreBounds, AreHalvesOf, is_early, search_for, search_from, cost};
 ghost use Rattle.rc_dfa_search.specs.Ends.{Asks, HasMet, HasMetDown, IsEnd, begins_there, cost_forwards, keeps_pattern, match_by, may_end, start_by, told_of};
 ghost use Rattle.rc_dfa_search.specs.Faults.{IsFault};
@@ -20,6 +22,7 @@ ghost use Rattle.rc_dfa_search.specs.Reverse.{IsMatchToEnd, IsReverseHalf};
 
 use rc_dfa::ended::{Ended, Met};
 use rc_dfa::halves::{Halves, Run};
+use rc_dfa::trail::Trail;
 use rc_text::cursor::Cursor;
 use rc_text::input::{Input, high, is_boundary_at, low};
 use rc_text::types::{Anchored, HalfMatch, Match, MatchError, MatchKind, PatternID, Span};
@@ -139,6 +142,59 @@ pub(crate) fn run_forwards<H: Halves, C: Cursor>(
     told(halves.run_forwards(cache, input, run, None).ended)
 }
 
+/// Makes a trail with no marks if there is none.
+fn ready(trail: &mut Option<Trail>)
+    ensures { (trail.new ≡ trail.old)
+        ⊎ ((t : trails.Trail) × (trail.new ≡ Some t) × IsBare t) }
+{
+    if trail.is_none() {
+        *trail = Some(Trail::new(0));
+    }
+}
+
+/// Runs forwards from the lower bound, along the trail if there is one, and returns what it found.
+#[inline(always)]
+fn run_along<H: Halves, C: Cursor>(
+    halves: &H,
+    cache: &mut H::Cache,
+    input: &mut Input<C>,
+    aim: Aim,
+    bounds: Bounds,
+    trail: &mut Option<Trail>,
+) -> Result<Option<Met>, MatchError>
+    requires cache { H.IsCache halves.now cache.old }
+    requires low { low input.old ≤ bounds.low }
+    requires ordered { bounds.low ≤ bounds.high }
+    requires high { bounds.high ≡ high input.old }
+    requires asked { Asks aim.patterns input.old.anchored }
+    requires trail { IfSome trail.old
+        (H.IsTrail halves.now cache.old input.old bounds.high (is_early aim)) }
+    ensures cache { H.IsCache halves.now cache.new }
+    ensures keeps { Keeps input.old input.new }
+    ensures met { (hs : List Re) (terminator : ℕ)
+        (of : AreHalvesOf (H.AreOf halves.now) aim hs terminator)
+        → IfOk result (HasMet of.ahead (text_of terminator input.old)
+        (high input.old) bounds.low input.old.anchored (is_early aim)) }
+    ensures fault { (hs : List Re) (terminator : ℕ)
+        → AreHalvesOf (H.AreOf halves.now) aim hs terminator
+        → IfErr result (IsFault hs (search_for aim hs terminator input.old)
+        (H.GivesUp halves.now cache.old cache.new (high input.old - bounds.low + 2))) }
+    ensures spends { H.Spends halves.now cache.old cache.new (high input.old - bounds.low + 2) }
+    ensures trail { IfSome trail.new
+        (H.IsTrail halves.now cache.new input.new bounds.high (is_early aim)) }
+{
+    let Some(marks) = trail else {
+        return run_forwards(halves, cache, input, aim, bounds);
+    };
+    let run = Run {
+        anchored: input.get_anchored(),
+        low: bounds.low,
+        high: bounds.high,
+        earliest: is_early(aim),
+    };
+    told(halves.run_again(cache, input, run, marks).ended)
+}
+
 /// Runs backwards from the upper bound, and returns what it found.
 #[inline(always)]
 pub(crate) fn run_backwards<H: Halves, C: Cursor>(
@@ -196,7 +252,8 @@ fn may_end<C: Cursor>(input: &mut Input<C>, aim: Aim, at: usize) -> bool
 }
 
 /// Returns the end of the match from the lower bound on: a run from there finds it, or, if matches
-/// are passed over, a run from a later start.
+/// are passed over, a run from a later start. From the second run on, each ends where it comes to
+/// the trail of those before.
 #[inline(always)]
 fn seek_end<H: Halves, C: Cursor>(
     halves: &H,
@@ -236,8 +293,10 @@ fn seek_end<H: Halves, C: Cursor>(
     let anchored = anchoring.is_anchored();
     let high = bounds.high;
     let mut from = bounds.low;
+    let mut trail = None;
     'starts: loop {
-        let Some(met) = run_forwards(halves, cache, input, aim, Bounds { low: from, high })? else {
+        let left = Bounds { low: from, high };
+        let Some(met) = run_along(halves, cache, input, aim, left, &mut trail)? else {
             return Ok(None);
         };
         if may_end(input, aim, met.at) {
@@ -251,6 +310,7 @@ fn seek_end<H: Halves, C: Cursor>(
             return Ok(None);
         }
         from += 1;
+        ready(&mut trail);
     }
 }
 

@@ -36,4 +36,5 @@ view_of l backwards = record {
   leaps = false;
   Spends = λ a b n. Spends (frame_in l backwards) a.store b.store n;
   GivesUp = λ a b n memory. MayGiveUp (frame_in l backwards) a.store b.store n memory;
+  era = λ h. h.store.clears;
 }

@@ -1,9 +1,12 @@
 -- Only proofs use this file.
 -- Cache use: what searches spend adds up.
-use Rattle.std.proofs.Common.{◌≡◌, ℕ, ◌+◌, ◌*◌, ◌≤◌, Bool, true, false, inl, inr, refl, ◌∙◌, arith}
-use Rattle.std.proofs.Math.Nat.{mul-le-mul_right, add-mul}
+use Rattle.std.proofs.Common.{◌≡◌, ℕ, ◌+◌, ◌*◌, ◌/◌, ◌<◌, ◌≤◌, Bool, true, false, List, length, Some, slice_get, inl, inr, refl, sym, ap, ◌∙◌, arith}
+use Rattle.std.proofs.lemmas.Option.{same_Some, slice_get_cases, slice_get_within}
+use Rattle.std.proofs.Math.Nat.{mul-le-mul_right, mul-div_cancel, add-mul}
 use Rattle.std.proofs.lemmas.Bool.{cases_lt}
-use Rattle.rc_lazy_dfa.specs.Stores.{Counts, Frame, IsShort, Spends, minimum_of}
+use Rattle.rc_determinize.specs.States.{State}
+use Rattle.rc_lazy_dfa.specs.Stores.{Counts, Frame, Grows, IsRow, IsShort, Spends, minimum_of}
+use Rattle.rc_lazy_dfa.specs.Halves.{IsPlace}
 use Rattle.rc_table_search.specs.Views.{IsLawful}
 use Rattle.rc_lazy_dfa.specs.Courses.{MayGiveUp, frame_in, view_of}
 use Rattle.rc_lazy_dfa.specs.declared.lazy.Lazy.{Lazy}
@@ -92,11 +95,37 @@ pub may_within : (f : Frame) (a b : Store) (n k : ℕ) (memory : Bool) → n ≤
 may_within f a b n k true le h = tt
 may_within f a b n k false le h = (h.0, short_within f a n k le h.1)
 
+got : (xs : List State) (k : ℕ) → k < length xs → (t : State) × (slice_get xs k ≡ Some t)
+got xs k lt = elim (slice_get_cases xs k).1 [
+  | inl x ↦ (x.0, x.2)
+  | inr past ↦ let le = past.0 in absurd (omega (arith, lt, le))
+]
+
+-- a row has the state that it had
+rows_held : (f : Frame) (a b : Store) → 0 < f.width → Grows a.states b.states → (row : ℕ) → IsPlace f a row →
+    IsPlace f b row × ((s : State) → IsRow f.width b.states row s → IsRow f.width a.states row s)
+rows_held f a b wide grown row p =
+    let t = got a.states p.id p.there in
+    let kept = grown p.id t.0 t.1 in (
+      record { id = p.id; there = slice_get_within b.states p.id t.0 kept; row_is = p.row_is },
+      λ s r.
+          let same : p.id ≡ r.0 = sym (mul-div_cancel p.id wide) ∙ ap (λ k. k / f.width) (sym p.row_is ∙ r.2) ∙ mul-div_cancel r.0 wide in
+          let is : t.0 ≡ s = same_Some t.0 s (sym kept ∙ ap (slice_get b.states) same ∙ r.1) in
+          (p.id, t.1 ∙ ap Some is, p.row_is),
+    )
+
 -- what a direction spends
 pub lawful : (l : Lazy) (backwards : Bool) → IsLawful (view_of l backwards)
 lawful l backwards = record {
+  spends_nothing = λ a. spends_nothing (frame_in l backwards) a.store;
   spends_both = λ a b c. spends_both (frame_in l backwards) a.store b.store c.store;
   spends_within = λ a b. spends_within (frame_in l backwards) a.store b.store;
   gives_up_later = λ a b c. may_later (frame_in l backwards) a.store b.store c.store;
   gives_up_within = λ a b. may_within (frame_in l backwards) a.store b.store;
+  era_rises = λ a b n s. s.counts.rises;
+  holds = λ a b n s cache same below.
+      let grown = s.counts.kept same below in record {
+        is_row = λ row p. (rows_held (frame_in l backwards) a.store b.store (omega arith) grown row p).0;
+        has_state = λ m row t p x. (x.0, (rows_held (frame_in l backwards) a.store b.store (omega arith) grown row p).1 t x.1);
+      };
 }

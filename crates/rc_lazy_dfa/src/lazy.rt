@@ -11,7 +11,9 @@ use crate::which::Ends;
 use rc_dfa::automaton::{Automaton, Direction};
 use rc_dfa::ended::{Ended, Reading};
 use rc_dfa::halves::{Halves, Run};
+use rc_dfa::trail::Trail;
 use rc_pattern_set::sets::PatternSet;
+use rc_table_search::again::search_again;
 use rc_table_search::run::Extent;
 use rc_table_search::search::{Request, search};
 use rc_table_search::way::{Backwards, Forwards};
@@ -219,6 +221,10 @@ impl Cache {
 
 impl Halves for Lazy {
     ghost use Rattle.rc_lazy_dfa.specs.Caches.{AreHalves, IsCacheOf, MayGiveUpEither, SpendsBoth};
+    ghost use Rattle.std.specs.Prelude.{false};
+    ghost use Rattle.rc_table_search.specs.TrailLaws.{bare_trail, trail_kept};
+    ghost use Rattle.rc_table_search.specs.Trails.{IsTrail};
+    ghost use Rattle.rc_lazy_dfa.specs.Courses.{view_of};
     ghost use Rattle.rc_lazy_dfa.specs.CacheLaws.{nothing_spent, both_spent, given_up_later, given_up_within, spent_within};
 
     type Cache = Cache;
@@ -230,6 +236,8 @@ impl Halves for Lazy {
     ghost Spends = { SpendsBoth };
 
     ghost GivesUp = { MayGiveUpEither };
+
+    ghost IsTrail = { λ l c. IsTrail (view_of l false) c.forward };
 
     #[inline(always)]
     fn run_forwards<C: Cursor>(
@@ -250,6 +258,27 @@ impl Halves for Lazy {
             },
         };
         search::<Forwards, Lazy, C>(self, &mut cache.forward, input, &request)
+    }
+
+    fn run_again<C: Cursor>(
+        &self,
+        cache: &mut Cache,
+        input: &mut Input<C>,
+        run: Run,
+        trail: &mut Trail,
+    ) -> Reading {
+        let extent = Extent {
+            earliest: run.earliest,
+            may_rest: false,
+            rest_from: 0,
+        };
+        let request = Request {
+            anchored: run.anchored,
+            from: run.low,
+            end: run.high,
+            extent,
+        };
+        search_again::<Lazy, C>(self, &mut cache.forward, input, &request, trail)
     }
 
     #[inline(always)]
@@ -276,4 +305,8 @@ impl Halves for Lazy {
     ghost gives_up_within = { given_up_within };
 
     ghost spends_within = { spent_within };
+
+    ghost bare_trail = { λ l c. bare_trail (view_of l false) c.forward };
+
+    ghost trail_kept = { λ l c. trail_kept (view_of l false) c.forward };
 }

@@ -121,5 +121,10 @@ impl Transitions for Lazy {
         at.max(rest_from).saturating_add(REACH)
     }
 
+    #[inline(always)]
+    fn era<W: Way>(&self, cache: &Half) -> usize {
+        cache.store.clears
+    }
+
     ghost lawful = { lawful };
 }

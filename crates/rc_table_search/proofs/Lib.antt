@@ -2,3 +2,4 @@ pub mod RunLemmas
 pub mod WayLemmas
 pub mod SpanLemmas
 mod SearchLemmas
+mod TrailLemmas

@@ -1,15 +1,15 @@
 -- Only proofs use this file.
 -- Searches by a table: what their runs keep, and how they end.
-use Rattle.std.specs.Prelude.{◌≡◌, ℕ, ◌+◌, Bool, Option, Some, None}
+use Rattle.std.specs.Prelude.{◌≡◌, ℕ, ◌+◌, Bool, not, Option, Some, None}
 use Rattle.rc_text.specs.Text.{Searched}
 use Rattle.rc_program.specs.Text.{Text}
 use Rattle.rc_program.specs.Sought.{text_of}
 use Rattle.rc_determinize.specs.States.{State}
-use Rattle.rc_dfa.specs.Machine.{Machine, IsAsked}
-use Rattle.rc_dfa.specs.Runs.{met_last}
+use Rattle.rc_dfa.specs.Machine.{Machine, Begins, IsAsked}
+use Rattle.rc_dfa.specs.Runs.{MayRead, met_last}
 use Rattle.rc_dfa.specs.Ended.{gave_up}
 use Rattle.rc_dfa.specs.declared.ended.Ended.{Ended}
-use Rattle.rc_table_search.specs.Ways.{Course, EndsBy, HasEndedBy, IsOn, IsStanding, span}
+use Rattle.rc_table_search.specs.Ways.{Course, EndsFrom, HasEndedBy, HasEndedFrom, IsOn, RunsBy, beside_at, span}
 use Rattle.rc_table_search.specs.Views.{View, IsNoted}
 use Rattle.rc_table_search.specs.declared.run.Stand.{Stand}
 use Rattle.rc_table_search.specs.declared.search.Request.{Request}
@@ -32,23 +32,6 @@ course_of q = record { from = q.from; bound = q.end; anchored = q.anchored; earl
 abbrev pub all_spent : Bool → Request → ℕ
 all_spent backwards q = span backwards q.from q.end + 2
 
--- The bytes up to the position lead to the state of the row, and the note stands for what was found
--- last.
-pub record IsHere {C : Type 0} (v : View C) (backwards : Bool) (seen : Searched) (q : Request) (c : C) (m : Machine) (i : ℕ) (stand : Stand) : Type 0 where
-  pub state : State
-  pub in_row : v.HasState c m stand.row state
-  pub found : Option (ℕ × ℕ)
-  pub tells : IsNoted v m stand.noted found
-  pub standing : IsStanding backwards m (text_in m seen) (course_of q) i state found
-
--- The search stands at the position, whatever machine the table is of.
-pub record IsAt {C : Type 0} (v : View C) (backwards : Bool) (o : Origin C) (q : Request) (c : C) (i : ℕ) (stand : Stand) : Type 0 where
-  pub cache : v.IsCache c
-  pub is_row : v.IsRow c stand.row
-  pub on : IsOn backwards q.from i
-  pub spends : v.Spends o.begun c (span backwards q.from i + 1)
-  pub stands : (m : Machine) → v.IsOf m → IsAsked m q.anchored → IsHere v backwards o.seen q c m i stand
-
 -- The search ended so. Forwards it looked at the bytes before r alone, unless it gave up.
 pub record IsOver {C : Type 0} (v : View C) (backwards : Bool) (o : Origin C) (q : Request) (c : C) (r : ℕ) (e : Ended) : Type 0 where
   pub cache : v.IsCache c
@@ -56,13 +39,64 @@ pub record IsOver {C : Type 0} (v : View C) (backwards : Bool) (o : Origin C) (q
   pub ended : (m : Machine) → v.IsOf m → IsAsked m q.anchored → HasEndedBy backwards m (text_in m o.seen) (course_of q) q.extent.may_rest r e
   pub gives_up : (memory : Bool) → gave_up e ≡ Some memory → v.GivesUp o.begun c (all_spent backwards q) memory
 
--- The run goes on at the position, or the search has ended.
-abbrev pub IsLeg : {C : Type 0} → View C → Bool → Origin C → Request → C → ℕ → Progress → Type 0
-IsLeg v backwards o q c i (Through s) = IsAt v backwards o q c i s
-IsLeg v backwards o q c i (Over reading) = IsOver v backwards o q c reading.read reading.ended
+-- It began in the state of the row, by what stands beside.
+pub record HasBegun {C : Type 0} (v : View C) (backwards : Bool) (o : Origin C) (q : Request) (c : C) (stand : Stand) : Type 0 where
+  pub cache : v.IsCache c
+  pub is_row : v.IsRow c stand.row
+  pub spends : v.Spends o.begun c 1
+  pub unmet : stand.noted ≡ None
+  pub begins : (m : Machine) → v.IsOf m → IsAsked m q.anchored → (s : State) × v.HasState c m stand.row s
+      × MayRead m (beside_at (not backwards) (text_in m o.seen) q.from) × Begins m q.anchored (beside_at (not backwards) (text_in m o.seen) q.from) s
 
--- The result of a search that found this last.
+abbrev pub IsBegun : {C : Type 0} → View C → Bool → Origin C → Request → C → Progress → Type 0
+IsBegun v backwards o q c (Through s) = HasBegun v backwards o q c s
+IsBegun v backwards o q c (Over reading) = IsOver v backwards o q c reading.read reading.ended
+
+-- FROM A ROW ON
+
+-- What a run goes on from: the text, the cache, and a row of it.
+pub record Outset (Cache : Type 0) : Type 0 where
+  pub seen : Searched
+  pub begun : Cache
+  pub row : ℕ
+
+-- From the state `first`, the bytes up to the position lead to the state of the row, and the note
+-- stands for what was found last.
+pub record IsHere {C : Type 0} (v : View C) (backwards : Bool) (seen : Searched) (q : Request) (c : C) (m : Machine) (first : State) (i : ℕ) (stand : Stand) : Type 0 where
+  pub state : State
+  pub in_row : v.HasState c m stand.row state
+  pub found : Option (ℕ × ℕ)
+  pub tells : IsNoted v m stand.noted found
+  pub standing : RunsBy backwards m (text_in m seen) (course_of q) first i state found
+
+-- The run stands at the position, whatever machine the table is of, and whatever state of it the row
+-- has from which the run went on.
+pub record IsAt {C : Type 0} (v : View C) (backwards : Bool) (o : Outset C) (q : Request) (c : C) (i : ℕ) (stand : Stand) : Type 0 where
+  pub cache : v.IsCache c
+  pub is_row : v.IsRow c stand.row
+  pub on : IsOn backwards q.from i
+  pub spends : v.Spends o.begun c (span backwards q.from i)
+  pub stands : (m : Machine) → v.IsOf m → (first : State) → v.HasState o.begun m o.row first → IsHere v backwards o.seen q c m first i stand
+
+-- The states that it adds: at most one for each byte, and one at the end.
+abbrev pub run_spent : Bool → Request → ℕ
+run_spent backwards q = span backwards q.from q.end + 1
+
+-- The run ended so. Forwards it looked at the bytes before r alone, unless it gave up.
+pub record HasRun {C : Type 0} (v : View C) (backwards : Bool) (o : Outset C) (q : Request) (c : C) (r : ℕ) (e : Ended) : Type 0 where
+  pub cache : v.IsCache c
+  pub spends : v.Spends o.begun c (run_spent backwards q)
+  pub ended : (m : Machine) → v.IsOf m → (first : State) → v.HasState o.begun m o.row first →
+      HasEndedFrom backwards m (text_in m o.seen) (course_of q) first q.extent.may_rest r e
+  pub gives_up : (memory : Bool) → gave_up e ≡ Some memory → v.GivesUp o.begun c (run_spent backwards q) memory
+
+-- The run goes on at the position, or has ended.
+abbrev pub IsLeg : {C : Type 0} → View C → Bool → Outset C → Request → C → ℕ → Progress → Type 0
+IsLeg v backwards o q c i (Through s) = IsAt v backwards o q c i s
+IsLeg v backwards o q c i (Over reading) = HasRun v backwards o q c reading.read reading.ended
+
+-- The result of a run that found this last.
 pub record Says {C : Type 0} (v : View C) (backwards : Bool) (IsLast : Machine → Option (ℕ × ℕ) → Type 0) (e : Ended) : Type 0 where
   pub done : gave_up e ≡ None
-  pub says : (m : Machine) → v.IsOf m → (found : Option (ℕ × ℕ)) → IsLast m found → (t : Text) (c : Course) (may_rest : Bool) (r : ℕ) →
-      EndsBy backwards m t c r (met_last found) → HasEndedBy backwards m t c may_rest r e
+  pub says : (m : Machine) → v.IsOf m → (found : Option (ℕ × ℕ)) → IsLast m found → (t : Text) (c : Course) (first : State) (may_rest : Bool) (r : ℕ) →
+      EndsFrom backwards m t c first r (met_last found) → HasEndedFrom backwards m t c first may_rest r e

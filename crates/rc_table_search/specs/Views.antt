@@ -27,13 +27,23 @@ pub record View (Cache : Type 0) : Type 1 where
   -- A search that found the first cache and left the second added at most this many states, and may
   -- have given up, out of memory or not.
   pub GivesUp : Cache → Cache → ℕ → Bool → Type 0
+  -- How many times all rows were dropped.
+  pub era : Cache → ℕ
 
--- What is spent adds up.
+-- Each row of the first cache has no other states in the second.
+pub record Holds {C : Type 0} (v : View C) (old new : C) : Type 0 where
+  pub is_row : (row : ℕ) → v.IsRow old row → v.IsRow new row
+  pub has_state : (m : Machine) (row : ℕ) (s : State) → v.IsRow old row → v.HasState new m row s → v.HasState old m row s
+
+-- What is spent adds up, and rows are held while the era lasts.
 pub record IsLawful {C : Type 0} (v : View C) : Type 0 where
+  pub spends_nothing : (a : C) (n : ℕ) → v.Spends a a n
   pub spends_both : (a b c : C) (n k : ℕ) → v.Spends a b n → v.Spends b c k → v.Spends a c (n + k)
   pub spends_within : (a b : C) (n k : ℕ) → n ≤ k → v.Spends a b n → v.Spends a b k
   pub gives_up_later : (a b c : C) (n k : ℕ) (memory : Bool) → v.Spends a b n → v.GivesUp b c k memory → v.GivesUp a c (n + k) memory
   pub gives_up_within : (a b : C) (n k : ℕ) (memory : Bool) → n ≤ k → v.GivesUp a b n memory → v.GivesUp a b k memory
+  pub era_rises : (a b : C) (n : ℕ) → v.Spends a b n → v.era a ≤ v.era b
+  pub holds : (a b : C) (n : ℕ) → v.Spends a b n → v.IsCache a → v.era b ≡ v.era a → v.era a < 18446744073709551615 → Holds v a b
 
 -- CELLS
 

@@ -1,16 +1,18 @@
 -- Only proofs use this file.
 -- Searches in either direction.
-use Rattle.std.specs.Prelude.{◌≡◌, ℕ, ◌+◌, ◌-◌, ◌<◌, ◌≤◌, Bool, true, false, not, List, Option, Some, None, slice_get}
+use Rattle.std.specs.Prelude.{◌≡◌, ℕ, ◌+◌, ◌-◌, ◌<◌, ◌≤◌, Bool, true, false, IsTrue, List, Option, Some, None, slice_get}
 use Rattle.rc_text.specs.declared.types.Anchored.{Anchored}
 use Rattle.rc_text.specs.Text.{Searched, slice_end}
 use Rattle.rc_program.specs.Text.{Text}
 use Rattle.rc_program.specs.Sought.{text_of}
 use Rattle.rc_determinize.specs.States.{State}
-use Rattle.rc_dfa.specs.Machine.{Machine, Begins}
-use Rattle.rc_dfa.specs.Runs.{MayRead, ahead_at, behind_at, Runs, RunsDown, RunEnd, met_last, stopped_at, idle_at, SearchEndsDown}
+use Rattle.rc_dfa.specs.Machine.{Machine}
+use Rattle.rc_dfa.specs.Runs.{ahead_at, behind_at, Runs, RunsDown, RunEnd, met_last, stopped_at, idle_at, EndsDown, SearchEndsDown}
 use Rattle.rc_dfa.specs.Ended.{HasEndedDown}
-use Rattle.rc_dfa.specs.Reads.{HasEndedBelow, SearchEndsBelow}
+use Rattle.rc_dfa.specs.Reads.{EndsBelow, HasEndedBelow, SearchEndsBelow}
 use Rattle.rc_dfa.specs.declared.ended.Ended.{Ended}
+use Rattle.rc_dfa.specs.declared.ended.Ended.TheVariants.{Found, Idle, Quit, GaveUp}
+use Rattle.rc_table_search.specs.Views.{IsPatternOf}
 
 -- The byte before the position, or the one at it, within what the search sees. A search reads the
 -- first of them next if it goes backwards, and the second if it goes forwards.
@@ -69,13 +71,18 @@ abbrev pub HasEndedBy : Bool → Machine → Text → Course → Bool → ℕ �
 HasEndedBy false m t c may_rest r e = HasEndedBelow m t c.bound c.from c.anchored c.earliest may_rest e r
 HasEndedBy true m t c may_rest r e = HasEndedDown m t c.bound c.from c.anchored c.earliest e
 
--- From a state in which the search begins, the bytes up to the position lead to this state, and
--- this was found last.
-pub record IsStanding (backwards : Bool) (m : Machine) (t : Text) (c : Course) (i : ℕ) (s : State) (found : Option (ℕ × ℕ)) : Type 0 where
-  pub first : State
-  pub read : MayRead m (beside_at (not backwards) t c.from)
-  pub begins : Begins m c.anchored (beside_at (not backwards) t c.from) first
-  pub runs : RunsBy backwards m t c first i s found
+-- The same, from the state `first` on.
+abbrev pub EndsFrom : Bool → Machine → Text → Course → State → ℕ → RunEnd → Type 0
+EndsFrom false m t c first r e = EndsBelow m t c.bound c.from first c.earliest e r
+EndsFrom true m t c first r e = EndsDown m t c.bound c.from first c.earliest (swapped_end e)
+
+abbrev pub HasEndedFrom : Bool → Machine → Text → Course → State → Bool → ℕ → Ended → Type 0
+HasEndedFrom backwards m t c first may_rest r (Found None) = EndsFrom backwards m t c first r (met_last None)
+HasEndedFrom backwards m t c first may_rest r (Found (Some h)) =
+    (q : ℕ) × IsPatternOf backwards m q h.pattern × EndsFrom backwards m t c first r (met_last (Some (q, h.at)))
+HasEndedFrom backwards m t c first may_rest r (Idle i) = (backwards ≡ false) × IsTrue may_rest × EndsFrom backwards m t c first r (idle_at i)
+HasEndedFrom backwards m t c first may_rest r (Quit b p) = (slice_get t.content p ≡ Some b) × EndsFrom backwards m t c first r (stopped_at p)
+HasEndedFrom backwards m t c first may_rest r (GaveUp p memory) = IsOn backwards c.from p × IsOn backwards p c.bound
 
 -- OVER A PIECE
 

@@ -1,6 +1,7 @@
 //! Table search: searches by the cells of a table, forwards or backwards.
 #![tactic(auto)]
 
+pub mod again;
 pub mod cells;
 pub mod refusal;
 pub mod rows;

@@ -1,6 +1,6 @@
 //! Search: runs a DFA by its table over a text, forwards to the end of a match or backwards to its
 //! start.
-ghost use Rattle.std.specs.Prelude.{◌≡◌, ◌+◌, ◌≤◌, ◌<◌, ℕ, Option, Some, true, false, not, IfSome, length, slice_range};
+ghost use Rattle.std.specs.Prelude.{◌≡◌, ◌+◌, ◌≤◌, ◌<◌, ◌^◌, ℕ, Option, Some, true, false, not, IfSome, length, slice_range};
 ghost use Rattle.rc_text.specs.Text.{Keeps, slice_end};
 ghost use Rattle.rc_program.specs.Sought.{text_of};
 ghost use Rattle.rc_determinize.specs.States.{State, best_at};
@@ -9,7 +9,7 @@ ghost use Rattle.rc_dfa.specs.Runs.{IsByte};
 ghost use Rattle.rc_table_search.specs.Walks.{first_of, next_of};
 ghost use Rattle.rc_table_search.specs.Ways.{IsBeside, IsBounded, IsNext, IsOn, LiesWithin, beside_at, span};
 ghost use Rattle.rc_table_search.specs.Views.{IsFound, IsNoted, LeadsTo};
-ghost use Rattle.rc_table_search.specs.Searches.{IsAt, IsLeg, IsOver, Origin, Says};
+ghost use Rattle.rc_table_search.specs.Searches.{HasBegun, HasRun, IsAt, IsBegun, IsLeg, IsOver, Origin, Outset, Says};
 
 use crate::cells::{MET, QUIT, has_died, row_of};
 use crate::run::{Extent, Stand};
@@ -53,7 +53,7 @@ fn met_at<W: Way, T: Transitions>(table: &T, found: usize, at: usize) -> Ended
 
 /// Returns the result of a search, by the note of what it found last.
 #[inline(always)]
-fn told<W: Way, T: Transitions>(table: &T, noted: Option<(usize, usize)>) -> Ended
+pub(crate) fn told<W: Way, T: Transitions>(table: &T, noted: Option<(usize, usize)>) -> Ended
     ensures { Says (T.view table.now W.BACKWARDS) W.BACKWARDS
         (λ m last. IsNoted (T.view table.now W.BACKWARDS) m noted last) result }
 {
@@ -105,19 +105,20 @@ fn note_of<W: Way, T: Transitions>(
     }
 }
 
-/// Returns the position up to which a search reads before it looks whether it rests.
+/// Returns the position up to which a search reads before it looks whether it rests, at most the
+/// position `until`.
 #[inline(always)]
-fn reach<W: Way, T: Transitions>(table: &T, at: usize, request: &Request) -> usize
-    requires left { 0 < span W.BACKWARDS at request.now.end }
+fn reach<W: Way, T: Transitions>(table: &T, at: usize, until: usize, request: &Request) -> usize
+    requires left { 0 < span W.BACKWARDS at until }
     requires rests { request.now.extent.may_rest ≡ true → W.BACKWARDS ≡ false }
     ensures left { 0 < span W.BACKWARDS at result }
-    ensures on { IsOn W.BACKWARDS result request.now.end }
+    ensures on { IsOn W.BACKWARDS result until }
 {
     if !request.extent.may_rest {
-        return request.end;
+        return until;
     }
     let look = table.next_look(at, request.extent.rest_from);
-    look.max(at.saturating_add(1)).min(request.end)
+    look.max(at.saturating_add(1)).min(until)
 }
 
 /// Runs over a piece up to a byte whose cell needs a look. The piece begins at the position
@@ -131,15 +132,15 @@ fn read<W: Way, T: Transitions>(
     start: usize,
     stand: Stand,
 ) -> (usize, Stand)
-    ghost origin: { Origin T.Cache }
-    requires at { IsAt (T.view table.now W.BACKWARDS) W.BACKWARDS origin request.now cache.old
+    ghost outset: { Outset T.Cache }
+    requires at { IsAt (T.view table.now W.BACKWARDS) W.BACKWARDS outset request.now cache.old
         (start + first_of W.BACKWARDS (length piece.now)) stand }
-    requires bound { IsBounded W.BACKWARDS origin.seen request.now.end }
-    requires piece { piece.now ≡ slice_range origin.seen.content start (start + length piece.now) }
+    requires bound { IsBounded W.BACKWARDS outset.seen request.now.end }
+    requires piece { piece.now ≡ slice_range outset.seen.content start (start + length piece.now) }
     requires within { LiesWithin W.BACKWARDS start (length piece.now) request.now.end }
     requires fits { start + length piece.now ≤ usize.MAX }
     ensures read { result.0 ≤ length piece.now }
-    ensures at { IsAt (T.view table.now W.BACKWARDS) W.BACKWARDS origin request.now cache.new
+    ensures at { IsAt (T.view table.now W.BACKWARDS) W.BACKWARDS outset request.now cache.new
         (start + result.0) result.1 }
 {
     let (place, there) = table.run::<W>(cache, piece, start, stand.row, request.extent);
@@ -159,12 +160,12 @@ fn step<W: Way, T: Transitions>(
     at: usize,
     stand: Stand,
 ) -> Progress
-    ghost origin: { Origin T.Cache }
-    requires at { IsAt (T.view table.now W.BACKWARDS) W.BACKWARDS origin request.now cache.old at stand }
-    requires next { IsNext W.BACKWARDS origin.seen request.now.end at byte }
+    ghost outset: { Outset T.Cache }
+    requires at { IsAt (T.view table.now W.BACKWARDS) W.BACKWARDS outset request.now cache.old at stand }
+    requires next { IsNext W.BACKWARDS outset.seen request.now.end at byte }
     requires rests { request.now.extent.may_rest ≡ true → W.BACKWARDS ≡ false }
     requires fits { W.BACKWARDS ≡ false → at < usize.MAX }
-    ensures { IsLeg (T.view table.now W.BACKWARDS) W.BACKWARDS origin request.now cache.new
+    ensures { IsLeg (T.view table.now W.BACKWARDS) W.BACKWARDS outset request.now cache.new
         (next_of W.BACKWARDS at) result }
 {
     let read = step_on::<W>(at);
@@ -201,34 +202,36 @@ fn step<W: Way, T: Transitions>(
     Progress::Through(Stand { row, noted })
 }
 
-/// Runs over the chunks from where the search begins to where it ends.
+/// Runs over the chunks from where the search begins up to the position `until`.
 #[inline(always)]
-fn cross<W: Way, T: Transitions, C: Cursor>(
+pub(crate) fn cross<W: Way, T: Transitions, C: Cursor>(
     table: &T,
     cache: &mut T::Cache,
     input: &mut Input<C>,
     request: &Request,
+    until: usize,
     begin: Stand,
 ) -> Progress
-    ghost origin: { Origin T.Cache }
-    requires at { IsAt (T.view table.now W.BACKWARDS) W.BACKWARDS origin request.now cache.old
+    ghost outset: { Outset T.Cache }
+    requires at { IsAt (T.view table.now W.BACKWARDS) W.BACKWARDS outset request.now cache.old
         request.now.from begin }
-    requires seen { Keeps origin.seen input.old }
-    requires bound { IsBounded W.BACKWARDS origin.seen request.now.end }
-    requires ordered { IsOn W.BACKWARDS request.now.from request.now.end }
-    requires within { (request.now.from ≤ length origin.seen.content)
-        × (request.now.end ≤ length origin.seen.content) }
-    requires fits { length origin.seen.content ≤ usize.MAX }
+    requires seen { Keeps outset.seen input.old }
+    requires bound { IsBounded W.BACKWARDS outset.seen request.now.end }
+    requires ordered { IsOn W.BACKWARDS request.now.from until }
+    requires until { IsOn W.BACKWARDS until request.now.end }
+    requires within { (request.now.from ≤ length outset.seen.content)
+        × (request.now.end ≤ length outset.seen.content) }
+    requires fits { length outset.seen.content ≤ usize.MAX }
     requires rests { request.now.extent.may_rest ≡ true → W.BACKWARDS ≡ false }
     ensures keeps { Keeps input.old input.new }
-    ensures leg { IsLeg (T.view table.now W.BACKWARDS) W.BACKWARDS origin request.now cache.new
-        request.now.end result }
+    ensures leg { IsLeg (T.view table.now W.BACKWARDS) W.BACKWARDS outset request.now cache.new
+        until result }
 {
     let mut stand = begin;
     let mut at = request.from;
-    while at != request.end {
-        let until = reach::<W, T>(table, at, request);
-        let piece = piece_on::<W, C>(input, at, until);
+    while at != until {
+        let stop = reach::<W, T>(table, at, until, request);
+        let piece = piece_on::<W, C>(input, at, stop);
         let start = start::<W>(piece, at);
         let (place, next) = read::<W, T>(table, cache, request, piece, start, stand);
         stand = next;
@@ -256,7 +259,7 @@ fn cross<W: Way, T: Transitions, C: Cursor>(
 
 /// Begins a search: the byte on the side that it does not read decides the start state.
 #[inline(always)]
-fn begin<W: Way, T: Transitions>(
+pub(crate) fn begin<W: Way, T: Transitions>(
     table: &T,
     cache: &mut T::Cache,
     request: &Request,
@@ -269,8 +272,8 @@ fn begin<W: Way, T: Transitions>(
     requires beside { beside ≡ beside_at (not W.BACKWARDS) (text_of 0 origin.seen) request.now.from }
     requires small { IsByte beside }
     requires there { IfSome beside (IsBeside (not W.BACKWARDS) origin.seen.content request.now.from) }
-    ensures { IsLeg (T.view table.now W.BACKWARDS) W.BACKWARDS origin request.now cache.new
-        request.now.from result }
+    ensures { IsBegun (T.view table.now W.BACKWARDS) W.BACKWARDS origin request.now cache.new
+        result }
 {
     let read = request.from;
     let cell = match table.start::<W>(cache, request.anchored, beside) {
@@ -298,21 +301,21 @@ fn begin<W: Way, T: Transitions>(
 /// Ends a search that came to its bound. The byte beyond, or the end of what the search sees,
 /// decides whether something is found there.
 #[inline(always)]
-fn finish<W: Way, T: Transitions, C: Cursor>(
+pub(crate) fn finish<W: Way, T: Transitions, C: Cursor>(
     table: &T,
     cache: &mut T::Cache,
     input: &mut Input<C>,
     request: &Request,
     stand: Stand,
 ) -> Ended
-    ghost origin: { Origin T.Cache }
-    requires at { IsAt (T.view table.now W.BACKWARDS) W.BACKWARDS origin request.now cache.old
+    ghost outset: { Outset T.Cache }
+    requires at { IsAt (T.view table.now W.BACKWARDS) W.BACKWARDS outset request.now cache.old
         request.now.end stand }
-    requires seen { Keeps origin.seen input.old }
-    requires low { origin.seen.slice.start ≤ request.now.end }
-    requires high { request.now.end ≤ slice_end origin.seen }
+    requires seen { Keeps outset.seen input.old }
+    requires low { outset.seen.slice.start ≤ request.now.end }
+    requires high { request.now.end ≤ slice_end outset.seen }
     ensures keeps { Keeps input.old input.new }
-    ensures over { IsOver (T.view table.now W.BACKWARDS) W.BACKWARDS origin request.now cache.new
+    ensures over { HasRun (T.view table.now W.BACKWARDS) W.BACKWARDS outset request.now cache.new
         (request.now.end + 1) result }
 {
     let end = request.end;
@@ -334,6 +337,41 @@ fn finish<W: Way, T: Transitions, C: Cursor>(
         table,
         noted_by::<W, T>(table, cache, cell, end, stand.noted),
     )
+}
+
+/// Runs from where the search begins to where it ends. Returns what was found last, and how far it
+/// looked.
+#[inline(always)]
+fn go_on<W: Way, T: Transitions, C: Cursor>(
+    table: &T,
+    cache: &mut T::Cache,
+    input: &mut Input<C>,
+    request: &Request,
+    begin: Stand,
+) -> Reading
+    ghost outset: { Outset T.Cache }
+    requires at { IsAt (T.view table.now W.BACKWARDS) W.BACKWARDS outset request.now cache.old
+        request.now.from begin }
+    requires seen { Keeps outset.seen input.old }
+    requires low { (outset.seen.slice.start ≤ request.now.from)
+        × (outset.seen.slice.start ≤ request.now.end) }
+    requires ordered { IsOn W.BACKWARDS request.now.from request.now.end }
+    requires high { (request.now.from ≤ slice_end outset.seen)
+        × (request.now.end ≤ slice_end outset.seen) }
+    requires fits { length outset.seen.content + 1 < 2 ^ 64 }
+    requires rests { request.now.extent.may_rest ≡ true → W.BACKWARDS ≡ false }
+    ensures keeps { Keeps input.old input.new }
+    ensures over { HasRun (T.view table.now W.BACKWARDS) W.BACKWARDS outset request.now cache.new
+        result.read result.ended }
+{
+    match cross::<W, T, C>(table, cache, input, request, request.end, begin) {
+        Progress::Through(last) => {
+            let ended = finish::<W, T, C>(table, cache, input, request, last);
+            let read = request.end + 1;
+            Reading { ended, read }
+        }
+        Progress::Over(reading) => reading,
+    }
 }
 
 /// Searches in bytes of the whole content, wherever chunks are cut. Returns what was found last,
@@ -363,12 +401,5 @@ pub fn search<W: Way, T: Transitions, C: Cursor>(
         Progress::Through(stand) => stand,
         Progress::Over(reading) => return reading,
     };
-    match cross::<W, T, C>(table, cache, input, request, stand) {
-        Progress::Through(last) => {
-            let ended = finish::<W, T, C>(table, cache, input, request, last);
-            let read = request.end + 1;
-            Reading { ended, read }
-        }
-        Progress::Over(reading) => reading,
-    }
+    go_on::<W, T, C>(table, cache, input, request, stand)
 }

@@ -103,5 +103,10 @@ pub trait Transitions {
     /// it rests.
     fn next_look(&self, at: usize, rest_from: usize) -> usize;
 
+    /// Returns how many times all rows of a direction were dropped. While that stays the same, and
+    /// is less than `usize::MAX`, each row stays that of its state.
+    fn era<W: Way>(&self, cache: &Self::Cache) -> usize
+        ensures { result ≡ (view self.now W.BACKWARDS).era cache.now };
+
     ghost lawful: { (x : Self) (backwards : Bool) → IsLawful (view x backwards) };
 }

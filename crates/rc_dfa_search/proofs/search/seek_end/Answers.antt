@@ -1,5 +1,7 @@
-use Rattle.std.proofs.Common.{refl, ◌+◌, ◌-◌, ◌*◌, ℕ, Bool, sym, ap, subst, ◌∙◌, arith, inl, inr, ⊎_elim, min, max}
+use Rattle.std.proofs.Common.{◌≡◌, ◌⊎◌, Option, Some, None, IfSome, refl, ◌+◌, ◌-◌, ◌*◌, ℕ, Bool, sym, ap, subst, ◌∙◌, arith, inl, inr, ⊎_elim, min, max}
 use Rattle.rc_text.specs.Text.{low, high}
+use Rattle.rc_dfa.specs.Trails.{IsBare}
+use Rattle.rc_dfa.specs.declared.trail.Trail.{Trail}
 use Rattle.rc_text.specs.Plain.{is_anchored as anchors}
 use Rattle.rc_dfa_search.specs.Aims.{is_early, search_for, search_from}
 use Rattle.rc_dfa_search.specs.Ends.{cost_forwards, may_end}
@@ -9,17 +11,26 @@ use Rattle.rc_dfa_search.proofs.ToldLemmas.{asks_none, asks_so, case_from, kept_
 use Rattle.rc_dfa_search.proofs.SeekLemmas.{void_answer, stands_first, run_none, run_end, run_raised}
 use Rattle.rc_dfa_search.proofs.search.seek_end.Given.{Over}
 use Rattle.rc_dfa_search.proofs.search.seek_end.Goals as goal
-use Rattle.rc_dfa_search.proofs.search.seek_end.Goals.{After-run_forwards}
+use Rattle.rc_dfa_search.proofs.search.seek_end.Goals.{After-run_along}
 
-spent : (g : Over) (c : After-run_forwards g) → g.H.Halves.Spends c.args.halves.now c.args.cache.now c.run_forwards.new.cache (cost_forwards c.args.input.now)
+-- what holds of the trail, if there is one
+still : {A : Type 0} (P Q : A → Type 0) → ((a : A) → P a → Q a) → (o : Option A) → IfSome o P → IfSome o Q
+still P Q f None h = h
+still P Q f (Some a) h = f a h
+
+readied : (P : Trail → Type 0) → ((t : Trail) → IsBare t → P t) → (old new : Option Trail) → (new ≡ old) ⊎ ((t : Trail) × (new ≡ Some t) × IsBare t) → IfSome old P → IfSome new P
+readied P bare old new (inl same) h = subst (λ o. IfSome o P) (sym same) h
+readied P bare old new (inr x) h = subst (λ o. IfSome o P) (sym x.1) (bare x.0 x.2)
+
+spent : (g : Over) (c : After-run_along g) → g.H.Halves.Spends c.args.halves.now c.args.cache.now c.run_along.new.cache (cost_forwards c.args.input.now)
 spent g c =
     let i = c.starts.invariant in
-    g.met.H.Halves.spends_within c.args.halves.now c.args.cache.now c.run_forwards.new.cache
+    g.met.H.Halves.spends_within c.args.halves.now c.args.cache.now c.run_along.new.cache
     ((c.starts.from - low c.args.input.now) * (high c.args.input.now - low c.args.input.now + 2) + (high c.starts.input - c.starts.from + 2)) (cost_forwards c.args.input.now)
     (run_cost c.args.input.now c.starts.input c.starts.from i.keeps (omega (arith, i.above)) (omega (arith, i.below)))
-    (g.met.H.Halves.spends_both c.args.halves.now c.args.cache.now c.starts.cache c.run_forwards.new.cache
+    (g.met.H.Halves.spends_both c.args.halves.now c.args.cache.now c.starts.cache c.run_along.new.cache
     ((c.starts.from - low c.args.input.now) * (high c.args.input.now - low c.args.input.now + 2)) (high c.starts.input - c.starts.from + 2)
-    i.spends c.run_forwards.ensures.spends)
+    i.spends c.run_along.ensures.spends)
 
 pub returns-then-not-asks-clause-none : goal.returns-then-not-asks-clause-none
 returns-then-not-asks-clause-none g c hs terminator of =
@@ -43,6 +54,7 @@ starts-init g c =
           (omega (arith, c.requires.ordered, c.requires.high)) asks);
       spends = g.met.H.Halves.spends_nothing c.args.halves.now c.args.cache.now
           ((c.args.bounds.low - low c.args.input.now) * (high c.args.input.now - low c.args.input.now + 2));
+      trail = tt;
     }
 
 pub returns-in_err-met-clause-fault : goal.returns-in_err-met-clause-fault
@@ -50,28 +62,28 @@ returns-in_err-met-clause-fault g c hs terminator of =
     let i = c.starts.invariant in
     let s = c.args.input.now in
     let b = c.starts.input in
-    let Gives : ℕ → Bool → Type 0 = g.H.Halves.GivesUp c.args.halves.now c.args.cache.now c.run_forwards.new.cache in
-    let Once : Bool → Type 0 = g.H.Halves.GivesUp c.args.halves.now c.starts.cache c.run_forwards.new.cache (high b - c.starts.from + 2) in
+    let Gives : ℕ → Bool → Type 0 = g.H.Halves.GivesUp c.args.halves.now c.args.cache.now c.run_along.new.cache in
+    let Once : Bool → Type 0 = g.H.Halves.GivesUp c.args.halves.now c.starts.cache c.run_along.new.cache (high b - c.starts.from + 2) in
     let before : ℕ = (c.starts.from - low s) * (high s - low s + 2) in
     let later : (memory : Bool) → Once memory → Gives (cost_forwards s) memory =
-    λ memory once. g.met.H.Halves.gives_up_within c.args.halves.now c.args.cache.now c.run_forwards.new.cache (before + (high b - c.starts.from + 2)) (cost_forwards s) memory
+    λ memory once. g.met.H.Halves.gives_up_within c.args.halves.now c.args.cache.now c.run_along.new.cache (before + (high b - c.starts.from + 2)) (cost_forwards s) memory
     (run_cost s b c.starts.from i.keeps (omega (arith, i.above)) (omega (arith, i.below)))
-    (g.met.H.Halves.gives_up_later c.args.halves.now c.args.cache.now c.starts.cache c.run_forwards.new.cache before (high b - c.starts.from + 2) memory i.spends once) in
+    (g.met.H.Halves.gives_up_later c.args.halves.now c.args.cache.now c.starts.cache c.run_along.new.cache before (high b - c.starts.from + 2) memory i.spends once) in
     refused c.from_residual.result c.in_err-met.field-0.0 c.from_residual.ensures.1 (IsFault hs (search_for c.args.aim hs terminator s) (Gives (cost_forwards s)))
     (weaker_fault hs (search_for c.args.aim hs terminator s) Once (Gives (cost_forwards s)) later c.in_err-met.field-0.0
     (subst (λ x. IsFault hs x Once c.in_err-met.field-0.0) (kept_search c.args.aim hs terminator s b i.keeps) (c.in_err-met.ensures.fault hs terminator of)))
 
 pub returns-in_err-met-clause-spends : goal.returns-in_err-met-clause-spends
-returns-in_err-met-clause-spends g c = spent g (goal.at.returns-in_err-met-clause-spends g c).After-run_forwards
+returns-in_err-met-clause-spends g c = spent g (goal.at.returns-in_err-met-clause-spends g c).After-run_along
 
 pub returns-in_default-clause-spends : goal.returns-in_default-clause-spends
-returns-in_default-clause-spends g c = spent g (goal.at.returns-in_default-clause-spends g c).After-run_forwards
+returns-in_default-clause-spends g c = spent g (goal.at.returns-in_default-clause-spends g c).After-run_along
 
 pub returns-then-may_end-clause-spends : goal.returns-then-may_end-clause-spends
-returns-then-may_end-clause-spends g c = spent g (goal.at.returns-then-may_end-clause-spends g c).After-run_forwards
+returns-then-may_end-clause-spends g c = spent g (goal.at.returns-then-may_end-clause-spends g c).After-run_along
 
 pub returns-then-anchored-clause-spends : goal.returns-then-anchored-clause-spends
-returns-then-anchored-clause-spends g c = spent g (goal.at.returns-then-anchored-clause-spends g c).After-run_forwards
+returns-then-anchored-clause-spends g c = spent g (goal.at.returns-then-anchored-clause-spends g c).After-run_along
 
 pub returns-in_default-clause-none : goal.returns-in_default-clause-none
 returns-in_default-clause-none g c hs terminator of =
@@ -104,7 +116,7 @@ starts-preserved g c =
     let content = c.in_ok-met.ensures.keeps.content ∙ i.keeps.content in
     record {
       cache = c.in_ok-met.ensures.cache;
-      keeps = kept_then s c.run_forwards.new.input c.may_end.new.input (kept_then s c.starts.input c.run_forwards.new.input i.keeps c.in_ok-met.ensures.keeps) c.may_end.ensures.keeps;
+      keeps = kept_then s c.run_along.new.input c.may_end.new.input (kept_then s c.starts.input c.run_along.new.input i.keeps c.in_ok-met.ensures.keeps) c.may_end.ensures.keeps;
       above = (i.above.0, omega (arith, i.above));
       below = (i.below.0, omega (arith, c.if-from-high.false));
       asks = i.asks;
@@ -114,9 +126,16 @@ starts-preserved g c =
           (ap (λ bytes. may_end c.args.aim.kind c.args.aim.passes_over bytes c.in-Some.met.at) (sym content) ∙ sym c.may_end.ensures.value ∙ c.if-may_end.false) in
           let so = sym (c.is_anchored-anchored.ensures ∙ ap anchors c.get_anchored-anchoring.ensures) in
           r.0 (omega (arith, c.if-from-high.false, i.below)) (so ∙ c.if-anchored.false);
-      spends = g.met.H.Halves.spends_within c.args.halves.now c.args.cache.now c.run_forwards.new.cache
+      spends = g.met.H.Halves.spends_within c.args.halves.now c.args.cache.now c.run_along.new.cache
           ((c.starts.from - low s) * (high s - low s + 2) + (high c.starts.input - c.starts.from + 2)) ((c.starts.from + 1 - low s) * (high s - low s + 2))
           (next_cost s c.starts.input c.starts.from i.keeps (omega (arith, i.above)) (omega (arith, i.below)))
-          (g.met.H.Halves.spends_both c.args.halves.now c.args.cache.now c.starts.cache c.run_forwards.new.cache
+          (g.met.H.Halves.spends_both c.args.halves.now c.args.cache.now c.starts.cache c.run_along.new.cache
           ((c.starts.from - low s) * (high s - low s + 2)) (high c.starts.input - c.starts.from + 2) i.spends c.in_ok-met.ensures.spends);
+      trail = readied (g.H.Halves.IsTrail c.args.halves.now c.run_along.new.cache c.may_end.new.input c.args.bounds.high (is_early c.args.aim))
+          (g.met.H.Halves.bare_trail c.args.halves.now c.run_along.new.cache c.may_end.new.input c.args.bounds.high (is_early c.args.aim))
+          c.run_along.new.trail c.ready.new.trail c.ready.ensures
+          (still (g.H.Halves.IsTrail c.args.halves.now c.run_along.new.cache c.run_along.new.input c.args.bounds.high (is_early c.args.aim))
+          (g.H.Halves.IsTrail c.args.halves.now c.run_along.new.cache c.may_end.new.input c.args.bounds.high (is_early c.args.aim))
+          (λ t. g.met.H.Halves.trail_kept c.args.halves.now c.run_along.new.cache c.run_along.new.input c.may_end.new.input c.args.bounds.high (is_early c.args.aim) t c.may_end.ensures.keeps)
+          c.run_along.new.trail c.in_ok-met.ensures.trail);
     }

@@ -1,6 +1,6 @@
 use Rattle.std.proofs.Common.{◌∙◌, IfSome, None, not, sym, subst, ap}
 use Rattle.rc_table_search.specs.Ways.{IsBeside, offset_of}
-use Rattle.rc_table_search.specs.Searches.{IsAt}
+use Rattle.rc_table_search.specs.Searches.{HasBegun}
 use Rattle.rc_table_search.proofs.SearchLemmas.{begin_dies, begin_goes, begin_quits}
 use Rattle.rc_table_search.proofs.search.begin.Goals as goal
 use Rattle.rc_table_search.proofs.search.begin.Goals.{In-Ok}
@@ -30,7 +30,7 @@ pub returns : goal.returns
 returns g c =
     let backwards = g.W.Way.BACKWARDS in
     let v = g.T.Transitions.view c.args.table.now backwards in
-    subst (λ k. IsAt v backwards g.origin c.args.request.now c.start.new.cache c.args.request.now.from (record { row = k; noted = None })) (sym c.row_of-row.ensures)
+    subst (λ k. HasBegun v backwards g.origin c.args.request.now c.start.new.cache (record { row = k; noted = None })) (sym c.row_of-row.ensures)
     (begin_goes _ v (g.met.T.Transitions.lawful c.args.table.now backwards) backwards g.origin c.args.request.now
     c.start.new.cache c.args.beside c.in-Ok.cell c.in-Ok.ensures.cache (spends g (goal.at.returns g c).In-Ok) c.in-Ok.ensures.cell c.requires.1.1.1.1.1.1.0
     c.if-cell.false (sym c.has_died.ensures ∙ c.if-has_died.false))

@@ -1,0 +1,29 @@
+use Rattle.std.proofs.Common.{◌≡◌, ◌-◌, false, sym, subst, ap}
+use Rattle.rc_text.specs.Text.{Searched}
+use Rattle.rc_table_search.specs.Searches.{HasRun, Origin}
+use Rattle.rc_table_search.proofs.SearchLemmas.{over_run}
+use Rattle.rc_table_search.proofs.TrailLemmas.{run_kept, trail_on}
+use Rattle.rc_table_search.specs.TrailLaws.{trail_kept}
+use Rattle.rc_table_search.proofs.again.search_again.Goals as goal
+
+pub run_on-requires-clause-trail : goal.run_on-requires-clause-trail
+run_on-requires-clause-trail g c =
+    let v = g.T.Transitions.view c.args.table.now false in
+    let q = c.args.request.now in
+    let begun : g.origin.begun ≡ c.args.cache.now = ap (λ (o : Origin _). o.begun) c.requires.1.1.1.0 in
+    c.renew.ensures c.byte_beside-beside.new.input q.end q.extent.earliest
+    (trail_kept v c.begin.new.cache c.args.input.now c.byte_beside-beside.new.input q.end q.extent.earliest c.args.trail.now
+    c.byte_beside-beside.ensures.keeps
+    (trail_on _ v (g.met.T.Transitions.lawful c.args.table.now false) c.args.cache.now c.begin.new.cache 1 c.args.input.now q.end q.extent.earliest c.args.trail.now
+    c.requires.1.1.1.1.0 (subst (λ k. v.Spends k c.begin.new.cache 1) begun c.in-Through.ensures.spends) c.requires.1.1.1.1.1.1.1.1.1))
+
+pub returns-clause-over : goal.returns-clause-over
+returns-clause-over g c =
+    let v = g.T.Transitions.view c.args.table.now false in
+    let laws = g.met.T.Transitions.lawful c.args.table.now false in
+    let q = c.args.request.now in
+    let seen : g.origin.seen ≡ c.args.input.now = ap (λ (o : Origin _). o.seen) c.requires.1.1.1.0 in
+    over_run _ v laws false g.origin q c.begin.new.cache c.run_on.new.cache c.in-Through.stand c.run_on.result.read c.run_on.result.ended c.in-Through.ensures
+    (subst (λ s. HasRun v false (record { seen = s; begun = c.begin.new.cache; row = c.in-Through.stand.row }) q c.run_on.new.cache c.run_on.result.read c.run_on.result.ended) (sym seen)
+    (run_kept _ v laws c.args.input.now c.byte_beside-beside.new.input c.byte_beside-beside.ensures.keeps q c.begin.new.cache c.run_on.new.cache c.in-Through.stand.row
+    c.run_on.result.read c.run_on.result.ended c.run_on.ensures.over))
