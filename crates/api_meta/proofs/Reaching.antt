@@ -233,6 +233,19 @@ pub least_settled : (r : Regex) (i : Searched) (o : Settled) (m : ℕ) → IsAns
 least_settled r i o m h x =
     least (regex_kind r) (search_for (sought r) i) m o.reach x (λ t in2 agrees. below r i o h t in2 agrees ∙ sym (settled_answer r i o h))
 
+-- so it is of walks
+pub walk_least : (r : Regex) (i : Searched) (m n : ℕ) → IsWalkSettled (regex_kind r) m (search_for (sought r) i) →
+    IsWalkSettled r.engines.engine.kind n (engine_search r.engines.engine i) → IsWalkSettled (regex_kind r) (min m n) (search_for (sought r) i)
+walk_least r i m n x y =
+    let kind = regex_kind r in
+    let s = search_for (sought r) i in
+    let told : IsWalkSettled kind n s =
+    subst (λ k. IsWalkSettled k n s) r.fits.kinded (subst (IsWalkSettled r.engines.engine.kind n) (fits_search r.fits i) y) in
+    elim (cases_lt m n) [
+      | inl h ↦ let e : m ≡ min m n = omega (arith, h) in subst (λ k. IsWalkSettled kind k s) e x
+      | inr h ↦ let e : n ≡ min m n = omega (arith, h) in subst (λ k. IsWalkSettled kind k s) e told
+    ]
+
 pub near_more : (hs : List Re) (kind : MatchKind) (o : Option Found) (m n : ℕ) → n ≤ m → IsNear kind hs o m → IsNear kind hs o n
 near_more hs kind None m n h near = λ other. tt
 near_more hs kind (Some f) m n h near = λ other k e. let l = near other k e in omega (arith, l, h)

@@ -50,13 +50,17 @@ impl Regex {
     /// it, in a cache that was made for this regex. It takes no memory.
     ///
     /// The reach is right, but needn't be the least. If no pattern matches more than n bytes, a
-    /// match has a reach of at most n + 4 bytes from its start, except under `MatchKind::All`. So
-    /// does an anchored search from its own start, also without a match. If a DFA searches forwards
-    /// for a leftmost match, and none is passed over, the reach ends where it saw that nothing goes
-    /// on, or as far as the longest literal would reach from the last one that it tried. If the
-    /// Pike VM reads along the text by no literals, for a leftmost-first match, it ends at most
-    /// four bytes after those that its walks read. Otherwise the reach goes to the end of the
-    /// slice, and one further.
+    /// match has a reach of at most n bytes from its start, and as many more as assertions look
+    /// ahead, except under `MatchKind::All`. Those are none without assertions that look ahead, at
+    /// most one without word boundaries of Unicode, and at most four with them; and one at least if
+    /// matches that end inside a character are passed over. An anchored search from its own start
+    /// has a reach of at most n + 4 bytes from there, also without a match.
+    ///
+    /// If a DFA searches forwards for a leftmost match, and none is passed over, the reach ends
+    /// where it saw that nothing goes on, or as far as the longest literal would reach from the
+    /// last one that it tried. If the Pike VM reads along the text by no literals, for a
+    /// leftmost-first match, it ends at most four bytes after those that its walks read. Otherwise
+    /// the reach goes to the end of the slice, and one further.
     pub fn search_reach_with<C: Cursor>(&self, cache: &mut Cache, input: &mut Input<C>) -> Reached
         requires made { IsCacheFor (regex_patterns self.now) (regex_settings self.now) cache.old }
         ensures cache { IsCacheFor (regex_patterns self.now) (regex_settings self.now) cache.new }
@@ -79,9 +83,9 @@ impl Regex {
     }
 
     /// Writes the match that `captures` finds to captures that were made for this regex, in a cache
-    /// that was made for it. Returns how many bytes settle the match and its groups. They are as
-    /// many as the lengths of the patterns tell, as `search_reach_with` says, else one more than up
-    /// to the end of the slice. It takes no memory.
+    /// that was made for it. Returns how many bytes settle the match and its groups: as many as
+    /// `search_reach_with` tells, or those up to the end of the match and after it at which
+    /// assertions look, if these are more. It takes no memory.
     pub fn search_captures_reach_with<C: Cursor>(
         &self,
         cache: &mut Cache,
@@ -105,8 +109,8 @@ impl Regex {
         ensures near { IsNear (regex_kind self.now) (regex_patterns self.now)
             (match_of caps.new) result }
     {
-        self.search_captures_with(cache, input, caps);
-        self.reach_of(caps.get_match(), input)
+        let settled = self.engines.settle_captures(&mut cache.inner, input, caps);
+        self.reach_of(settled.found, input).min(settled.reach)
     }
 
     /// How many bytes settle what a search of the input found, as far as the lengths of the
