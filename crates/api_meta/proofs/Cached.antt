@@ -7,6 +7,7 @@ use Rattle.rc_captures.specs.Names.{slot_len}
 use Rattle.rc_program.specs.Columns.{row_width}
 use Rattle.rc_program.specs.Places.{places_of}
 use Rattle.rc_program.specs.Program.{Place, program, shown}
+use Rattle.rc_pikevm.specs.Caches.{Made}
 use Rattle.rc_settings.specs.Which.{is_grouped}
 use Rattle.rc_settings.specs.Settings.{which_captures_of}
 use Rattle.rc_strategy.specs.Caches.{IsCacheBy, IsCacheIn, IsSameCacheIn}
@@ -66,3 +67,7 @@ module _ (r : Regex) where
   stays_for c d i s =
       made (slot_len (regex_names r)) d
       (still_by r.engines (slot_len (regex_names r)) plan r.planned c d (own (slot_len (regex_names r)) c i) s)
+
+  -- with the same room for a pass
+  pub keeps_room : (c d : Cache) → IsSameCacheIn r.engines c d → d.pass.room ≡ c.pass.room
+  keeps_room c d s = ap (λ (p : Made). p.room) s.pass

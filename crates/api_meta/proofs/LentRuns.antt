@@ -34,11 +34,11 @@ module _ {C : Type 0} where
   find_runs p u = as_is p (find_with_left p.from) (from_front (FindNextWith {C = C}) (λ x. x) find_with_left (λ s t h. ap length h.0.0.0) (λ s x t h. h.0.0) p u)
 
   pub find_keeps : (s : FindMatchesWith C) → FindKeepsAlong s
-  find_keeps s [] t run = subst (FindKeepsWith s) run (stays (find_by s).seeker s.input.now, (refl, refl), λ made. made)
+  find_keeps s [] t run = subst (FindKeepsWith s) run (stays (find_by s).seeker s.input.now, (refl, refl, refl), λ made. made)
   find_keeps s (item ∷ items) t (next, step, run) =
       let rest = find_keeps next items t run in (
         goes_on (find_by s).seeker (find_by next).seeker (find_by t).seeker s.input.now next.input.now t.input.now step.0.1 rest.0,
-        (rest.1.0 ∙ step.1.0, rest.1.1 ∙ step.1.1),
+        (rest.1.0 ∙ step.1.0, rest.1.1 ∙ step.1.1, rest.1.2 ∙ step.1.2),
         λ made. rest.2 step.2,
       )
 
@@ -47,12 +47,12 @@ module _ {C : Type 0} where
   captures_alike s (item ∷ items) t (next, step, run) = (captures_by next, step.0, captures_alike next items t run)
 
   pub captures_keep : (s : CapturesMatchesWith C) → CapturesKeepAlong s
-  captures_keep s [] t run = subst (CapturesKeepWith s) run (stays (captures_by s).seeker.seeker s.input.now, (refl, refl), λ made. made)
+  captures_keep s [] t run = subst (CapturesKeepWith s) run (stays (captures_by s).seeker.seeker s.input.now, (refl, refl, refl), λ made. made)
   captures_keep s (item ∷ items) t (next, step, run) =
       let rest = captures_keep next items t run in (
         goes_on (captures_by s).seeker.seeker (captures_by next).seeker.seeker (captures_by t).seeker.seeker s.input.now next.input.now t.input.now step.0.1
             rest.0,
-        (rest.1.0 ∙ step.1.0, rest.1.1 ∙ step.1.1),
+        (rest.1.0 ∙ step.1.0, rest.1.1 ∙ step.1.1, rest.1.2 ∙ step.1.2),
         λ made. rest.2 step.2,
       )
 

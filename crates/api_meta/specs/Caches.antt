@@ -1,5 +1,5 @@
 -- What caches are made for.
-use Rattle.std.specs.Prelude.{ℕ, List, length}
+use Rattle.std.specs.Prelude.{◌≡◌, ℕ, List, length}
 use Rattle.rc_pattern.specs.Re.{Re}
 use Rattle.rc_captures.specs.Names.{slot_len}
 use Rattle.rc_program.specs.Columns.{row_width}
@@ -20,6 +20,10 @@ IsCacheFor hs s cache =
     engines.IsCacheBy (length (program (shown (is_grouped (which_captures_of s)) hs)))
     (row_width (program (shown (is_grouped (which_captures_of s)) hs)) (slot_len (names_shown (is_grouped (which_captures_of s)) hs)))
     (plan_by hs s) cache.inner
+
+-- Each list of the second cache has room for as many elements as in the first, but for those of states of a lazy DFA.
+abbrev pub HasSameRoom : Cache → Cache → Type 0
+HasSameRoom old new = new.inner.pass.room ≡ old.inner.pass.room
 
 -- the cache of an iterator was made for searches by the regex with so many slots
 abbrev pub IsCacheIn : Regex → ℕ → inner.Cache → Type 0

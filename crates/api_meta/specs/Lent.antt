@@ -7,7 +7,7 @@ use Rattle.std.specs.Iterator.Runs.{YieldsInOrder}
 use Rattle.rc_text.specs.Found.{Found}
 use Rattle.rc_text.specs.Text.{Searched}
 use Rattle.rc_captures.specs.declared.captures.Captures.{Captures}
-use Rattle.api_meta.specs.Caches.{IsCacheFor}
+use Rattle.api_meta.specs.Caches.{HasSameRoom, IsCacheFor}
 use Rattle.api_meta.specs.Left.{CapturesKeeps, CapturesNext, FindKeeps, FindNext, captures_left, find_left}
 use Rattle.api_meta.specs.Seeking.{seeking}
 use Rattle.api_meta.specs.Views.{regex_patterns, regex_settings}
@@ -36,9 +36,10 @@ module _ {C : Type 0} where
   abbrev pub find_with_lenders : FindMatchesWith C → GName × GName
   find_with_lenders s = (s.cache.ghost_name, s.input.ghost_name)
 
-  -- both borrow the same cache and the same input
+  -- both borrow the same cache, whose lists have the same room, and the same input
   abbrev pub AreFindsOfOne : FindMatchesWith C → FindMatchesWith C → Type 0
-  AreFindsOfOne s t = (t.cache.ghost_name ≡ s.cache.ghost_name) × (t.input.ghost_name ≡ s.input.ghost_name)
+  AreFindsOfOne s t =
+      (t.cache.ghost_name ≡ s.cache.ghost_name) × (t.input.ghost_name ≡ s.input.ghost_name) × HasSameRoom s.cache.now t.cache.now
 
   -- the cache was made for the regex
   abbrev pub HasItsCache : FindMatchesWith C → Type 0
@@ -77,7 +78,8 @@ module _ {C : Type 0} where
   captures_with_lenders s = (s.cache.ghost_name, s.input.ghost_name)
 
   abbrev pub AreCapturesOfOne : CapturesMatchesWith C → CapturesMatchesWith C → Type 0
-  AreCapturesOfOne s t = (t.cache.ghost_name ≡ s.cache.ghost_name) × (t.input.ghost_name ≡ s.input.ghost_name)
+  AreCapturesOfOne s t =
+      (t.cache.ghost_name ≡ s.cache.ghost_name) × (t.input.ghost_name ≡ s.input.ghost_name) × HasSameRoom s.cache.now t.cache.now
 
   abbrev pub KeepsItsCache : CapturesMatchesWith C → Type 0
   KeepsItsCache s = IsCacheFor (regex_patterns s.regex.now) (regex_settings s.regex.now) s.cache.now

@@ -5,7 +5,11 @@ use rc_strategy::cache;
 use std::alloc::{AllocError, Global};
 use std::fmt;
 
-/// The scratch memory of searches by a regex, allocated once.
+/// The scratch memory of searches by a regex. Its lists are allocated once.
+///
+/// If the regex has a lazy DFA, a state of it takes memory when a search first reaches it, up to
+/// the capacity that is set. If that is refused, another engine searches. Where a search is said to
+/// take no memory, it takes none but this.
 #[derive(Drop)]
 pub struct Cache {
     alloc: Global,

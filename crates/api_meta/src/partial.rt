@@ -25,7 +25,7 @@ impl Regex {
     ghost use Rattle.rc_program.specs.Kinds.{answer_by};
     ghost use Rattle.rc_reach.specs.Partial.{IsPartial, from_place};
     ghost use Rattle.rc_text.specs.Text.{Keeps, high, low};
-    ghost use Rattle.api_meta.specs.Caches.{IsCacheFor};
+    ghost use Rattle.api_meta.specs.Caches.{HasSameRoom, IsCacheFor};
     ghost use Rattle.api_meta.specs.Partials.{IsOnward, partial_of};
     ghost use Rattle.api_meta.specs.Views.{regex_kind, regex_patterns, regex_settings, sought};
 
@@ -44,6 +44,7 @@ impl Regex {
     pub fn search_partial_with<C: Cursor>(&self, cache: &mut Cache, input: &mut Input<C>) -> Partial
         requires made { IsCacheFor (regex_patterns self.now) (regex_settings self.now) cache.old }
         ensures cache { IsCacheFor (regex_patterns self.now) (regex_settings self.now) cache.new }
+        ensures room { HasSameRoom cache.old cache.new }
         ensures keeps { Keeps input.old input.new }
         ensures told { IsPartial (regex_kind self.now) (search_for (sought self.now) input.old)
             (partial_of result) }

@@ -41,7 +41,7 @@ impl Regex {
     ghost use Rattle.rc_reach.specs.Settled.{IsSettled};
     ghost use Rattle.rc_text.specs.Bounds.{IsWithinBounds};
     ghost use Rattle.rc_text.specs.Text.{Keeps, slice_end};
-    ghost use Rattle.api_meta.specs.Caches.{IsCacheFor};
+    ghost use Rattle.api_meta.specs.Caches.{HasSameRoom, IsCacheFor};
     ghost use Rattle.api_meta.specs.Reached.{IsNear, TellsBelow};
     ghost use Rattle.api_meta.specs.Reaching.{EndsSettled, last_start};
     ghost use Rattle.api_meta.specs.Views.{regex_kind, regex_names, regex_patterns, regex_settings, sought};
@@ -64,6 +64,7 @@ impl Regex {
     pub fn search_reach_with<C: Cursor>(&self, cache: &mut Cache, input: &mut Input<C>) -> Reached
         requires made { IsCacheFor (regex_patterns self.now) (regex_settings self.now) cache.old }
         ensures cache { IsCacheFor (regex_patterns self.now) (regex_settings self.now) cache.new }
+        ensures room { HasSameRoom cache.old cache.new }
         ensures keeps { Keeps input.old input.new }
         ensures found { result.found
             ≡ answer_by (regex_kind self.now) (search_for (sought self.now) input.old) }
@@ -95,6 +96,7 @@ impl Regex {
         requires made { IsCacheFor (regex_patterns self.now) (regex_settings self.now) cache.old }
         requires for_regex { IsCapturesFor (regex_names self.now) caps.old }
         ensures cache { IsCacheFor (regex_patterns self.now) (regex_settings self.now) cache.new }
+        ensures room { HasSameRoom cache.old cache.new }
         ensures keeps { Keeps input.old input.new }
         ensures still_made { IsCapturesFor (regex_names self.now) caps.new }
         ensures long { length (captures_slots caps.new) ≡ length (captures_slots caps.old) }

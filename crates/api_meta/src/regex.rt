@@ -81,7 +81,7 @@ impl Regex {
     ghost use Rattle.rc_parses.specs.Preference.{ArePlain, IsPreferredMatch};
     ghost use Rattle.rc_strategy.specs.Caches.{IsCacheIn};
     ghost use Rattle.rc_strategy.specs.Early.{IsHalfBy};
-    ghost use Rattle.api_meta.specs.Caches.{IsCacheFor};
+    ghost use Rattle.api_meta.specs.Caches.{HasSameRoom, IsCacheFor};
     ghost use Rattle.api_meta.specs.Preferred.{HoldsPreferred};
     ghost use Rattle.api_meta.specs.Views.{builder_settings, builder_syntax, regex_kind, regex_patterns, regex_settings, regex_names, sought};
 
@@ -195,6 +195,7 @@ impl Regex {
     pub fn search_with<C: Cursor>(&self, cache: &mut Cache, input: &mut Input<C>) -> Option<Match>
         requires made { IsCacheFor (regex_patterns self.now) (regex_settings self.now) cache.old }
         ensures cache { IsCacheFor (regex_patterns self.now) (regex_settings self.now) cache.new }
+        ensures room { HasSameRoom cache.old cache.new }
         ensures keeps { Keeps input.old input.new }
         ensures found { match_kind_of (regex_settings self.now) ≡ LeftmostFirst
             → is_early input.old.earliest (search_for (sought self.now) input.old) ≡ false
@@ -240,6 +241,7 @@ impl Regex {
     ) -> Option<HalfMatch>
         requires made { IsCacheFor (regex_patterns self.now) (regex_settings self.now) cache.old }
         ensures cache { IsCacheFor (regex_patterns self.now) (regex_settings self.now) cache.new }
+        ensures room { HasSameRoom cache.old cache.new }
         ensures keeps { Keeps input.old input.new }
         ensures found_by { is_early input.old.earliest (search_for (sought self.now) input.old)
             ≡ false
@@ -451,6 +453,7 @@ impl Regex {
         requires made { IsCacheFor (regex_patterns self.now) (regex_settings self.now) cache.old }
         requires for_regex { IsCapturesFor (regex_names self.now) caps.old }
         ensures cache { IsCacheFor (regex_patterns self.now) (regex_settings self.now) cache.new }
+        ensures room { HasSameRoom cache.old cache.new }
         ensures keeps { Keeps input.old input.new }
         ensures still_made { IsCapturesFor (regex_names self.now) caps.new }
         ensures long { length (captures_slots caps.new) ≡ length (captures_slots caps.old) }
@@ -507,6 +510,7 @@ impl Regex {
         requires made { IsCacheFor (regex_patterns self.now) (regex_settings self.now) cache.old }
         requires few { length slots.old ≤ slot_len (regex_names self.now) }
         ensures cache { IsCacheFor (regex_patterns self.now) (regex_settings self.now) cache.new }
+        ensures room { HasSameRoom cache.old cache.new }
         ensures keeps { Keeps input.old input.new }
         ensures pattern_by { result ≡ option_map (λ (m : Found). m.pattern)
             (answer_by (regex_kind self.now) (search_for (sought self.now) input.old)) }

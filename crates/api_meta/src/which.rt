@@ -9,7 +9,7 @@ use rc_text::input::Input;
 
 impl Regex {
     ghost use Rattle.std.specs.Prelude.{◌↔◌, IsSome, IsTrue};
-    ghost use Rattle.api_meta.specs.Caches.{IsCacheFor};
+    ghost use Rattle.api_meta.specs.Caches.{HasSameRoom, IsCacheFor};
     ghost use Rattle.api_meta.specs.Views.{regex_kind, regex_patterns, regex_settings, sought};
     ghost use Rattle.rc_pikevm.specs.PatternSpans.{AddsSpelled};
     ghost use Rattle.rc_program.specs.Kinds.{answer_by};
@@ -21,6 +21,7 @@ impl Regex {
     pub fn is_match_with<C: Cursor>(&self, cache: &mut Cache, input: &mut Input<C>) -> bool
         requires made { IsCacheFor (regex_patterns self.now) (regex_settings self.now) cache.old }
         ensures cache { IsCacheFor (regex_patterns self.now) (regex_settings self.now) cache.new }
+        ensures room { HasSameRoom cache.old cache.new }
         ensures keeps { Keeps input.old input.new }
         ensures found_by { IsTrue result
             ↔ IsSome (answer_by (regex_kind self.now) (search_for (sought self.now) input.old)) }
@@ -49,6 +50,7 @@ impl Regex {
     )
         requires made { IsCacheFor (regex_patterns self.now) (regex_settings self.now) cache.old }
         ensures cache { IsCacheFor (regex_patterns self.now) (regex_settings self.now) cache.new }
+        ensures room { HasSameRoom cache.old cache.new }
         ensures keeps { Keeps input.old input.new }
         ensures adds { AddsSpelled (search_for (sought self.now) input.old) set.old set.new }
     {

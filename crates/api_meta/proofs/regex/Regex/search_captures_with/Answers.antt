@@ -6,7 +6,7 @@ use Rattle.rc_program.specs.Sought.{search_for}
 use Rattle.rc_text.specs.declared.types.MatchKind.TheVariants.{LeftmostFirst as leftmost_first}
 use Rattle.api_meta.specs.Views.{regex_kind, regex_names, sought}
 use Rattle.rc_build.proofs.Fitted.{told_same}
-use Rattle.api_meta.proofs.Cached.{stays_for}
+use Rattle.api_meta.proofs.Cached.{keeps_room, stays_for}
 use Rattle.api_meta.proofs.Going.{match_made, told_as}
 use Rattle.rc_build.proofs.Matched.{still_for}
 use Rattle.api_meta.proofs.Preferred.{holds_groups}
@@ -41,3 +41,6 @@ returns-clause-preferred g c kind plain =
 pub returns-clause-cache : goal.returns-clause-cache
 returns-clause-cache g c =
     stays_for c.args.self.now c.args.cache.now.inner c.find_captures.new.cache c.requires.made c.find_captures.ensures.cache
+
+pub returns-clause-room : goal.returns-clause-room
+returns-clause-room g c = keeps_room c.args.self.now c.args.cache.now.inner c.find_captures.new.cache c.find_captures.ensures.cache

@@ -1,7 +1,7 @@
-use Rattle.std.proofs.Common.{◌≤◌, length, refl, subst}
+use Rattle.std.proofs.Common.{◌≤◌, ◌∙◌, length, refl, subst}
 use Rattle.rc_program.specs.Sought.{search_for}
 use Rattle.api_meta.specs.Views.{regex_kind, sought}
-use Rattle.api_meta.proofs.Cached.{stays_for}
+use Rattle.api_meta.proofs.Cached.{keeps_room, stays_for}
 use Rattle.api_meta.proofs.Partials.{is_final}
 use Rattle.api_meta.proofs.regex.Regex.search_partial_with.Goals as goal
 
@@ -17,3 +17,8 @@ pub returns-clause-cache : goal.returns-clause-cache
 returns-clause-cache g c =
     stays_for c.args.self.now c.search_reach_with-reached.new.cache.inner c.undecided_from-idle.new.cache c.search_reach_with-reached.ensures.cache
     c.undecided_from-idle.ensures.cache
+
+pub returns-clause-room : goal.returns-clause-room
+returns-clause-room g c =
+    keeps_room c.args.self.now c.search_reach_with-reached.new.cache.inner c.undecided_from-idle.new.cache c.undecided_from-idle.ensures.cache
+    ∙ c.search_reach_with-reached.ensures.room

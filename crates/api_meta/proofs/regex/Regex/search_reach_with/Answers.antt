@@ -8,7 +8,7 @@ use Rattle.rc_reach.specs.Settled.{IsSettled, IsWalkSettled}
 use Rattle.rc_reach.proofs.LawLemmas.{reach_law}
 use Rattle.api_meta.specs.Reached.{IsNear}
 use Rattle.api_meta.specs.Views.{regex_kind, regex_patterns, sought}
-use Rattle.api_meta.proofs.Cached.{stays_for}
+use Rattle.api_meta.proofs.Cached.{keeps_room, stays_for}
 use Rattle.api_meta.proofs.Reaching.{kept, least_settled, near_more, past_least, same_bounds, same_slice, settled_answer}
 use Rattle.api_meta.proofs.regex.Regex.search_reach_with.Given.{Over}
 use Rattle.api_meta.proofs.regex.Regex.search_reach_with.Goals as goal
@@ -63,3 +63,6 @@ returns-clause-near g c =
 pub returns-clause-cache : goal.returns-clause-cache
 returns-clause-cache g c =
     stays_for c.args.self.now c.args.cache.now.inner c.find_settled-settled.new.cache c.requires.made c.find_settled-settled.ensures.cache
+
+pub returns-clause-room : goal.returns-clause-room
+returns-clause-room g c = keeps_room c.args.self.now c.args.cache.now.inner c.find_settled-settled.new.cache c.find_settled-settled.ensures.cache

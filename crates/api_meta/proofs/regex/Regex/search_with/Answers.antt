@@ -1,4 +1,4 @@
-use Rattle.api_meta.proofs.Cached.{stays_for}
+use Rattle.api_meta.proofs.Cached.{keeps_room, stays_for}
 use Rattle.api_meta.proofs.Going.{late_answer, leftmost_answer, may_answer}
 use Rattle.api_meta.proofs.Preferred.{prefers}
 use Rattle.api_meta.proofs.regex.Regex.search_with.Goals as goal
@@ -19,3 +19,6 @@ returns-clause-preferred g c kind plain late =
 pub returns-clause-cache : goal.returns-clause-cache
 returns-clause-cache g c =
     stays_for c.args.self.now c.args.cache.now.inner c.search.new.cache c.requires.made c.search.ensures.cache
+
+pub returns-clause-room : goal.returns-clause-room
+returns-clause-room g c = keeps_room c.args.self.now c.args.cache.now.inner c.search.new.cache c.search.ensures.cache

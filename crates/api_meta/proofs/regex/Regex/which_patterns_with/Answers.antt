@@ -1,7 +1,7 @@
 use Rattle.std.proofs.Common.{◌≡◌, length, subst, arith}
 use Rattle.rc_program.specs.Places.{places_of}
 use Rattle.rc_pikevm.specs.PatternSpans.{AreOfFirst}
-use Rattle.api_meta.proofs.Cached.{stays_for}
+use Rattle.api_meta.proofs.Cached.{keeps_room, stays_for}
 use Rattle.api_meta.proofs.PatternSpans.{are_own, adds_for}
 use Rattle.api_meta.proofs.regex.Regex.which_patterns_with.Goals as goal
 
@@ -18,3 +18,6 @@ returns-clause-adds g c =
 pub returns-clause-cache : goal.returns-clause-cache
 returns-clause-cache g c =
     stays_for c.args.self.now c.args.cache.now.inner c.which_patterns.new.cache c.requires.made c.which_patterns.ensures.cache
+
+pub returns-clause-room : goal.returns-clause-room
+returns-clause-room g c = keeps_room c.args.self.now c.args.cache.now.inner c.which_patterns.new.cache c.which_patterns.ensures.cache
