@@ -1,2 +1,3 @@
 mod Gaps
 mod Ordered
+mod Typed

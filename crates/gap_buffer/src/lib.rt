@@ -4,6 +4,7 @@
 pub mod buffer;
 pub mod cursor;
 pub mod search;
+pub mod typing;
 
 pub use buffer::GapBuffer;
 pub use cursor::GapCursor;
