@@ -90,6 +90,49 @@ class Searches(unittest.TestCase):
                 found.group(group)
 
 
+LONGEST, ALL = {"kind": zorfelith.LEFTMOST_LONGEST}, {"kind": zorfelith.ALL}
+ANY_BYTES = {"any_bytes": True}
+
+# Lists under edits: a pattern, its options, a text, its matches; and edits one after the other, each with a start, an end, the bytes that
+# come between them, and the matches then. All are taken from the definitions.
+LIST_ROWS = [
+    # A match comes only once its last byte does.
+    ("abc", {}, b"xxab", [], (4, 4, b"c", [(2, 5)]), (4, 5, b"", []), (0, 2, b"", []), (2, 2, b"c", [(0, 3)])),
+    # Empty matches: one gives way to the match that is now there, or to one that now ends there.
+    ("x*", {}, b"aax", [(0, 0), (1, 1), (2, 3)], (1, 1, b"x", [(0, 0), (1, 2), (3, 4)]), (1, 2, b"", [(0, 0), (1, 1), (2, 3)])),
+    ("a|", {}, b"ba", [(0, 0), (1, 2)], (0, 1, b"", [(0, 1)]), (0, 0, b"b", [(0, 0), (1, 2)]), (1, 2, b"", [(0, 0), (1, 1)])),
+    ("", {}, b"ab", [(0, 0), (1, 1), (2, 2)], (1, 1, b"cd", [(0, 0), (1, 1), (2, 2), (3, 3), (4, 4)]), (0, 4, b"", [(0, 0)])),
+    # Matches inside a character are passed over, also in one that an edit makes or breaks.
+    ("", {}, b"\xc3\xa9", [(0, 0), (2, 2)], (1, 2, b"\xa8", [(0, 0), (2, 2)]), (1, 1, b"a", [(0, 0), (1, 1), (3, 3)]),
+     (1, 2, b"", [(0, 0), (2, 2)])),
+    ("b*", {}, b"a\xc3\xa9b", [(0, 0), (1, 1), (3, 4)], (2, 2, b"b", [(0, 0), (1, 1), (4, 5)]), (2, 3, b"", [(0, 0), (1, 1), (3, 4)])),
+    # Edits inside a character.
+    ("\u00e9", {}, b"\xc3\xa9\xc3\xa9", [(0, 2), (2, 4)], (1, 2, b"\xa8", [(2, 4)]), (3, 4, b"", []), (1, 2, b"\xa9", [(0, 2)])),
+    (".", {}, b"\xc3\xa9", [(0, 2)], (1, 1, b"\xa8", [(0, 2)]), (2, 3, b"", [(0, 2)]), (0, 1, b"", [])),
+    # Whatever follows counts, as long as an earlier branch goes on.
+    ("(?s).*x|a", {}, b"aab", [(0, 1), (1, 2)], (3, 3, b"x", [(0, 4)]), (3, 4, b"", [(0, 1), (1, 2)])),
+    # Matches behind an edit move.
+    ("ab", {}, b"ab--ab--ab", [(0, 2), (4, 6), (8, 10)], (4, 6, b"xyz", [(0, 2), (9, 11)]), (4, 7, b"", [(0, 2), (6, 8)]),
+     (0, 1, b"", [(5, 7)])),
+    # An assertion looks four bytes back: behind the letter U+10400 there is the end of a word. No character ends there once it is broken.
+    (r"\b-", {}, b"\xf0\x90\x90\x80-", [(4, 5)], (0, 1, b"A", []), (0, 1, b"\xf0", [(4, 5)])),
+    (r"\b", {}, b"ab cd", [(0, 0), (2, 2), (3, 3), (5, 5)], (2, 3, b"", [(0, 0), (4, 4)]), (4, 4, b" ", [(0, 0), (4, 4)])),
+    # Edits at the start and at the end, and of everything.
+    ("a+", {}, b"aa", [(0, 2)], (0, 0, b"a", [(0, 3)]), (3, 3, b"b", [(0, 3)]), (4, 4, b"a", [(0, 3), (4, 5)]), (0, 5, b"", [])),
+    ("a*", {}, b"aab", [(0, 2), (3, 3)], (0, 3, b"", [(0, 0)]), (0, 0, b"ba", [(0, 0), (1, 2)]), (0, 2, b"ab", [(0, 1), (2, 2)])),
+    ("^", {}, b"ab", [(0, 0)], (0, 0, b"c", [(0, 0)]), (0, 3, b"", [(0, 0)])),
+    ("$", {}, b"ab", [(2, 2)], (2, 2, b"c", [(3, 3)]), (0, 1, b"", [(2, 2)]), (0, 2, b"", [(0, 0)])),
+    ("(?m)$", {}, b"a\nb", [(1, 1), (3, 3)], (0, 0, b"\n", [(0, 0), (2, 2), (4, 4)]), (2, 3, b"", [(0, 0), (3, 3)])),
+    # A quote turns all strings behind it round.
+    ('"[^"]*"', {}, b'"a" "b"', [(0, 3), (4, 7)], (1, 1, b'"', [(0, 2), (3, 6)]), (1, 2, b"", [(0, 3), (4, 7)]), (0, 1, b"", [(1, 4)])),
+    # The other kinds of match.
+    ("a|ab", LONGEST, b"ab", [(0, 2)], (1, 2, b"c", [(0, 1)]), (1, 1, b"b", [(0, 2)])),
+    ("a+", ALL, b"baab", [(1, 3)], (4, 4, b"a", [(4, 5)]), (0, 5, b"", [])),
+    # Bytes that are no characters.
+    (r"(?-u:\xff)", ANY_BYTES, b"\xff", [(0, 1)], (0, 0, b"\xc3", [(1, 2)]), (2, 2, b"\xff", [(1, 2), (2, 3)]), (1, 3, b"", [])),
+]
+
+
 class Lists(unittest.TestCase):
     def test_a_list_under_random_edits(self):
         rolls = random.Random(7)
@@ -113,6 +156,17 @@ class Lists(unittest.TestCase):
                 touch = [it for it in spans if low <= it[0] and it[1] <= high or low < it[1] and it[0] < high]
                 self.assertEqual(live.window(low, high), touch)
                 self.assertEqual(live.window(low, high, 1), touch[:1])
+
+    def test_rows(self):
+        for patterns, options, text, first, *edits in LIST_ROWS:
+            regex = zorfelith.compile(patterns, **options)
+            live = regex.live(text)
+            self.assertEqual(list(live), first, (patterns, text))
+            for start, end, new, wanted in edits:
+                text = text[:start] + new + text[end:]
+                live.edit(start, end, len(new), text)
+                self.assertEqual(list(live), wanted, (patterns, text))
+                self.assertEqual([it.span() for it in regex.finditer(text)], wanted, (patterns, text))
 
     def test_what_is_refused(self):
         live = zorfelith.compile("a").live([b"ban", b"ana"])
