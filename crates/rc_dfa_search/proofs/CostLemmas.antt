@@ -1,5 +1,5 @@
 -- What a search spends, and how it is given up.
-use Rattle.std.proofs.Common.{◌≡◌, ℕ, ◌+◌, ◌-◌, ◌*◌, ◌≤◌, Result, Ok, Err, IfErr, subst, sym, refl, arith, Bool, List}
+use Rattle.std.proofs.Common.{◌≡◌, ℕ, ◌+◌, ◌-◌, ◌*◌, ◌≤◌, Result, Ok, Err, IfErr, ap, subst, sym, refl, arith, Bool, List}
 use Rattle.std.specs.Result.{IsErrAnd}
 use Rattle.std.proofs.Math.Nat.{add-mul, mul-le-mul, mul-le-mul_right}
 use Rattle.rc_text.specs.Text.{Searched, Keeps, low, high}
@@ -8,7 +8,7 @@ use Rattle.rc_dfa_search.specs.Aims.{cost, search_for}
 use Rattle.rc_dfa_search.specs.declared.search.Aim.{Aim}
 use Rattle.rc_dfa_search.specs.Faults.{IsFault}
 use Rattle.rc_pattern.specs.Re.{Re}
-use Rattle.rc_dfa_search.specs.Ends.{cost_forwards}
+use Rattle.rc_dfa_search.specs.Ends.{cost_forwards, cost_from}
 use Rattle.rc_dfa_search.proofs.ToldLemmas.{kept_high, kept_low, kept_search}
 
 -- the exit of a `?` answers with the error
@@ -45,6 +45,34 @@ run_cost s b from k above below =
     let j : from + 1 - low s ≤ high s - low s + 1 = omega (arith, above, below) in
     let more = mul-le-mul_right (high s - low s + 2) j in
     omega (arith, one, more)
+
+-- one run more from a later start, where so many starts before it cost a run each
+pub next_later : (s b : Searched) (start from : ℕ) → Keeps s b → low s ≤ start → start ≤ from → from ≤ high s →
+    (from - start) * (high s - low s + 2) + (high b - from + 2) ≤ (from + 1 - start) * (high s - low s + 2)
+next_later s b start from k first above below =
+    let same = kept_high s b k in
+    let more = step_cost (high s - low s) (from - start) (high b - from + 2) (omega (arith, same, first, above)) in
+    let e : from - start + 1 ≡ from + 1 - start = omega (arith, above) in
+    subst (λ j. (from - start) * (high s - low s + 2) + (high b - from + 2) ≤ j * (high s - low s + 2)) e more
+
+pub later_cost : (s b : Searched) (start from : ℕ) → Keeps s b → low s ≤ start → start ≤ from → from ≤ high s →
+    (from - start) * (high s - low s + 2) + (high b - from + 2) ≤ cost_from s start
+later_cost s b start from k first above below =
+    let one = next_later s b start from k first above below in
+    let j : from + 1 - start ≤ high s - start + 1 = omega (arith, above, below) in
+    let more = mul-le-mul_right (high s - low s + 2) j in
+    omega (arith, one, more)
+
+-- the starts before one, and those from it on
+pub cost_of_later : (s b : Searched) (start : ℕ) → Keeps s b → low s ≤ start → start ≤ high s →
+    (start - low s) * (high s - low s + 2) + cost_from b start ≤ cost_forwards s
+cost_of_later s b start k above below =
+    let n : ℕ = high s - low s + 2 in
+    let e = add-mul (start - low s) (high s - start + 1) n in
+    let all : start - low s + (high s - start + 1) ≡ high s - low s + 1 = omega (arith, above, below) in
+    let same : cost_from b start ≡ cost_from s start = rw (kept_high s b k, kept_low s b k) refl in
+    let whole : (start - low s + (high s - start + 1)) * n ≡ cost_forwards s = ap (λ m. m * n) all in
+    omega (arith, e, same, whole)
 
 -- forwards alone
 pub cost_of_forwards : (s : Searched) → cost_forwards s ≤ cost s

@@ -92,3 +92,7 @@ match_by end start = record { pattern = start.pattern; start = start.at; end = e
 -- How many states all forward runs may add.
 abbrev pub cost_forwards : Searched → ℕ
 cost_forwards s = (high s - low s + 1) * (high s - low s + 2)
+
+-- One run for each start from this one on, each up to the end.
+abbrev pub cost_from : Searched → ℕ → ℕ
+cost_from s start = (high s - start + 1) * (high s - low s + 2)

@@ -8,5 +8,6 @@ pub mod idle;
 pub mod laws;
 pub mod literals;
 mod needles;
+pub mod passed;
 pub mod reach;
 pub mod search;

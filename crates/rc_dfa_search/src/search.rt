@@ -12,20 +12,21 @@ ghost use Rattle.rc_program.specs.Answer.{Search};
 ghost use Rattle.rc_program.specs.Kinds.{IsAnswerBy};
 ghost use Rattle.rc_program.specs.Sought.{text_of};
 ghost use Rattle.rc_dfa.specs.Machine.{Machine};
-ghost use Rattle.rc_dfa.specs.Trails.{IsBare};
-ghost use Rattle.rc_dfa.specs.declared.trail.Trail as trails;
 ghost use Rattle.rc_dfa_search.specs.Aims.{AreBounds, AreHalvesOf, is_early, search_for, search_from, cost};
 ghost use Rattle.rc_dfa_search.specs.Ends.{Asks, HasMet, HasMetDown, IsEnd, begins_there, cost_forwards, keeps_pattern, match_by, may_end, start_by, told_of};
 ghost use Rattle.rc_dfa_search.specs.Faults.{IsFault};
 ghost use Rattle.rc_dfa_search.specs.Halves.{IsForwardHalf};
 ghost use Rattle.rc_dfa_search.specs.Reverse.{IsMatchToEnd, IsReverseHalf};
 
+use crate::passed::seek_later;
 use rc_dfa::ended::{Ended, Met};
 use rc_dfa::halves::{Halves, Run};
-use rc_dfa::trail::Trail;
 use rc_text::cursor::Cursor;
 use rc_text::input::{Input, high, is_boundary_at, low};
 use rc_text::types::{Anchored, HalfMatch, Match, MatchError, MatchKind, PatternID, Span};
+
+/// So many starts are passed over before trails of runs are kept.
+const FEW_STARTS: usize = 16;
 
 /// The aim of a search.
 #[derive(Clone, Copy)]
@@ -50,18 +51,18 @@ pub struct Bounds {
 
 /// The end of a match.
 #[derive(Clone, Copy)]
-struct End {
+pub(crate) struct End {
     /// The start of the search that found it, after all starts that were passed over.
-    from: usize,
+    pub(crate) from: usize,
     /// The pattern whose match place was reached.
-    pattern: usize,
+    pub(crate) pattern: usize,
     /// Where the match ends.
-    at: usize,
+    pub(crate) at: usize,
 }
 
 /// Whether any match will do.
 #[inline(always)]
-fn is_early(aim: Aim) -> bool
+pub(crate) fn is_early(aim: Aim) -> bool
     ensures { result ≡ is_early aim }
 {
     aim.earliest && !aim.passes_over
@@ -142,59 +143,6 @@ pub(crate) fn run_forwards<H: Halves, C: Cursor>(
     told(halves.run_forwards(cache, input, run, None).ended)
 }
 
-/// Makes a trail with no marks if there is none.
-fn ready(trail: &mut Option<Trail>)
-    ensures { (trail.new ≡ trail.old)
-        ⊎ ((t : trails.Trail) × (trail.new ≡ Some t) × IsBare t) }
-{
-    if trail.is_none() {
-        *trail = Some(Trail::new(0));
-    }
-}
-
-/// Runs forwards from the lower bound, along the trail if there is one, and returns what it found.
-#[inline(always)]
-fn run_along<H: Halves, C: Cursor>(
-    halves: &H,
-    cache: &mut H::Cache,
-    input: &mut Input<C>,
-    aim: Aim,
-    bounds: Bounds,
-    trail: &mut Option<Trail>,
-) -> Result<Option<Met>, MatchError>
-    requires cache { H.IsCache halves.now cache.old }
-    requires low { low input.old ≤ bounds.low }
-    requires ordered { bounds.low ≤ bounds.high }
-    requires high { bounds.high ≡ high input.old }
-    requires asked { Asks aim.patterns input.old.anchored }
-    requires trail { IfSome trail.old
-        (H.IsTrail halves.now cache.old input.old bounds.high (is_early aim)) }
-    ensures cache { H.IsCache halves.now cache.new }
-    ensures keeps { Keeps input.old input.new }
-    ensures met { (hs : List Re) (terminator : ℕ)
-        (of : AreHalvesOf (H.AreOf halves.now) aim hs terminator)
-        → IfOk result (HasMet of.ahead (text_of terminator input.old)
-        (high input.old) bounds.low input.old.anchored (is_early aim)) }
-    ensures fault { (hs : List Re) (terminator : ℕ)
-        → AreHalvesOf (H.AreOf halves.now) aim hs terminator
-        → IfErr result (IsFault hs (search_for aim hs terminator input.old)
-        (H.GivesUp halves.now cache.old cache.new (high input.old - bounds.low + 2))) }
-    ensures spends { H.Spends halves.now cache.old cache.new (high input.old - bounds.low + 2) }
-    ensures trail { IfSome trail.new
-        (H.IsTrail halves.now cache.new input.new bounds.high (is_early aim)) }
-{
-    let Some(marks) = trail else {
-        return run_forwards(halves, cache, input, aim, bounds);
-    };
-    let run = Run {
-        anchored: input.get_anchored(),
-        low: bounds.low,
-        high: bounds.high,
-        earliest: is_early(aim),
-    };
-    told(halves.run_again(cache, input, run, marks).ended)
-}
-
 /// Runs backwards from the upper bound, and returns what it found.
 #[inline(always)]
 pub(crate) fn run_backwards<H: Halves, C: Cursor>(
@@ -241,7 +189,7 @@ fn is_allowed<C: Cursor>(input: &mut Input<C>, aim: Aim, at: usize) -> bool
 
 /// Whether a match of the kind may end here.
 #[inline(always)]
-fn may_end<C: Cursor>(input: &mut Input<C>, aim: Aim, at: usize) -> bool
+pub(crate) fn may_end<C: Cursor>(input: &mut Input<C>, aim: Aim, at: usize) -> bool
     ensures keeps { Keeps input.old input.new }
     ensures value { result ≡ may_end aim.kind aim.passes_over input.old.content at }
 {
@@ -252,8 +200,8 @@ fn may_end<C: Cursor>(input: &mut Input<C>, aim: Aim, at: usize) -> bool
 }
 
 /// Returns the end of the match from the lower bound on: a run from there finds it, or, if matches
-/// are passed over, a run from a later start. From the second run on, each ends where it comes to
-/// the trail of those before.
+/// are passed over, a run from a later start. Once a few were passed over, trails of such runs are
+/// kept.
 #[inline(always)]
 fn seek_end<H: Halves, C: Cursor>(
     halves: &H,
@@ -293,10 +241,8 @@ fn seek_end<H: Halves, C: Cursor>(
     let anchored = anchoring.is_anchored();
     let high = bounds.high;
     let mut from = bounds.low;
-    let mut trail = None;
     'starts: loop {
-        let left = Bounds { low: from, high };
-        let Some(met) = run_along(halves, cache, input, aim, left, &mut trail)? else {
+        let Some(met) = run_forwards(halves, cache, input, aim, Bounds { low: from, high })? else {
             return Ok(None);
         };
         if may_end(input, aim, met.at) {
@@ -310,7 +256,9 @@ fn seek_end<H: Halves, C: Cursor>(
             return Ok(None);
         }
         from += 1;
-        ready(&mut trail);
+        if from - bounds.low >= FEW_STARTS {
+            return seek_later(halves, cache, input, aim, bounds, from);
+        }
     }
 }
 

@@ -1,4 +1,4 @@
-use Rattle.std.proofs.Common.{◌≡◌, ◌≤◌, ◌-◌, ◌+◌, ◌*◌, ℕ, List, IfSome}
+use Rattle.std.proofs.Common.{◌≡◌, ◌≤◌, ◌-◌, ◌+◌, ◌*◌, ℕ, List}
 use Rattle.rc_text.specs.Text.{Keeps, low, high}
 use Rattle.rc_pattern.specs.Re.{Re}
 use Rattle.rc_dfa_search.specs.Aims.{AreHalvesOf, is_early, search_from}
@@ -15,7 +15,6 @@ invariant-starts g l = record {
   stands : (hs : List Re) (terminator : ℕ) (of : AreHalvesOf (g.H.Halves.AreOf l.halves) l.aim hs terminator) →
       Stands hs l.aim.kind (is_early l.aim) of.ahead of.back l.fn.input.anchored (search_from l.aim hs terminator l.fn.input l.fn.bounds.low) l.from;
   spends : g.H.Halves.Spends l.halves l.fn.cache l.cache ((l.from - low l.fn.input) * (high l.fn.input - low l.fn.input + 2));
-  trail : IfSome l.trail (g.H.Halves.IsTrail l.halves l.cache l.input l.high (is_early l.aim));
 }
 
 abbrev pub decreases-starts : goal.decreases-starts

@@ -1,7 +1,7 @@
 use Rattle.std.proofs.Common.{◌+◌, ◌-◌, false, arith}
 use Rattle.rc_text.specs.Text.{high}
 use Rattle.rc_dfa_search.proofs.ToldLemmas.{ended_so, run_met, run_fault}
-use Rattle.rc_dfa_search.proofs.search.run_along.Goals as goal
+use Rattle.rc_dfa_search.proofs.passed.run_along.Goals as goal
 
 pub returns-clause-met : goal.returns-clause-met
 returns-clause-met g c hs terminator of =

@@ -1,0 +1,120 @@
+//! Passed-over starts: searches from later starts on, where a run ends once it stands where an
+//! earlier one stood. Positions are in bytes of the whole content.
+ghost use Rattle.std.specs.Prelude.{◌≡◌, ◌+◌, ◌-◌, ◌≤◌, ℕ, min, max, List, None, IfOk, IfErr, IfSome, IfNone};
+ghost use Rattle.rc_text.specs.Plain.{is_anchored};
+ghost use Rattle.rc_text.specs.Text.{Keeps, is_boundary, low, high};
+ghost use Rattle.rc_pattern.specs.Re.{Re};
+ghost use Rattle.rc_program.specs.Kinds.{IsAnswerBy};
+ghost use Rattle.rc_program.specs.Sought.{text_of};
+ghost use Rattle.rc_dfa_search.specs.Aims.{AreHalvesOf, is_early, search_for, search_from};
+ghost use Rattle.rc_dfa_search.specs.Ends.{Asks, HasMet, IsEnd, Stands, cost_from};
+ghost use Rattle.rc_dfa_search.specs.Faults.{IsFault};
+
+use crate::search::{Aim, Bounds, End, is_early, may_end, told};
+use rc_dfa::ended::Met;
+use rc_dfa::halves::{Halves, Run};
+use rc_dfa::trail::Trail;
+use rc_text::cursor::Cursor;
+use rc_text::input::Input;
+use rc_text::types::MatchError;
+
+/// Runs forwards from the lower bound, along the trail, and returns what it found.
+#[inline(always)]
+fn run_along<H: Halves, C: Cursor>(
+    halves: &H,
+    cache: &mut H::Cache,
+    input: &mut Input<C>,
+    aim: Aim,
+    bounds: Bounds,
+    trail: &mut Trail,
+) -> Result<Option<Met>, MatchError>
+    requires cache { H.IsCache halves.now cache.old }
+    requires low { low input.old ≤ bounds.low }
+    requires ordered { bounds.low ≤ bounds.high }
+    requires high { bounds.high ≡ high input.old }
+    requires asked { Asks aim.patterns input.old.anchored }
+    requires trail { H.IsTrail halves.now cache.old input.old bounds.high (is_early aim) trail.old }
+    ensures cache { H.IsCache halves.now cache.new }
+    ensures keeps { Keeps input.old input.new }
+    ensures met { (hs : List Re) (terminator : ℕ)
+        (of : AreHalvesOf (H.AreOf halves.now) aim hs terminator)
+        → IfOk result (HasMet of.ahead (text_of terminator input.old)
+        (high input.old) bounds.low input.old.anchored (is_early aim)) }
+    ensures fault { (hs : List Re) (terminator : ℕ)
+        → AreHalvesOf (H.AreOf halves.now) aim hs terminator
+        → IfErr result (IsFault hs (search_for aim hs terminator input.old)
+        (H.GivesUp halves.now cache.old cache.new (high input.old - bounds.low + 2))) }
+    ensures spends { H.Spends halves.now cache.old cache.new (high input.old - bounds.low + 2) }
+    ensures trail { H.IsTrail halves.now cache.new input.new bounds.high (is_early aim) trail.new }
+{
+    let run = Run {
+        anchored: input.get_anchored(),
+        low: bounds.low,
+        high: bounds.high,
+        earliest: is_early(aim),
+    };
+    told(halves.run_again(cache, input, run, trail).ended)
+}
+
+/// Returns what `seek_end` does, where all starts before `start` were passed over. Each run ends
+/// where it comes to the trail of those before. A trail is large, so this isn't inlined.
+#[inline(never)]
+pub(crate) fn seek_later<H: Halves, C: Cursor>(
+    halves: &H,
+    cache: &mut H::Cache,
+    input: &mut Input<C>,
+    aim: Aim,
+    bounds: Bounds,
+    start: usize,
+) -> Result<Option<End>, MatchError>
+    requires cache { H.IsCache halves.now cache.old }
+    requires low { (low input.old ≤ bounds.low) × (bounds.low ≤ start) }
+    requires high { bounds.high ≡ high input.old }
+    requires ordered { start ≤ bounds.high }
+    requires asked { Asks aim.patterns input.old.anchored }
+    requires stands { (hs : List Re) (terminator : ℕ)
+        (of : AreHalvesOf (H.AreOf halves.now) aim hs terminator)
+        → Stands hs aim.kind (is_early aim) of.ahead of.back input.old.anchored
+        (search_from aim hs terminator input.old bounds.low) start }
+    ensures cache { H.IsCache halves.now cache.new }
+    ensures keeps { Keeps input.old input.new }
+    ensures none { (hs : List Re) (terminator : ℕ)
+        → AreHalvesOf (H.AreOf halves.now) aim hs terminator
+        → IfOk result (λ end. IfNone end (IsAnswerBy aim.kind aim.earliest
+        (search_from aim hs terminator input.old bounds.low) None)) }
+    ensures some { (hs : List Re) (terminator : ℕ)
+        (of : AreHalvesOf (H.AreOf halves.now) aim hs terminator)
+        → IfOk result (λ end. IfSome end
+        (IsEnd hs aim.kind (is_early aim) of.ahead of.back input.old.anchored
+        (search_from aim hs terminator input.old bounds.low))) }
+    ensures within { IfOk result (λ end. IfSome end
+        (λ e. (bounds.low ≤ e.from) × (e.from ≤ e.at) × (e.at ≤ high input.old)
+        × Asks aim.patterns input.old.anchored)) }
+    ensures fault { (hs : List Re) (terminator : ℕ)
+        → AreHalvesOf (H.AreOf halves.now) aim hs terminator
+        → IfErr result (IsFault hs (search_for aim hs terminator input.old)
+        (H.GivesUp halves.now cache.old cache.new (cost_from input.old start))) }
+    ensures spends { H.Spends halves.now cache.old cache.new (cost_from input.old start) }
+{
+    let anchored = input.get_anchored().is_anchored();
+    let high = bounds.high;
+    let mut from = start;
+    let mut trail = Trail::new(0);
+    'starts: loop {
+        let left = Bounds { low: from, high };
+        let Some(met) = run_along(halves, cache, input, aim, left, &mut trail)? else {
+            return Ok(None);
+        };
+        if may_end(input, aim, met.at) {
+            return Ok(Some(End {
+                from,
+                pattern: met.pattern,
+                at: met.at.max(from).min(high),
+            }));
+        }
+        if anchored || from >= high {
+            return Ok(None);
+        }
+        from += 1;
+    }
+}
