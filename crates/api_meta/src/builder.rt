@@ -38,10 +38,20 @@ use rc_strategy::lengths::Lengths;
 use std::alloc::{AllocError, Global};
 
 /// A builder of regexes. It has the settings of the regex, and the settings of the pattern syntax.
-#[derive(Debug, Drop)]
+#[derive(Debug)]
 pub struct Builder {
     config: Config,
     syntax: rc_parser::Config,
+}
+
+// Crates above call this, and drop no part by themselves.
+impl Drop for Builder {
+    fn drop(self) {
+        let Builder {
+            config: _,
+            syntax: _,
+        } = self;
+    }
 }
 
 impl Builder {

@@ -10,10 +10,16 @@ use std::fmt;
 /// If the regex has a lazy DFA, a state of it takes memory when a search first reaches it, up to
 /// the capacity that is set. If that is refused, another engine searches. Where a search is said to
 /// take no memory, it takes none but this.
-#[derive(Drop)]
 pub struct Cache {
     alloc: Global,
     pub(crate) inner: cache::Cache,
+}
+
+// Crates above call this, and drop no part by themselves.
+impl Drop for Cache {
+    fn drop(self) {
+        let Cache { alloc: _, inner: _ } = self;
+    }
 }
 
 impl Cache {

@@ -35,7 +35,6 @@ use std::alloc::{AllocError, Global};
 use std::mem::size_of;
 
 /// A regex: a list of patterns, built for searches.
-#[derive(Drop)]
 pub struct Regex {
     pub(crate) config: Config,
     pub(crate) hirs: Vec<Hir>,
@@ -52,6 +51,19 @@ pub struct Regex {
     // No needles, if none are asked for.
     ghost unguarded: { auto_prefilter_of (settings_of config) ≡ false
         → prefilter_of (settings_of config) ≡ None → guarding engines.engine.literals ≡ None },
+}
+
+// Crates above call this, and drop no part by themselves.
+impl Drop for Regex {
+    fn drop(self) {
+        let Regex {
+            config: _,
+            hirs: _,
+            engines: _,
+            info: _,
+            longest: _,
+        } = self;
+    }
 }
 
 impl Regex {

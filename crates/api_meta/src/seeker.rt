@@ -33,11 +33,21 @@ pub(crate) struct Standing {
 }
 
 /// A regex with a cache for its searches, and the state of an iteration over its matches.
-#[derive(Drop)]
 pub(crate) struct Seeker<'r> {
     pub(crate) regex: &'r Regex,
     pub(crate) cache: Cache,
     pub(crate) standing: Standing,
+}
+
+// Crates above call this, and drop no part by themselves.
+impl Drop for Seeker<'_> {
+    fn drop(self) {
+        let Seeker {
+            regex: _,
+            cache: _,
+            standing: _,
+        } = self;
+    }
 }
 
 impl<'r> Model for Seeker<'r> {
