@@ -21,7 +21,6 @@ use std::fmt;
 
 /// A list of patterns, built for searches by a Pike VM. Literals alone never decide its results, so
 /// each search makes a pass.
-#[derive(Drop)]
 pub struct PikeVM {
     pub(crate) config: Config,
     pub(crate) thompson: thompson::Config,
@@ -29,6 +28,17 @@ pub struct PikeVM {
     ghost fits: { Fits (settings_of thompson) (match_kind_of (search_settings_of config))
         (map meaning built.hirs.items) built.engine built.info },
     ghost unanswered: { answering built.engine.literals ≡ None },
+}
+
+// Crates above call this, and drop no part by themselves.
+impl Drop for PikeVM {
+    fn drop(self) {
+        let PikeVM {
+            config: _,
+            thompson: _,
+            built: _,
+        } = self;
+    }
 }
 
 impl PikeVM {
