@@ -30,7 +30,6 @@ use std::fmt;
 ///
 /// It holds the tables of both directions, so either search may use it: `Regex::forward` and
 /// `Regex::reverse` return the same value.
-#[derive(Drop)]
 pub struct DFA {
     pub(crate) hirs: Vec<Hir>,
     pub(crate) config: Config,
@@ -41,6 +40,19 @@ pub struct DFA {
         ≡ is_passing (sought_by (settings_of thompson) (map meaning hirs.items)) },
     ghost made: { ∥ AreTables (sought_by (settings_of thompson) (map meaning hirs.items))
         (match_kind_of (search_settings_of config)) tables ∥₁ },
+}
+
+// Crates above call this, and drop no part by themselves.
+impl Drop for DFA {
+    fn drop(self) {
+        let DFA {
+            hirs: _,
+            config: _,
+            thompson: _,
+            tables: _,
+            passes_over: _,
+        } = self;
+    }
 }
 
 impl DFA {

@@ -7,9 +7,15 @@ use std::fmt;
 
 /// The states that searches by a `Regex` have built so far, with what is known of their
 /// transitions: a table for each direction.
-#[derive(Drop)]
 pub struct Cache {
     pub(crate) inner: lazy::Cache,
+}
+
+// Crates above call this, and drop no part by themselves.
+impl Drop for Cache {
+    fn drop(self) {
+        let Cache { inner: _ } = self;
+    }
 }
 
 impl Cache {

@@ -21,7 +21,6 @@ use std::fmt;
 
 /// A list of patterns, built for searches by a lazy DFA: forwards to the end of a match, and
 /// backwards to its start. The states are in a `Cache`.
-#[derive(Drop)]
 pub struct Regex {
     pub(crate) hirs: Vec<Hir>,
     pub(crate) config: Config,
@@ -32,6 +31,19 @@ pub struct Regex {
         ≡ is_passing (sought_by (settings_of thompson) (map meaning hirs.items)) },
     ghost made: { ∥ IsLazyFor (sought_by (settings_of thompson) (map meaning hirs.items))
         (match_kind_of (search_settings_of config)) lazy ∥₁ },
+}
+
+// Crates above call this, and drop no part by themselves.
+impl Drop for Regex {
+    fn drop(self) {
+        let Regex {
+            hirs: _,
+            config: _,
+            thompson: _,
+            lazy: _,
+            passes_over: _,
+        } = self;
+    }
 }
 
 impl Regex {

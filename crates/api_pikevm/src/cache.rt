@@ -6,10 +6,16 @@ use std::alloc::{AllocError, Global};
 use std::fmt;
 
 /// The scratch memory of searches by a `PikeVM`, allocated once.
-#[derive(Drop)]
 pub struct Cache {
     alloc: Global,
     pub(crate) inner: cache::Cache,
+}
+
+// Crates above call this, and drop no part by themselves.
+impl Drop for Cache {
+    fn drop(self) {
+        let Cache { alloc: _, inner: _ } = self;
+    }
 }
 
 impl Cache {
