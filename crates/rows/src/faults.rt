@@ -48,6 +48,8 @@ pub enum Fault {
     ReachUnfiltered,
     ReachByTables,
     VmReach,
+    /// How many bytes settle the groups of what a regex finds.
+    GroupsReach,
     Find,
     /// What `find` finds over a cursor that isn't lent.
     FindByValue,

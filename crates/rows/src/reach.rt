@@ -11,7 +11,7 @@ use api_pikevm::vm::PikeVM;
 use rc_text::cursor::Cursor;
 use rc_text::types::Match;
 
-/// Where the row tells of a reach, each regex and the `PikeVM` tell one within it, of this match.
+/// Where the row tells of a reach, each regex and the `PikeVM` tell one within it, of this match, and each regex one of its groups.
 pub fn reaches<C: Cursor + Copy + Drop>(
     asker: &mut Asker,
     engines: &Engines,
@@ -19,6 +19,9 @@ pub fn reaches<C: Cursor + Copy + Drop>(
     found: &Option<Match>,
     cursor: C,
 ) {
+    groups_reach(asker, &engines.regex, row, found, cursor);
+    groups_reach(asker, &engines.unfiltered, row, found, cursor);
+    groups_reach(asker, &engines.tabled, row, found, cursor);
     reach(asker, &engines.regex, Fault::Reach, row, found, cursor);
     reach(
         asker,
@@ -58,6 +61,35 @@ fn reach<C: Cursor + Drop>(
             drop(cache);
             let is_told = told.found == *found && least <= told.reach && told.reach <= most;
             asker.verdict.expect(is_told, fault);
+        }
+        Err(_) => asker.verdict.note(Fault::Memory),
+    }
+}
+
+/// Where the row tells of a reach, the regex finds this match with its groups, and tells a reach within the row's.
+fn groups_reach<C: Cursor + Drop>(
+    asker: &mut Asker,
+    regex: &Regex,
+    row: &Row,
+    found: &Option<Match>,
+    mut cursor: C,
+) {
+    let Some((least, most)) = row.reach else {
+        return;
+    };
+    match regex.create_cache(asker.alloc) {
+        Ok(mut cache) => {
+            match regex.create_captures(asker.alloc) {
+                Ok(mut caps) => {
+                    let mut input = input(row, &mut cursor);
+                    let told = regex.search_captures_reach_with(&mut cache, &mut input, &mut caps);
+                    let is_told = caps.get_match() == *found && least <= told && told <= most;
+                    asker.verdict.expect(is_told, Fault::GroupsReach);
+                    drop(caps);
+                }
+                Err(_) => asker.verdict.note(Fault::Memory),
+            }
+            drop(cache);
         }
         Err(_) => asker.verdict.note(Fault::Memory),
     }
