@@ -1,12 +1,11 @@
 -- How a batch is filled: one match after another is taken from the list of those that are left.
-use Rattle.std.proofs.Common.{◌≡◌, ◌∙◌, ◌+◌, ◌<◌, ◌≤◌, ℕ, suc, List, [], ◌∷◌, ◌++◌, All, IfSome, MatchOption, Option, Some, None, ap, refl, arith, length, map, set, subst, sym, take, append_assoc}
+use Rattle.std.proofs.Common.{◌≡◌, ◌∙◌, ◌+◌, ◌<◌, ◌≤◌, ℕ, List, [], ◌∷◌, ◌++◌, All, IfSome, MatchOption, Option, Some, None, ap, refl, arith, length, map, set, subst, sym, take, append_assoc}
 use Rattle.std.proofs.lemmas.List.{map-append, take_more_set}
 use Rattle.rc_text.specs.Found.{Found}
 use Rattle.rc_text.specs.Text.{Searched, Keeps}
 use Rattle.rc_text.specs.declared.types.Span.{Span}
 use Rattle.rc_text.specs.declared.types.Anchored.TheVariants.{Yes}
 use Rattle.rc_text.specs.declared.types.MatchKind.{MatchKind}
-use Rattle.rc_program.specs.Answer.{Search}
 use Rattle.rc_program.specs.Kinds.{answer_by, answer_by_from, matches_by_kind}
 use Rattle.rc_program.specs.Matches.{begin_of, end_of, from_on, next_match, unless_again}
 use Rattle.rc_program.specs.Program.{program, shown}

@@ -1,6 +1,5 @@
 -- The last match before a place, by matches one after another.
-use Rattle.std.proofs.Common.{◌≡◌, ◌∙◌, ◌<◌, ◌≤◌, ℕ, suc, true, false, List, [], ◌∷◌, ◌++◌, Bool, Option, Some, None, ap, arith, refl, subst, sym}
-use Rattle.std.specs.Prelude.{if◌then◌else◌, nat_lt}
+use Rattle.std.proofs.Common.{◌≡◌, ◌∙◌, ◌<◌, ◌≤◌, ℕ, List, [], ◌∷◌, ◌++◌, Option, Some, None, ap, arith, refl, subst, sym}
 use Rattle.std.specs.Option.{option_or}
 use Rattle.std.specs.Iterator.{Yields}
 use Rattle.rc_text.specs.Found.{Found}

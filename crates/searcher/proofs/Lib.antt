@@ -6,3 +6,4 @@ pub mod Lives
 pub mod Marked
 pub mod Partials
 pub mod Texts
+pub mod Windows

@@ -1,7 +1,7 @@
 -- Which patterns have a match, as marks, and whether there is one, as a test.
 use mathlib.Core.Logic.{inl, inr, ⊎_elim}
-use Rattle.std.proofs.Common.{◌≡◌, ◌∙◌, ◌<◌, ℕ, Bool, true, false, List, length, Option, Some, None, ap, arith, refl, replicate, slice_get, subst, sym}
-use Rattle.std.specs.Prelude.{◌↔◌, ◌⊎◌, IsSome, IsTrue, is_some}
+use Rattle.std.proofs.Common.{◌≡◌, ◌∙◌, ◌<◌, ℕ, Bool, true, false, List, length, Option, Some, None, ap, refl, replicate, slice_get, subst, sym}
+use Rattle.std.specs.Prelude.{◌↔◌, IsSome, IsTrue, is_some}
 use Rattle.std.proofs.lemmas.List.{get_or-replicate, length-replicate}
 use Rattle.std.proofs.lemmas.Option.{get_or_from_slice_get, slice_get_within}
 use Rattle.rc_text.specs.Found.{Found}

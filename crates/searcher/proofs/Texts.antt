@@ -1,5 +1,5 @@
 -- Bytes that are read as texts, one after another.
-use Rattle.std.proofs.Common.{◌≡◌, ◌∙◌, ◌+◌, ◌<◌, ℕ, suc, List, [], ◌∷◌, ◌++◌, ap, arith, get_or, length, map, subst, sym, take, ⊎_elim}
+use Rattle.std.proofs.Common.{◌≡◌, ◌∙◌, ◌+◌, ◌<◌, ℕ, suc, List, [], ◌∷◌, ◌++◌, ap, arith, get_or, length, subst, sym, take, ⊎_elim}
 use Rattle.std.specs.Prelude.{IsUtf8}
 use Rattle.std.specs.Borrow.{Bor}
 use Rattle.std.specs.Option.{option_map_or}

@@ -5,3 +5,4 @@ pub mod Lives
 pub mod Places
 pub mod Ranges
 pub mod Searching
+pub mod Windows

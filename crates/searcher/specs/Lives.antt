@@ -1,5 +1,5 @@
 -- Lists of the matches of a text that is edited.
-use Rattle.std.specs.Prelude.{◌≡◌, ℕ, ◌+◌, ◌-◌, ◌≤◌, List, filter, length, Option, Some, None, MatchOption}
+use Rattle.std.specs.Prelude.{◌≡◌, ℕ, ◌+◌, ◌-◌, ◌≤◌, List, filter, length, Option, None, MatchOption}
 use Rattle.std.specs.Borrow.{Bor}
 use Rattle.rc_text.specs.Found.{Found}
 use Rattle.rc_text.specs.Joined.{IsTooLong, joined}

@@ -44,6 +44,28 @@ pub struct MemoryParts {
     pub cache: usize,
 }
 
+/// A part of a text, whose bytes are handed to a search.
+#[derive(Clone, Copy)]
+pub struct Window {
+    /// Where it begins, in bytes of the text.
+    pub start: usize,
+    /// Whether the text ends with it.
+    pub is_last: bool,
+}
+
+/// What a window tells of a search in the whole text. Places are in bytes of the text.
+#[derive(Clone, Copy)]
+pub enum WindowAnswer {
+    /// The match.
+    Final(Match),
+    /// There is no match.
+    NoMatch,
+    /// The window ends too early. The search may go on from this place.
+    MoreAfter(usize),
+    /// The window begins too late.
+    MoreBefore,
+}
+
 /// Why a search failed.
 #[derive(Clone, Copy)]
 pub enum Fault {

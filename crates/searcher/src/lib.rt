@@ -8,7 +8,7 @@ pub mod parts;
 pub mod searches;
 pub mod settings;
 
-pub use answers::{Fault, GroupAt, ListFault, MatchAt, MemoryParts, Refusal};
+pub use answers::{Fault, GroupAt, ListFault, MatchAt, MemoryParts, Refusal, Window, WindowAnswer};
 pub use parts::Parts;
 pub use searches::{Searcher, box_of, fill_window, free, parts_of};
 pub use settings::Settings;

@@ -29,6 +29,7 @@ use std::marker::Model;
 use std::sync::Arc;
 
 mod lives;
+mod windows;
 
 pub use lives::fill_window;
 

@@ -1,4 +1,4 @@
-mod Onward
+pub mod Onward
 mod Contents
 mod Nexts
 mod Streaming

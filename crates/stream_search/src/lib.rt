@@ -6,4 +6,5 @@ mod search;
 pub mod stream;
 
 pub use error::FeedError;
+pub use search::moved;
 pub use stream::StreamSearcher;

@@ -2,7 +2,7 @@ use Rattle.std.proofs.Common.{◌≡◌, ◌∙◌, IfErr, IfOk, ap, rules, subs
 use Rattle.rc_build.specs.Refusals.{IsBuildable}
 use Rattle.rc_build.specs.TextRefusals.{AllRead, IsTextRefusal, texts_of}
 use Rattle.rc_settings.specs.Settings.{nfa_size_limit_of}
-use Rattle.api_meta.specs.Views.{builder_settings, builder_syntax, regex_patterns}
+use Rattle.api_meta.specs.Views.{builder_settings, regex_patterns}
 use Rattle.searcher.specs.Flags.{search_settings, syntax_settings}
 use Rattle.searcher.proofs.Limited.{limit_is}
 use Rattle.searcher.proofs.searches.build.Goals as goal
