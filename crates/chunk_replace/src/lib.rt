@@ -10,6 +10,6 @@ pub mod shell;
 pub mod template;
 
 pub use error::ReplaceError;
-pub use replace::replace_all;
+pub use replace::{replace_all, replace_match};
 pub use shell::program;
 pub use template::{Template, TemplateError};

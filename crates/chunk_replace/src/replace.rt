@@ -1,20 +1,25 @@
-//! Replace all: the replaced text of a list of chunks.
+//! Replace all: the replaced text of a list of chunks; and what replaces one match of it.
 ghost use Rattle.std.specs.Prelude.{◌≡◌, ◌≢◌, ◌↔◌, false, length, true, Err, IfErr, IfOk, MatchResult, OnOk};
 ghost use Rattle.std.specs.Io.KnownBytes.{Keeps};
 ghost use Rattle.rc_text.specs.Joined.{IsTooLong, joined};
 ghost use Rattle.rc_text.specs.declared.types.MatchKind.TheVariants.{All as greatest_matches};
+ghost use Rattle.rc_captures.specs.Captures.{HasMatch};
+ghost use Rattle.rc_captures.specs.Names.{Names};
+ghost use Rattle.rc_program.specs.Answer.{Chosen, Search, pattern_of, slot_of};
+ghost use Rattle.rc_pikevm_search.specs.Tells.{KeepsAll};
 ghost use Rattle.api_meta.specs.Views.{regex_kind};
 ghost use Rattle.regex_cursor.specs.Output.{IsWhole};
 ghost use Rattle.chunk_replace.specs.declared.error.ReplaceError.TheVariants.{TooLong, Write};
 ghost use Rattle.regex_cursor.specs.Put.{Puts};
-ghost use Rattle.chunk_replace.specs.Replaced.{matches_of, replaced_by};
+ghost use Rattle.chunk_replace.specs.Replaced.{matches_of, replaced_by, replacement};
 ghost use Rattle.chunk_replace.specs.Template.{template_items};
 
 use crate::error::ReplaceError;
+use crate::put::put_parts;
 use crate::rewrite::put_replaced;
 use crate::template::Template;
 use regex_cursor::cursor::ChunkCursor;
-use regex_cursor::engines::meta::Regex;
+use regex_cursor::engines::meta::{Captures, Regex};
 use regex_cursor::run::Sink;
 use regex_cursor::{Cursor, Input, cursor};
 use std::alloc::Global;
@@ -70,4 +75,33 @@ pub fn replace_all<W: Sink>(
         return Err(ReplaceError::Memory);
     };
     put_replaced(out, &mut text, &mut matches, template)
+}
+
+/// Writes what the template puts in place of the match that the captures hold: its literal text, and
+/// the bytes of its groups. The captures are those of a search of the chunks, and keep all groups. A
+/// group that took no part, or that the pattern of the match doesn't have, is empty. It allocates
+/// nothing.
+///
+/// It fails with `TooLong` if and only if the number of bytes in the chunks reaches the greatest
+/// `usize`; nothing was written then. It fails with `Write` only if the sink failed in this call.
+pub fn replace_match<W: Sink>(
+    chunks: &[&[u8]],
+    captures: &Captures,
+    template: &Template<'_>,
+    out: &mut W,
+) -> Result<(), ReplaceError>
+    ensures replaced { (names : Names) (s : Search) (walk : Chosen) → KeepsAll names captures.now
+        → HasMatch captures.now (pattern_of s walk) (slot_of s walk)
+        → Puts result (W.taken out.old) (W.taken out.new)
+        (replacement (joined chunks.now) names s (template_items template.now) walk) }
+    ensures too_long { (result ≡ Err TooLong) ↔ IsTooLong chunks.now }
+    ensures nothing_put { result ≡ Err TooLong → Keeps (W.taken out.old) (W.taken out.new) }
+    ensures ok { OnOk result (W.has_failed out.new ≡ W.has_failed out.old) }
+    ensures write_failed { result ≡ Err Write → W.has_failed out.new ≡ true }
+    ensures failed { IfErr result (λ e. e ≢ TooLong → e ≡ Write) }
+{
+    let Ok(mut text) = ChunkCursor::new(chunks) else {
+        return Err(ReplaceError::TooLong);
+    };
+    put_parts(out, &mut text, template.parts.as_slice(), captures)
 }
