@@ -18,8 +18,8 @@
  *
  * Who owns what: a full handle owns memory, which malloc gave and zf_free or the next zf_compile gives back. Handles of the same patterns, by
  * zf_share, own what is compiled together, and the last one gives it back. All else is the caller's.
- * Only zf_compile, zf_share, zf_explain, zf_replace, zf_live_new and zf_live_edit take memory, but for searches of some patterns, whose cache may grow up to a limit, which
- * the settings may set; where that is refused they go on without it, and answer the same.
+ * Only zf_compile, zf_share, zf_explain, zf_replace, zf_replace_one, zf_live_new and zf_live_edit take memory, but for searches of some
+ * patterns, whose cache may grow up to a limit, which the settings may set; where that is refused they go on without it, and answer the same.
  */
 #ifndef ZORFELITH_H
 #define ZORFELITH_H
@@ -49,7 +49,9 @@ enum {
     ZF_NO_KIND = 11,  /* No kind of match has the number; or the kind has no groups, to replace by. */
     ZF_UNKNOWN = 12,  /* The settings have a byte that is on behind those that the library knows. */
     ZF_NO_LIST = 13,  /* The handle keeps no live list. */
-    ZF_MISFIT = 14    /* The chunks don't have the length that an edit gives. */
+    ZF_MISFIT = 14,   /* The chunks don't have the length that an edit gives. */
+    ZF_MORE_AFTER = 15, /* A window ends before the answer is known. */
+    ZF_MORE_BEFORE = 16 /* A window begins later than four bytes before the place to search from. */
 };
 
 /* The version of this header: 1,000,000 times its first number, 1,000 times its second, and its third. */
@@ -148,6 +150,13 @@ struct zf_replaced {
     size_t at;    /* with ZF_SYNTAX: the byte of the template at which the fault is; else 0 */
 };
 
+/* What replaces one match, or where that failed. */
+struct zf_replacement {
+    struct zf_match found;
+    size_t len; /* how many bytes replace it */
+    size_t at;  /* with ZF_SYNTAX: the byte of the template at which the fault is; else 0 */
+};
+
 /* About how many bytes the parts of a handle take. */
 struct zf_parts {
     size_t patterns;
@@ -162,6 +171,12 @@ struct zf_change {
     size_t added;
     size_t start; /* where the bytes to draw anew begin, in the text as it is now; they have those that were inserted */
     size_t end;   /* where they end. Outside, the list has the matches that it had, those below moved with the text. */
+};
+
+/* A part of a text, whose bytes are the chunks that a call is given. */
+struct zf_window {
+    size_t start;    /* where it begins in the text */
+    uint8_t is_last; /* not 0: the text ends with it; 0: more of the text may follow */
 };
 
 /* How far an iteration has come. */
@@ -230,6 +245,23 @@ uint32_t zf_find_last(struct zf_handle *handle, const struct zf_bytes *chunks, s
 uint32_t zf_find_partial(struct zf_handle *handle, const struct zf_bytes *chunks, size_t chunk_count, size_t start, struct zf_match *found,
                          size_t *from);
 
+/* Windows: a search of a text by parts of it, as it lies in a rope, or in a file that is read by pages. A call is given the chunks of one part,
+ * cut in any way, and the place where that part begins in the text. All places are those of the whole text, and so are the answers: a window
+ * is no text of its own, and `^` matches at its start only where that is the text's. Nothing is kept between two calls.
+ *
+ * The match of the whole text from `*from` to `end`, or to the text's end where that comes first: that of zf_find in each text that has this
+ * part there. ZF_FOUND: it is written to `found`. ZF_DONE: there is none. ZF_MORE_AFTER: the window doesn't tell, and the answer is that of a
+ * search from a place on that is written to `*from`: it is not before the old one, and not behind `end`; behind the window only if the old
+ * one was. Call again with a window that begins four bytes before it or earlier, and goes on behind the end of this one. The bytes before that
+ * need not be kept. A window that is the last one, or has five bytes behind `end`, is never answered so. ZF_MORE_BEFORE: the window begins
+ * behind the text's start, and later than four bytes before `*from`, so it doesn't tell what assertions see; call again with one that begins
+ * there. ZF_OUTSIDE: `*from` is behind `end`, or behind the end of the last window. ZF_TOO_LONG: the window ends at SIZE_MAX or behind. ZF_EMPTY.
+ * What the status doesn't name stays as it was, and so does the iteration.
+ *
+ * The next match is sought from where the one before ended; if that gives an empty one that ends there too, from a byte later. */
+uint32_t zf_window_find(struct zf_handle *handle, const struct zf_bytes *chunks, size_t chunk_count, const struct zf_window *window, size_t *from,
+                        size_t end, struct zf_match *found);
+
 /* The match of zf_find with its groups, and `found` as there. With ZF_FOUND and with ZF_DONE each of the `group_count` places is written: groups[i]
  * is group i of the pattern that matched, groups[0] the whole match; a group that took no part, or that the pattern doesn't have, is ZF_NONE,
  * and so is each where there is no match. Under ZF_LEFTMOST_LONGEST they are those of the way that is preferred of the ways to match that
@@ -275,6 +307,15 @@ uint32_t zf_next(struct zf_handle *handle, const struct zf_bytes *chunks, size_t
  * ZF_NO_KIND: the kind is ZF_ALL. Else ZF_EMPTY, ZF_NOT_UTF8 (the template), ZF_TOO_LONG, ZF_MEMORY. The iteration stays as it was. */
 uint32_t zf_replace(struct zf_handle *handle, const struct zf_bytes *chunks, size_t chunk_count, const uint8_t *template_bytes,
                     size_t template_len, uint8_t *place, size_t place_len, struct zf_replaced *replaced);
+
+/* What such a template puts in the place of one match: of zf_find(.., start, ZF_NONE, ..). Memory is taken for it while the call runs.
+ *
+ * ZF_FOUND: the first replacement->len bytes of `place` are to stand where replacement->found does. ZF_SHORT: `place` has fewer than
+ * replacement->len bytes, and is as it was. Both write `replacement`. ZF_DONE: there is no match. ZF_SYNTAX: a `$` of the template begins nothing,
+ * and replacement->at alone is written. ZF_NO_KIND: the kind is ZF_ALL. Else ZF_EMPTY, ZF_NOT_UTF8 (the template), ZF_OUTSIDE, ZF_TOO_LONG,
+ * ZF_MEMORY. What the status doesn't name stays as it was, and so does the iteration. */
+uint32_t zf_replace_one(struct zf_handle *handle, const struct zf_bytes *chunks, size_t chunk_count, size_t start, const uint8_t *template_bytes,
+                        size_t template_len, uint8_t *place, size_t place_len, struct zf_replacement *replacement);
 
 /* Live lists. A handle may keep the list of all matches of a text, those of zf_next from 0 on, and keeps it under edits of that text: after an
  * edit it searches only what the edit may have changed. The text itself isn't kept. All other calls leave the list as it is, but for

@@ -50,6 +50,9 @@ using match = zf_match;
 // from `start` to `end` of the new text are to be drawn anew.
 using change = zf_change;
 
+// A part of a text, whose bytes are the chunks that a search is given: where it begins, and whether the text ends with it, if not 0.
+using window = zf_window;
+
 // Some bytes: a chunk of a text, or a pattern. It borrows them.
 struct chunk : zf_bytes {
     chunk() noexcept : zf_bytes{zf_none, 0} {}
@@ -273,6 +276,34 @@ class regex {
         if (!told(zf_find_partial(&handle_, first(in), in.size(), start, &found, &from)))
             return std::nullopt;
         return found;
+    }
+
+    // The match of the whole text from `from` to `end`, by a window of it. ZF_FOUND: it is `found`. ZF_DONE: there is none. ZF_MORE_AFTER: the window
+    // ends too early; `from` was raised to where the search goes on, in a window that begins four bytes before it or earlier. ZF_MORE_BEFORE: the
+    // window lacks some of the four bytes before `from`.
+    std::uint32_t find_in_window(text in, const window &part, std::size_t &from, match &found, std::size_t end = ZF_NONE) {
+        const std::uint32_t status = zf_window_find(&handle_, first(in), in.size(), &part, &from, end, &found);
+        if (status != ZF_MORE_AFTER && status != ZF_MORE_BEFORE)
+            told(status);
+        return status;
+    }
+
+    // The match from `start` on, and the bytes that a template puts in its place.
+    std::optional<std::pair<match, std::string>> replace_one(text in, std::string_view by, std::size_t start = 0) {
+        const chunk made_of(by);
+        std::string out;
+        zf_replacement one{};
+        std::uint32_t status = ZF_SHORT;
+        while (status == ZF_SHORT) {
+            status = zf_replace_one(&handle_, first(in), in.size(), start, made_of.bytes, made_of.len, bytes(out), out.size(), &one);
+            if (status == ZF_SHORT || status == ZF_FOUND)
+                out.resize(one.len);
+        }
+        if (status == ZF_DONE)
+            return std::nullopt;
+        if (status != ZF_FOUND)
+            throw error(zf_refused{status, 0, one.at});
+        return std::pair(one.found, out);
     }
 
     // The whole text with each match replaced by a template: in it `${1}` and `${name}` are the bytes of a group, and `$$` is a `$`. A fault in

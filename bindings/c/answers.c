@@ -82,8 +82,30 @@ static void which_patterns(struct zf_handle *handle, const struct zf_bytes *chun
             printf(" %zu", i);
 }
 
-static void answer(char kind, struct zf_handle *handle, const struct zf_bytes *chunks, size_t count, size_t start, size_t end,
-                   size_t capacity) {
+/* What windows of the text tell of the search, which has to be what the whole text tells. The first window has eight bytes, and each that
+ * doesn't tell more is followed by one that is twice as long. */
+static uint32_t by_windows(struct zf_handle *handle, struct zf_bytes text, size_t cut, size_t from, size_t end, struct zf_match *found) {
+    struct zf_bytes *chunks = malloc((text.len + 1) * sizeof *chunks);
+    uint32_t status = ZF_MORE_AFTER;
+    if (chunks == NULL)
+        abort();
+    for (size_t room = 8; status == ZF_MORE_AFTER;) {
+        const size_t before = from;
+        struct zf_window window = {from < 4 ? 0 : from - 4, 0};
+        if (window.start > text.len)
+            window.start = text.len < 4 ? 0 : text.len - 4;
+        const size_t left = text.len - window.start;
+        window.is_last = left <= room;
+        const struct zf_bytes part = {text.bytes + window.start, left < room ? left : room};
+        status = zf_window_find(handle, chunks, cut_up(part, cut, chunks), &window, &from, end, found);
+        room = from == before ? 2 * room : 8;
+    }
+    free(chunks);
+    return status;
+}
+
+static void answer(char kind, struct zf_handle *handle, struct zf_bytes text, size_t cut, const struct zf_bytes *chunks, size_t count, size_t start,
+                   size_t end, size_t capacity) {
     struct zf_match found = {7, 7, 7};
     struct zf_group groups[GROUPS];
     size_t group_count = 0;
@@ -106,6 +128,9 @@ static void answer(char kind, struct zf_handle *handle, const struct zf_bytes *c
     else
         status = zf_find_groups(handle, chunks, count, start, end, &found, groups, GROUPS);
     printf("status %u", status);
+    struct zf_match other = {7, 7, 7};
+    if (by_windows(handle, text, cut, start, end, &other) != status || (status == ZF_FOUND && memcmp(&other, &found, sizeof found) != 0))
+        printf(" by windows otherwise");
     if (status != ZF_FOUND)
         return;
     printf(" %zu:%zu-%zu", found.pattern, found.start, found.end);
@@ -148,7 +173,7 @@ int main(void) {
         else if (kind == 'r')
             printf("compiled");
         else
-            answer(kind, &handle, chunks, cut_up(text, cut, chunks), start, end, capacity);
+            answer(kind, &handle, text, cut, chunks, cut_up(text, cut, chunks), start, end, capacity);
         printf("\n");
         zf_free(&handle);
         if (handle.full || zf_is_match(&handle, chunks, 0, 0, 0) != ZF_EMPTY)

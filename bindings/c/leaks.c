@@ -170,6 +170,28 @@ static void call_find_partial(struct zf_handle *handle) {
     wanted("behind the text", zf_find_partial(handle, text, 2, 99, &found, &from), ZF_OUTSIDE);
 }
 
+static void call_window_find(struct zf_handle *handle) {
+    const struct zf_window first = {0, 0}, later = {5, 0}, last = {0, 1};
+    struct zf_match found;
+    size_t from = 0;
+    wanted("a match", zf_window_find(handle, text, 2, &first, &from, ZF_NONE, &found), ZF_FOUND);
+    wanted("no match", zf_window_find(handle, text, 2, &last, &from, 3, &found), ZF_DONE);
+    wanted("a window that ends too early", zf_window_find(handle, text, 1, &first, &from, ZF_NONE, &found), ZF_MORE_AFTER);
+    wanted("one that begins too late", zf_window_find(handle, text, 2, &later, &from, ZF_NONE, &found), ZF_MORE_BEFORE);
+    wanted("behind the end", zf_window_find(handle, text, 2, &first, &from, 0, &found), ZF_OUTSIDE);
+}
+
+static void call_replace_one(struct zf_handle *handle) {
+    struct zf_replacement one;
+    uint8_t place[8];
+    wanted("a text", zf_replace_one(handle, text, 2, 0, (const uint8_t *)"${1}x", 5, place, 8, &one), ZF_FOUND);
+    wanted("too short a place", zf_replace_one(handle, text, 2, 0, (const uint8_t *)"${1}x", 5, place, 1, &one), ZF_SHORT);
+    wanted("no match", zf_replace_one(handle, text, 2, 9, (const uint8_t *)"${1}x", 5, place, 8, &one), ZF_DONE);
+    wanted("no template", zf_replace_one(handle, text, 2, 0, (const uint8_t *)"$", 1, place, 8, &one), ZF_SYNTAX);
+    wanted("not UTF-8", zf_replace_one(handle, text, 2, 0, (const uint8_t *)"\xff", 1, place, 8, &one), ZF_NOT_UTF8);
+    wanted("behind the text", zf_replace_one(handle, text, 2, 99, (const uint8_t *)"x", 1, place, 8, &one), ZF_OUTSIDE);
+}
+
 static void call_replace(struct zf_handle *handle) {
     struct zf_replaced replaced;
     uint8_t place[8];
@@ -288,7 +310,9 @@ static const struct {
     {"zf_match_at", call_match_at},
     {"zf_find_last", call_find_last},
     {"zf_find_partial", call_find_partial},
+    {"zf_window_find", call_window_find},
     {"zf_replace", call_replace},
+    {"zf_replace_one", call_replace_one},
     {"zf_memory_parts", call_memory_parts},
     {"zf_share", call_share},
     {"zf_live_new", call_live_new},

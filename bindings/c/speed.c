@@ -1,9 +1,10 @@
 /* Times searches of the standard input, as crates/bench_find does by the calls of Rattle, for scripts/bindings-speed.
  *
- * usage: speed PATTERN CHUNK ROUNDS matches|texts
+ * usage: speed PATTERN CHUNK ROUNDS matches|texts|calls|windows
  *
  * CHUNK is the length of a chunk in bytes. `matches`: the text stands in such chunks, and all its matches are found in batches of 256.
- * `texts`: each chunk is a text of its own, in which one match is sought. Each round writes its count and its time, and a last line the
+ * `texts`: each chunk is a text of its own, in which one match is sought. `calls`: all matches, each by a call that is handed all chunks. `windows`:
+ * the same, but a call is handed a window of 16 chunks, and of twice as many where it doesn't tell. Each round writes its count and its time, and a last line the
  * least time. */
 #define _POSIX_C_SOURCE 200809L
 #include "../../include/zorfelith.h"
@@ -67,6 +68,37 @@ static size_t count_texts(struct zf_handle *handle, const struct zf_bytes *chunk
     return matches;
 }
 
+/* The next match of the text from `*from` on, which is raised, by a call that is handed all chunks or a window of some. */
+static uint32_t find_on(struct zf_handle *handle, const struct zf_bytes *chunks, size_t count, size_t chunk, int by_windows, size_t *from,
+                        struct zf_match *found) {
+    uint32_t status = ZF_MORE_AFTER;
+    if (!by_windows)
+        return zf_find(handle, chunks, count, *from, ZF_NONE, found);
+    for (size_t some = 16; status == ZF_MORE_AFTER;) {
+        const size_t before = *from, first = (before < 4 ? 0 : before - 4) / chunk;
+        const struct zf_window window = {first * chunk, count - first <= some};
+        status = zf_window_find(handle, chunks + first, window.is_last ? count - first : some, &window, from, ZF_NONE, found);
+        some = *from == before ? 2 * some : 16;
+    }
+    return status;
+}
+
+/* How many matches the text has, by a call for each. */
+static size_t count_calls(struct zf_handle *handle, const struct zf_bytes *chunks, size_t count, size_t chunk, int by_windows) {
+    struct zf_match found;
+    size_t matches = 0, from = 0, last = ZF_NONE;
+    while (find_on(handle, chunks, count, chunk, by_windows, &from, &found) == ZF_FOUND) {
+        if (found.start == found.end && found.end == last) {
+            from = last + 1;
+            last = ZF_NONE;
+            continue;
+        }
+        matches++;
+        from = last = found.end;
+    }
+    return matches;
+}
+
 static unsigned long micros(void) {
     struct timespec now;
     clock_gettime(CLOCK_MONOTONIC, &now);
@@ -88,7 +120,13 @@ int main(int argc, char **argv) {
     struct zf_bytes *chunks = cut_up(text, chunk, &count);
     for (size_t i = 0; i < rounds; i++) {
         unsigned long start = micros();
-        size_t matches = strcmp(argv[4], "texts") == 0 ? count_texts(&handle, chunks, count) : count_matches(&handle, chunks, count);
+        size_t matches;
+        if (strcmp(argv[4], "texts") == 0)
+            matches = count_texts(&handle, chunks, count);
+        else if (strcmp(argv[4], "matches") == 0)
+            matches = count_matches(&handle, chunks, count);
+        else
+            matches = count_calls(&handle, chunks, count, chunk, strcmp(argv[4], "windows") == 0);
         unsigned long time = micros() - start;
         printf("%zu matches, %lu us\n", matches, time);
         least = time < least ? time : least;

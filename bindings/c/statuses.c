@@ -139,6 +139,55 @@ static void partials(struct zf_handle *handle) {
     printf("  %zu..%zu, from %zu\n", found.start, found.end, from);
 }
 
+/* What windows of the text "xab, ab, aab" tell. */
+static void windows(struct zf_handle *handle) {
+    const struct zf_bytes head[2] = {{(const uint8_t *)"xa", 2}, {(const uint8_t *)"b, ab", 5}};
+    const struct zf_bytes inner[2] = {{(const uint8_t *)"b, a", 4}, {(const uint8_t *)"b, aa", 5}};
+    const struct zf_bytes tail[2] = {{(const uint8_t *)"ab, a", 5}, {(const uint8_t *)"ab", 2}};
+    const struct zf_window first = {0, 0}, second = {2, 0}, last = {5, 1}, far = {SIZE_MAX - 9, 0};
+    struct zf_match found = {7, 7, 7};
+    size_t from = 0;
+    told("a window of an empty handle", zf_window_find(handle, head, 2, &first, &from, ZF_NONE, &found));
+    refused("of words by windows", handle, bytes_of("a+b"), ZF_LEFTMOST_FIRST);
+    told("a match in a window", zf_window_find(handle, head, 2, &first, &from, ZF_NONE, &found));
+    printf("  %zu..%zu, from %zu\n", found.start, found.end, from);
+    from = 5;
+    told("a window that lacks a byte before", zf_window_find(handle, inner, 2, &second, &from, ZF_NONE, &found));
+    from = 6;
+    told("no match in a range", zf_window_find(handle, inner, 2, &second, &from, 6, &found));
+    told("a range with four bytes behind it", zf_window_find(handle, inner, 2, &second, &from, 7, &found));
+    from = 6;
+    told("a window that ends too early", zf_window_find(handle, inner, 2, &second, &from, ZF_NONE, &found));
+    printf("  from %zu\n", from);
+    told("the last window", zf_window_find(handle, tail, 2, &last, &from, ZF_NONE, &found));
+    printf("  %zu..%zu, from %zu\n", found.start, found.end, from);
+    from = 13;
+    told("behind the last window", zf_window_find(handle, tail, 2, &last, &from, ZF_NONE, &found));
+    told("behind a window", zf_window_find(handle, inner, 2, &second, &from, ZF_NONE, &found));
+    told("behind the range", zf_window_find(handle, inner, 2, &second, &from, 12, &found));
+    from = SIZE_MAX - 4;
+    told("a window that ends too far on", zf_window_find(handle, inner, 2, &far, &from, ZF_NONE, &found));
+}
+
+/* What replaces one match. */
+static void one(struct zf_handle *handle) {
+    const struct zf_bytes text[2] = {{(const uint8_t *)"abc abc", 7}, {(const uint8_t *)" abc", 4}};
+    struct zf_replacement one = {{7, 7, 7}, 7, 7};
+    uint8_t place[8];
+    told("one replaced in an empty handle", zf_replace_one(handle, text, 2, 0, (const uint8_t *)"", 0, place, sizeof place, &one));
+    refused("of one to replace", handle, bytes_of("a(?P<abc>b)c"), ZF_LEFTMOST_FIRST);
+    told("one replaced", zf_replace_one(handle, text, 2, 1, (const uint8_t *)"<${abc}$$>", 10, place, sizeof place, &one));
+    printf("  %zu..%zu, %.*s\n", one.found.start, one.found.end, (int)one.len, (const char *)place);
+    told("one in too short a place", zf_replace_one(handle, text, 2, 5, (const uint8_t *)"<${abc}$$>", 10, place, 3, &one));
+    printf("  %zu..%zu, %zu\n", one.found.start, one.found.end, one.len);
+    told("none to replace", zf_replace_one(handle, text, 2, 9, (const uint8_t *)"", 0, place, sizeof place, &one));
+    told("by no template", zf_replace_one(handle, text, 2, 0, (const uint8_t *)"a${", 3, place, sizeof place, &one));
+    printf("  %zu\n", one.at);
+    told("behind the text", zf_replace_one(handle, text, 2, 12, (const uint8_t *)"", 0, place, sizeof place, &one));
+    refused("of one without groups", handle, bytes_of("a"), ZF_ALL);
+    told("one without groups", zf_replace_one(handle, text, 2, 0, (const uint8_t *)"", 0, place, sizeof place, &one));
+}
+
 /* What one pattern finds of each kind. */
 static void kinds(struct zf_handle *handle) {
     const struct zf_bytes text[2] = {{(const uint8_t *)"xa", 2}, {(const uint8_t *)"b ab", 4}};
@@ -185,6 +234,10 @@ int main(void) {
     zf_free(&handle);
     told("freed", zf_restart(&handle, 0, 0));
     partials(&handle);
+    zf_free(&handle);
+    windows(&handle);
+    zf_free(&handle);
+    one(&handle);
     kinds(&handle);
     refused("of the kind without groups", &handle, bytes_of("a"), ZF_ALL);
     told("replaced", zf_replace(&handle, (const struct zf_bytes[1]){zf_bytes_of(NULL, 0)}, 1, zf_none, 0, (uint8_t[1]){0}, 1, &(struct zf_replaced){0}));

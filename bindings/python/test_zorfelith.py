@@ -30,6 +30,33 @@ class Searches(unittest.TestCase):
             self.assertEqual([it.span() for it in words.finditer(chunks)], wanted)
             self.assertEqual(words.search(chunks, 5).span(), (5, 7))
 
+    def test_windows_give_the_same(self):
+        text = "one, zwölf\n  tree tree, 12 naïve x".encode() * 20
+        for pattern in ("[a-z]+", r"\b", "", "(?m)^|e*", "x$", r"(?s)n.*x", "nowhere", r"\b\w+\b"):
+            regex = zorfelith.compile(pattern)
+            for length in (1, 3, 50, 4096):
+                for start, end in ((0, None), (7, None), (5, 100), (len(text), None)):
+                    reads = []
+
+                    def read(place):
+                        reads.append(place)
+                        return text[place:place + length]
+
+                    wanted = [it.span() for it in regex.finditer(text, start, end)]
+                    self.assertEqual(list(regex.spans(read, start, end)), wanted)
+                    self.assertEqual(sorted(set(reads)), reads)
+        with self.assertRaises(zorfelith.Error):
+            list(zorfelith.compile("a").spans(lambda place: b"", 1))
+
+    def test_replace_one(self):
+        dates = zorfelith.compile(DATES)
+        text = [b"see 20", b"26-11, 2027", b"-01"]
+        found, bytes_put = dates.replace_one("${2}/${year}", text, 5)
+        self.assertEqual((found.span(), bytes_put), ((13, 20), b"01/2027"))
+        self.assertIsNone(dates.replace_one("${2}", text, 14))
+        with self.assertRaises(ValueError):
+            dates.replace_one("$", text)
+
     def test_more_matches_than_a_batch(self):
         letters = zorfelith.compile("x*")
         text = [b"ax"] * 1000

@@ -26,7 +26,7 @@ __all__ = ["ALL", "Change", "Error", "Fault", "LEFTMOST_FIRST", "LEFTMOST_LONGES
 
 LEFTMOST_FIRST, ALL, LEFTMOST_LONGEST = 0, 1, 2
 
-_FOUND, _ABSENT, _SHORT, _SYNTAX = 1, 5, 6, 8
+_FOUND, _OUTSIDE, _ABSENT, _SHORT, _SYNTAX, _MORE_AFTER = 1, 4, 5, 6, 8, 15
 _WORDS = {
     2: "the pattern was closed",
     3: "the text is too long",
@@ -39,6 +39,7 @@ _WORDS = {
     12: "the settings are of a newer version",
     13: "the pattern keeps no live list",
     14: "the text doesn't have the length that the edit gives",
+    16: "the bytes don't begin at the place that was asked for",
 }
 _FLAGS = ("case_insensitive", "multi_line", "dot_matches_new_line", "crlf", "swap_greed", "bytes", "any_bytes", "split_characters")
 _LIMITS = ("size_limit", "cache_capacity")
@@ -79,6 +80,14 @@ class _Fault(ctypes.Structure):
 
 class _Replaced(ctypes.Structure):
     _fields_ = [("count", _size), ("len", _size), ("at", _size)]
+
+
+class _Replacement(ctypes.Structure):
+    _fields_ = [("found", _Match), ("len", _size), ("at", _size)]
+
+
+class _Window(ctypes.Structure):
+    _fields_ = [("start", _size), ("is_last", ctypes.c_uint8)]
 
 
 class _Parts(ctypes.Structure):
@@ -123,7 +132,9 @@ def _loaded():
         "zf_match_at": [handle, *text, _size, _size, match],
         "zf_find_last": [handle, *text, _size, _size, _size, match],
         "zf_find_partial": [handle, *text, _size, match, at],
+        "zf_window_find": [handle, *text, ctypes.POINTER(_Window), at, _size, match],
         "zf_replace": [handle, *text, *chars, *chars, ctypes.POINTER(_Replaced)],
+        "zf_replace_one": [handle, *text, _size, *chars, *chars, ctypes.POINTER(_Replacement)],
         "zf_find_groups": [handle, *text, _size, _size, match, ctypes.POINTER(_Group), _size],
         "zf_which_patterns": [handle, *text, _size, _size, ctypes.POINTER(ctypes.c_uint8), _size],
         "zf_restart": [handle, _size, ctypes.c_uint8],
@@ -208,6 +219,29 @@ class _Text:
             out.append(ctypes.string_at(self.array[low].bytes + start - begins, stop - start))
             start, low = stop, low + 1
         return b"".join(out)
+
+
+class _Read:
+    """What is kept of a text that is read by parts: the chunks from `start` to `end`."""
+
+    def __init__(self, read, start):
+        self._read, self.start, self.end, self.chunks, self.is_last = read, start, start, [], 0
+        self.more()
+
+    def more(self):
+        """Reads as much again as there is, at least a part."""
+        wanted = self.end + max(self.end - self.start, 1)
+        while self.end < wanted and not self.is_last:
+            chunk = self._read(self.end)
+            self.is_last = int(len(chunk) == 0)
+            if not self.is_last:
+                self.chunks.append(chunk)
+                self.end += len(chunk)
+
+    def drop(self, place):
+        """Drops the chunks that end four bytes before the place, or earlier."""
+        while self.chunks and self.start + len(self.chunks[0]) + 4 <= place:
+            self.start += len(self.chunks.pop(0))
 
 
 class _Owner(threading.local):
@@ -417,6 +451,56 @@ class Pattern:
         if not _told(_zf.zf_find_partial(handle, text.array, text.count, start, found, at)):
             return at.value
         return Match(self, text, found.pattern, found.start, found.end)
+
+    def spans(self, read, start=0, end=None):
+        """The spans of the matches from start to end of a text that is read by parts, as from a rope or by pages: `read(place)` gives bytes of the
+        text from that place on, as many as it likes, and none at the text's end. No more of it is kept than the search needs."""
+        end, place, last = _NONE if end is None else end, start, None
+        kept = _Read(read, max(start - 4, 0))
+        while True:
+            try:
+                found = self._window(kept, place, end)
+            except Error as fault:
+                if fault.status == _OUTSIDE and place > start:
+                    return
+                raise
+            if found is None:
+                return
+            if found == (last, last):
+                place, last = place + 1, None
+                continue
+            yield found
+            place = last = found[1]
+
+    def _window(self, kept, place, end):
+        """The span of the match from a place on, of a text that is read by parts, or None."""
+        at, found = _size(place), _Match()
+        while True:
+            window = _Window(kept.start, kept.is_last)
+            text = _Text(kept.chunks)
+            status = _zf.zf_window_find(self._own(), text.array, text.count, window, at, end, found)
+            if status == _MORE_AFTER:
+                kept.drop(at.value)
+                kept.more()
+                continue
+            if not _told(status):
+                return None
+            kept.drop(found.end)
+            return found.start, found.end
+
+    def replace_one(self, template, text, start=0):
+        """The match from start on, and the bytes that a template, a str or bytes as in `subn`, puts in its place; or None."""
+        template = template.encode() if isinstance(template, str) else bytes(template)
+        handle, text, told, place = self._own(), _Text(text), _Replacement(), ctypes.create_string_buffer(1)
+        while True:
+            size = len(place) - 1
+            status = _zf.zf_replace_one(handle, text.array, text.count, start, template, len(template), place, size, told)
+            if status == _SYNTAX:
+                raise ValueError(f"error parsing template at byte {told.at}")
+            if status != _SHORT:
+                found = told.found
+                return (Match(self, text, found.pattern, found.start, found.end), place.raw[:told.len]) if _told(status) else None
+            place = ctypes.create_string_buffer(told.len + 1)
 
     def replace(self, template, text):
         """The text as one bytes object with each match replaced by a template, a str or bytes as in `subn`, and how many were. The library makes

@@ -8,3 +8,4 @@ pub mod Refusals
 pub mod Replacing
 pub mod Statuses
 pub mod Tells
+pub mod Windows

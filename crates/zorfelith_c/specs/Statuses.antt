@@ -60,3 +60,11 @@ no_list = 13
 -- the chunks don't have the length that an edit gives
 abbrev pub misfit : ℕ
 misfit = 14
+
+-- a window ends before the answer is known
+abbrev pub more_after : ℕ
+more_after = 15
+
+-- a window begins later than four bytes before the place to search from
+abbrev pub more_before : ℕ
+more_before = 16

@@ -16,3 +16,4 @@ mod options;
 pub mod replace;
 pub mod search;
 pub mod status;
+pub mod window;

@@ -30,3 +30,7 @@ pub const UNKNOWN: u32 = 12;
 pub const NO_LIST: u32 = 13;
 /// The number of bytes in the chunks isn't the one that an edit gives.
 pub const MISFIT: u32 = 14;
+/// A window ends before the answer is known.
+pub const MORE_AFTER: u32 = 15;
+/// A window begins later than four bytes before the place to search from.
+pub const MORE_BEFORE: u32 = 16;
