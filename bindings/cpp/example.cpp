@@ -82,7 +82,7 @@ static void many() {
     std::printf("%zu matches, the last up to %zu\n", count, end);
 }
 
-// One match at a place, the last before one, a final one, all replaced, and what is of patterns alone.
+// One match at a place, the last before one, a final one, all and one replaced, one by a window, and what is of patterns alone.
 static void places(zorfelith::text text) {
     zorfelith::regex regex(R"((\d{4})-(\d{2})-\d{2})");
     std::printf("at 4: %s, at 5: %s\n", regex.match_at(text, {4}) ? "yes" : "no", regex.match_at(text, {5}) ? "yes" : "no");
@@ -90,6 +90,10 @@ static void places(zorfelith::text text) {
     std::size_t from = 0;
     std::printf("final: %zu\n", regex.find_partial(text, from, from)->end);
     std::printf("%s\n", regex.replace(text, "${2}/${1}").c_str());
+    std::printf("%s\n", regex.replace_one(text, "${2}/${1}", 5)->second.c_str());
+    zorfelith::match found{};
+    const std::uint32_t status = regex.find_in_window(text, zorfelith::window{100, 1}, from = 104, found);
+    std::printf("by a window: %u, %zu\n", status, found.start);
     const auto fault = zorfelith::explain("a(b");
     std::printf("%zu..%zu: %s\n", fault->where.start, fault->where.end, fault->words.c_str());
     std::printf("%s, %d\n", zorfelith::escape("1+1").c_str(), zorfelith::version() == ZF_VERSION);
