@@ -1,6 +1,6 @@
 -- What a status tells of patterns and groups: 0, it was written; 5, there is none; 6, the name is longer than its place; 7, the name isn't
 -- UTF-8. No other comes where the handle is full, and each comes exactly if that is so.
-use Rattle.std.specs.Prelude.{◌≡◌, ℕ, zero, suc, ◌<◌, ◌≤◌, ◌⊎◌, List, IsUtf8, length, take, Option, Some, None}
+use Rattle.std.specs.Prelude.{◌≡◌, ℕ, zero, suc, ◌<◌, ◌≤◌, ◌⊎◌, List, IsUtf8, length, take, Some, None}
 use Rattle.rc_text.specs.Limits.{greatest_pattern}
 use Rattle.rc_captures.specs.Names.{group_len, to_index, to_name}
 use Rattle.api_meta.specs.Views.{regex_names}

@@ -1,7 +1,7 @@
 -- Replaced texts, as a status tells them: 0, the text was written; 3, the chunks are too long; 6, the text is longer than its place; 7, the
 -- template isn't UTF-8; 8, it is none; 10, memory was refused; 11, the kind of match has no groups. 10 may come at any time; each other comes
 -- only where that is so.
-use Rattle.std.specs.Prelude.{◌≡◌, ◌≢◌, ◌⊎◌, ℕ, zero, suc, ◌<◌, ◌≤◌, List, IsUtf8, length, take, Option, None, Some}
+use Rattle.std.specs.Prelude.{◌≡◌, ◌≢◌, ◌⊎◌, ℕ, zero, suc, ◌<◌, ◌≤◌, List, IsUtf8, length, take, None, Some}
 use Rattle.std.specs.Borrow.{Bor}
 use Rattle.rc_text.specs.Joined.{IsTooLong, joined}
 use Rattle.rc_text.specs.declared.types.MatchKind.TheVariants.{All as greatest_matches}

@@ -1,4 +1,4 @@
-use Rattle.std.proofs.Common.{◌≡◌, ◌++◌, ◌∙◌, ap, drop, length, rules, subst, sym, take}
+use Rattle.std.proofs.Common.{◌++◌, ◌∙◌, ap, drop, length, rules, subst, sym, take}
 use Rattle.std.proofs.Math.Seq.{take-append_seam}
 use Rattle.std.specs.Prelude.{IsUtf8, MatchOption, chars}
 use Rattle.rc_parser.specs.Settings.{settings_of}
