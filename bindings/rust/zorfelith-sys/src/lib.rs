@@ -20,6 +20,8 @@ pub const ZF_NO_KIND: u32 = 11;
 pub const ZF_UNKNOWN: u32 = 12;
 pub const ZF_NO_LIST: u32 = 13;
 pub const ZF_MISFIT: u32 = 14;
+pub const ZF_MORE_AFTER: u32 = 15;
+pub const ZF_MORE_BEFORE: u32 = 16;
 
 /// The version that these declarations are of.
 pub const ZF_VERSION: u32 = 1000;
@@ -104,6 +106,14 @@ pub struct zf_replaced {
 
 #[repr(C)]
 #[derive(Clone, Copy, Default)]
+pub struct zf_replacement {
+    pub found: zf_match,
+    pub len: usize,
+    pub at: usize,
+}
+
+#[repr(C)]
+#[derive(Clone, Copy, Default)]
 pub struct zf_parts {
     pub patterns: usize,
     pub cache: usize,
@@ -117,6 +127,13 @@ pub struct zf_change {
     pub added: usize,
     pub start: usize,
     pub end: usize,
+}
+
+#[repr(C)]
+#[derive(Clone, Copy, Default)]
+pub struct zf_window {
+    pub start: usize,
+    pub is_last: u8,
 }
 
 #[repr(C)]
@@ -182,6 +199,15 @@ unsafe extern "C" {
         found: *mut zf_match,
         from: *mut usize,
     ) -> u32;
+    pub fn zf_window_find(
+        handle: *mut zf_handle,
+        chunks: *const zf_bytes<'_>,
+        chunk_count: usize,
+        window: *const zf_window,
+        from: *mut usize,
+        end: usize,
+        found: *mut zf_match,
+    ) -> u32;
     pub fn zf_find_groups(
         handle: *mut zf_handle,
         chunks: *const zf_bytes<'_>,
@@ -220,6 +246,17 @@ unsafe extern "C" {
         place: *mut u8,
         place_len: usize,
         replaced: *mut zf_replaced,
+    ) -> u32;
+    pub fn zf_replace_one(
+        handle: *mut zf_handle,
+        chunks: *const zf_bytes<'_>,
+        chunk_count: usize,
+        start: usize,
+        template_bytes: *const u8,
+        template_len: usize,
+        place: *mut u8,
+        place_len: usize,
+        replacement: *mut zf_replacement,
     ) -> u32;
     pub fn zf_live_new(handle: *mut zf_handle, chunks: *const zf_bytes<'_>, chunk_count: usize) -> u32;
     pub fn zf_live_edit(
