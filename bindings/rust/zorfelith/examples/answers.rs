@@ -1,7 +1,9 @@
 //! Answers the requests that `bindings/c/answers.c` tells of, by the safe wrapper.
 
 use std::io::{BufRead, Write};
-use zorfelith::{Captures, Chunk, Error, Input, Match, Regex, Settings, chunk};
+use zorfelith::{Builder, Captures, Chunk, Error, Grammar, Input, Match, MatchKind, Regex, chunk};
+
+type Text<'t> = Input<zorfelith::Chunks<'t>>;
 
 /// The bytes that a word writes in hexadecimal.
 fn bytes_of(word: &str) -> Vec<u8> {
@@ -11,34 +13,36 @@ fn bytes_of(word: &str) -> Vec<u8> {
     (0..word.len()).step_by(2).map(|i| u8::from_str_radix(&word[i..i + 2], 16).unwrap()).collect()
 }
 
-fn settings_of(word: &str) -> Settings {
-    let on: Vec<u8> = word.bytes().map(|byte| byte - b'0').collect();
-    Settings {
-        case_insensitive: on[0],
-        multi_line: on[1],
-        dot_matches_new_line: on[2],
-        crlf: on[3],
-        swap_greed: on[4],
-        bytes: on[5],
-        any_bytes: on[6],
-        split_characters: on[7],
-        kind: on[8],
-        full: on[9].into(),
-        ..Settings::default()
-    }
+fn settings_of(word: &str) -> Builder {
+    let on: Vec<bool> = word.bytes().map(|byte| byte != b'0').collect();
+    let mut builder = Regex::builder();
+    builder
+        .case_insensitive(on[0])
+        .multi_line(on[1])
+        .dot_matches_new_line(on[2])
+        .crlf(on[3])
+        .swap_greed(on[4])
+        .unicode(!on[5])
+        .utf8(!on[6])
+        .utf8_empty(!on[7])
+        .match_kind(match word.as_bytes()[8] {
+            b'0' => MatchKind::LeftmostFirst,
+            b'1' => MatchKind::All,
+            _ => MatchKind::LeftmostLongest,
+        })
+        .grammar(if on[9] { Grammar::Full } else { Grammar::Stated });
+    builder
 }
 
 /// The status of an error, as the header numbers it.
-fn status(error: Error) -> u32 {
+fn status(error: &Error) -> u32 {
     match error {
         Error::TooLong => 3,
         Error::Outside => 4,
-        Error::Syntax { .. } | Error::Template { .. } => 8,
+        Error::Syntax(_) => 8,
         Error::TooLarge => 9,
         Error::Memory => 10,
-        Error::NoKind => 11,
-        Error::NoList => 13,
-        Error::Misfit => 14,
+        _ => unreachable!("{error}"),
     }
 }
 
@@ -47,7 +51,7 @@ fn shown(found: &Match) -> String {
 }
 
 /// The matches, as `find_iter` and as `captures_iter` give them, each up to the first error.
-fn both(regex: &mut Regex, input: Input<'_>) -> [(Vec<Match>, Option<Error>); 2] {
+fn both(regex: &Regex, input: Text<'_>) -> [(Vec<Match>, Option<Error>); 2] {
     let (mut alone, mut with_groups) = ((Vec::new(), None), (Vec::new(), None));
     for found in regex.find_iter(input) {
         match found {
@@ -58,13 +62,13 @@ fn both(regex: &mut Regex, input: Input<'_>) -> [(Vec<Match>, Option<Error>); 2]
     for captures in regex.captures_iter(input) {
         match captures.as_ref().map(Captures::get_match) {
             Ok(found) => with_groups.0.push(found),
-            Err(error) => with_groups.1 = Some(*error),
+            Err(error) => with_groups.1 = Some(error.clone()),
         }
     }
     [alone, with_groups]
 }
 
-fn answer(kind: &str, regex: &mut Regex, input: Input<'_>) -> String {
+fn answer(kind: &str, regex: &Regex, input: Text<'_>) -> String {
     match kind {
         "a" => {
             let [alone, with_groups] = both(regex, input);
@@ -75,14 +79,14 @@ fn answer(kind: &str, regex: &mut Regex, input: Input<'_>) -> String {
             for found in &alone.0 {
                 line += &format!(" {}", shown(found));
             }
-            if let Some(error) = alone.1 {
+            if let Some(error) = &alone.1 {
                 line += &format!(" status {}", status(error));
             }
             line
         }
         "m" => match regex.is_match(input) {
             Ok(found) => format!("status {}", u32::from(found)),
-            Err(error) => format!("status {}", status(error)),
+            Err(error) => format!("status {}", status(&error)),
         },
         "w" => match regex.which_patterns(input) {
             Ok(marks) => {
@@ -92,12 +96,12 @@ fn answer(kind: &str, regex: &mut Regex, input: Input<'_>) -> String {
                 }
                 line
             }
-            Err(error) => format!("status {}", status(error)),
+            Err(error) => format!("status {}", status(&error)),
         },
         "f" => match regex.find(input) {
             Ok(Some(found)) => format!("status 1 {}", shown(&found)),
             Ok(None) => "status 0".to_string(),
-            Err(error) => format!("status {}", status(error)),
+            Err(error) => format!("status {}", status(&error)),
         },
         _ => match regex.captures(input) {
             Ok(Some(captures)) => {
@@ -111,7 +115,7 @@ fn answer(kind: &str, regex: &mut Regex, input: Input<'_>) -> String {
                 line
             }
             Ok(None) => "status 0".to_string(),
-            Err(error) => format!("status {}", status(error)),
+            Err(error) => format!("status {}", status(&error)),
         },
     }
 }
@@ -130,11 +134,11 @@ fn main() {
         let patterns: Vec<&str> = patterns.iter().map(String::as_str).collect();
         let bytes = bytes_of(words[7 + count]);
         let text: Vec<Chunk<'_>> = if cut == 0 { vec![chunk(&bytes)] } else { bytes.chunks(cut).map(chunk).collect() };
-        let answer = match Regex::with(&patterns, &settings_of(words[1])) {
+        let answer = match settings_of(words[1]).build_many(&patterns) {
             Ok(_) if words[0] == "r" => "compiled".to_string(),
-            Ok(mut regex) => answer(words[0], &mut regex, Input::new(&text).range(start..end)),
-            Err(Error::Syntax { pattern, at }) => format!("refused 8 {pattern} {at}"),
-            Err(error) => format!("refused {} 0 0", status(error)),
+            Ok(regex) => answer(words[0], &regex, Input::new(&text).range(start..end)),
+            Err(Error::Syntax(fault)) => format!("refused 8 {} {}", fault.pattern(), fault.at()),
+            Err(error) => format!("refused {} 0 0", status(&error)),
         };
         writeln!(out, "{answer}").unwrap();
     }
