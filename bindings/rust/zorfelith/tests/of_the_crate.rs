@@ -1,5 +1,7 @@
 //! What the tests of the Rust crate `regex-cursor` ask, under their names. Its suites are the rows.
 
+#![allow(clippy::single_range_in_vec_init)]
+
 mod common;
 
 use common::{Random, Recut, in_chunks, with_empty_ones};
