@@ -28,6 +28,7 @@
 //! assert_eq!(dates.replace_all(&text, |_| "soon")?, b"due soon, paid soon");
 //! assert_eq!(dates.replace(&text, |_| "soon")?, b"due soon, paid 2027-01");
 //! assert_eq!(dates.replace_by(&text, "${2}/${year}")?, (b"due 11/2026, paid 01/2027".to_vec(), 2));
+//! assert_eq!(dates.replacement_by(&text, "${2}")?, Some((dates.find(&text)?.unwrap(), b"11".to_vec())));
 //! assert_eq!(dates.split(&text).collect::<Result<Vec<_>, _>>()?, [0..4, 11..18, 25..25]);
 //! assert_eq!(dates.splitn(&text, 2).collect::<Result<Vec<_>, _>>()?, [0..4, 11..25]);
 //! assert_eq!(dates.find_last(&text, 18)?.unwrap().range(), 4..11);

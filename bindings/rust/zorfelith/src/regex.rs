@@ -281,6 +281,42 @@ impl Regex {
         Ok((out, replaced.count))
     }
 
+    /// The match from the start of the range on, and what such a template puts in its place. The range has no end here.
+    pub fn replacement_by<'t, C: Cursor<'t>>(&self, input: impl Into<Input<C>>, template: &str) -> Result<Option<(Match, Vec<u8>)>, Error> {
+        let mut input = input.into();
+        if input.anchored == Anchored::Yes || input.slice != WHOLE {
+            return Err(Error::Unsupported);
+        }
+        let text = Text::whole(&mut input)?;
+        let mut loan = self.lend()?;
+        let (mut out, mut replacement) = (Vec::new(), sys::zf_replacement::default());
+        loop {
+            // SAFETY: the loan's handle is full and used here alone, and each slice is borrowed for the call; a slice's pointer is never null.
+            let status = unsafe {
+                sys::zf_replace_one(
+                    loan.handle(),
+                    text.first(),
+                    text.count(),
+                    text.start,
+                    template.as_ptr(),
+                    template.len(),
+                    out.as_mut_ptr(),
+                    out.len(),
+                    &mut replacement,
+                )
+            };
+            match status {
+                sys::ZF_DONE => return Ok(None),
+                sys::ZF_FOUND => break,
+                sys::ZF_SHORT => out.resize(replacement.len, 0),
+                sys::ZF_SYNTAX => return Err(Error::Template { at: replacement.at }),
+                _ => return Err(refused(status)),
+            }
+        }
+        out.truncate(replacement.len);
+        Ok(Some((Match(replacement.found), out)))
+    }
+
     /// The list of all matches of a text, which is kept under edits of the text.
     pub fn live<'t, C: Cursor<'t>>(&self, input: impl Into<Input<C>>) -> Result<LiveMatches, Error> {
         LiveMatches::new(locked(&self.compiled.handle, Handle::share)?, input.into())

@@ -109,8 +109,8 @@ impl<'t, C: Cursor<'t>> Source<'t, C> {
     }
 }
 
-/// How many matches of an iteration are found one by one. If more are asked for, pointers to all chunks that are left are gathered.
-const BY_WINDOWS: usize = 1;
+/// How many matches of an iteration are found by windows. If more are asked for, pointers to all chunks that are left are gathered.
+const BY_WINDOWS: usize = 64;
 
 /// How the next match is found, once all of a batch are given.
 enum Next {

@@ -1,15 +1,18 @@
-//! Windows: what of a text a search needs of a cursor, from four bytes before its range on.
+//! Windows: parts of a text that a cursor goes over, no further than a search needs.
 
 use crate::cursor::{Chunk, Cursor, chunk};
-use crate::error::Error;
+use crate::error::{Error, told};
 use crate::groups::Match;
-use crate::input::{Anchored, Input, Span};
+use crate::input::{Input, Span};
 use crate::pool::Loan;
-use crate::search::found_in;
 use crate::text::{Text, part_of, searched, seek};
+use zorfelith_sys as sys;
 
 /// How many bytes before a place assertions may see.
 const SEEN: usize = 4;
+
+/// The fewest bytes by which a window grows, at first and at most. It at least doubles, if the search goes on from one place.
+const GROWS: (usize, usize) = (1 << 10, 1 << 16);
 
 /// A part of a text, as far as a search needed it: the chunks that a cursor went over.
 pub(crate) struct Window<'t, C> {
@@ -24,6 +27,7 @@ pub(crate) struct Window<'t, C> {
     kept: Span,
     /// Whether the text or the slice ends there.
     is_last: bool,
+    grows: usize,
 }
 
 impl<'t, C: Cursor<'t>> Window<'t, C> {
@@ -42,8 +46,10 @@ impl<'t, C: Cursor<'t>> Window<'t, C> {
             gone: 0,
             kept: Span { start, end: start },
             is_last: false,
+            grows: GROWS.0,
         };
         window.take();
+        window.reach(span.start.saturating_add(window.grows));
         Ok(window)
     }
 
@@ -68,6 +74,13 @@ impl<'t, C: Cursor<'t>> Window<'t, C> {
         }
     }
 
+    /// Goes on so far that a search from this place need not look at the same bytes too often.
+    fn grow(&mut self, from: usize) {
+        let by = self.grows.max(self.kept.end.saturating_sub(from));
+        self.grows = (self.grows * 2).min(GROWS.1);
+        self.reach(self.kept.end.max(from).saturating_add(by));
+    }
+
     /// Lets the chunks go that end more than four bytes before a place.
     fn let_go(&mut self, place: usize) {
         let first = place.saturating_sub(SEEN);
@@ -87,18 +100,28 @@ impl<'t, C: Cursor<'t>> Window<'t, C> {
         self.span.end.min(self.kept.end)
     }
 
-    /// The match from a place on. The chunks of all that follows are gathered.
+    /// The match from a place on.
     pub(crate) fn find(&mut self, loan: &mut Loan<'_>, from: usize) -> Result<Option<Match>, Error> {
-        let end = self.span.end;
-        self.let_go(from);
-        self.reach(end.saturating_add(SEEN + 1));
-        let base = self.kept.start;
-        // The cursor doesn't go back to where the search begins.
-        if base > from.saturating_sub(SEEN).max(self.slice.start) || from > end {
-            return Err(Error::Outside);
+        let base = self.slice.start;
+        let (mut from, end) = (from - base, self.span.end - base);
+        let mut found = Match::default();
+        loop {
+            let window = sys::zf_window { start: self.kept.start - base, is_last: self.is_last.into() };
+            let chunks = self.chunks();
+            // SAFETY: the loan's handle is full and used here alone, and the chunks are borrowed.
+            let status = unsafe {
+                sys::zf_window_find(loan.handle(), chunks.as_ptr().cast(), chunks.len(), &window, &mut from, end, &mut found.0)
+            };
+            match status {
+                sys::ZF_MORE_AFTER => {
+                    self.let_go(base + from);
+                    self.grow(base + from);
+                }
+                // The cursor doesn't go back to where the search begins.
+                sys::ZF_MORE_BEFORE => return Err(Error::Outside),
+                _ => return Ok(told(status)?.then(|| found.moved(base))),
+            }
         }
-        let span = Span { start: from - base, end: end - base };
-        Ok(found_in(self.chunks(), loan, Anchored::No, span)?.map(|found| found.moved(base)))
     }
 
     /// What is left of the range, from four bytes before a place to five behind its end, which tells that the text goes on.

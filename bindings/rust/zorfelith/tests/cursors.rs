@@ -4,6 +4,7 @@ mod common;
 
 use common::Recut;
 use std::cell::Cell;
+use std::ops::Range;
 use zorfelith::{Anchored, Cursor, Error, Input, Regex, Slices};
 
 /// A cursor that counts its moves.
@@ -33,7 +34,7 @@ impl<'t, C: Cursor<'t>> Cursor<'t> for Counted<'_, C> {
     }
 }
 
-/// A search goes over the chunks of its range, and no others.
+/// A search goes over the chunks around its match, and no others.
 #[test]
 fn moves() {
     let line = "no date here, and none in the next line, but then 2026-11-22 it is\n";
@@ -44,18 +45,33 @@ fn moves() {
         moves.set(0);
         Counted { cursor: Slices::new(&slices), moves: &moves }
     };
+    let first = 50..60;
     let regex = Regex::new(r"(\d+)-(\d+)-(\d+)").unwrap();
+    assert_eq!(regex.find(counted()).unwrap().unwrap().range(), first);
+    assert!(moves.get() < 300, "{}", moves.get());
+    assert!(regex.is_match(counted()).unwrap());
+    assert!(moves.get() < 300, "{}", moves.get());
+    assert_eq!(regex.captures(counted()).unwrap().unwrap().get_group(2).unwrap(), 55..57);
+    assert!(moves.get() < 300, "{}", moves.get());
+    let three: Vec<Range<usize>> = regex.find_iter(counted()).take(3).map(|found| found.unwrap().range()).collect();
+    assert_eq!(three, [0, 1, 2].map(|i| first.start + i * line.len()..first.end + i * line.len()));
+    assert!(moves.get() < 300, "{}", moves.get());
     // In a cursor that stands in the middle, from there on.
     let mut cursor = counted();
     while cursor.offset() < text.len() / 2 {
         cursor.advance();
     }
     moves.set(0);
+    let found = regex.find(Input::new(cursor.clone()).range(text.len() / 2..)).unwrap().unwrap();
+    assert_eq!(found.range(), text.len() / 2 + 50..text.len() / 2 + 60);
+    assert!(moves.get() < 300, "{}", moves.get());
+    // None in a short range.
+    moves.set(0);
     assert_eq!(regex.find(Input::new(cursor).range(text.len() / 2..text.len() / 2 + 50)).unwrap(), None);
-    assert!(moves.get() < 30, "{}", moves.get());
-    // All matches, and no chunk twice.
+    assert!(moves.get() < 300, "{}", moves.get());
+    // All of them, and no chunk twice.
     assert_eq!(regex.find_iter(counted()).count(), 2000);
-    assert!(moves.get() <= slices.len(), "{}", moves.get());
+    assert!(moves.get() <= slices.len() + 300, "{}", moves.get());
 }
 
 /// A match that is longer than any window.
