@@ -1,0 +1,18 @@
+use Rattle.api_meta.proofs.regex.Regex.drop.Goals as goal
+
+pub invariant_of-self-3 : goal.invariant_of-self-3
+invariant_of-self-3 c =
+    let engines = c.args.self.engines in
+    record {
+      fit = engines.fit;
+      lazy_fit = engines.lazy_fit;
+      single = engines.single;
+      numbered = engines.numbered;
+      programmed = engines.programmed;
+      bound = engines.bound;
+      needed = engines.needed;
+      measured = engines.measured;
+      looking = engines.looking;
+      free = engines.free;
+      anchored = engines.anchored;
+    }
