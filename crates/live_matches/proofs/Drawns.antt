@@ -1,5 +1,5 @@
 -- The span to draw anew: outside it, the matches are those of the old list.
-use Rattle.std.proofs.Common.{◌≡◌, ℕ, zero, suc, ◌+◌, ◌-◌, ◌<◌, ◌≤◌, Bool, true, false, ◌&&◌, nat_le, nat_lt, cond, List, [], ◌∷◌, ◌++◌, length, map, filter, Option, Some, None, refl, sym, ap, ap₂, subst, ◌∙◌, arith, append_assoc, length-append, ⊎_elim}
+use Rattle.std.proofs.Common.{◌≡◌, ℕ, zero, suc, ◌+◌, ◌-◌, ◌<◌, ◌≤◌, Bool, true, false, ◌&&◌, nat_le, nat_lt, cond, List, [], ◌∷◌, ◌++◌, length, map, filter, Some, refl, sym, ap, ap₂, subst, ◌∙◌, arith, append_assoc, length-append, ⊎_elim}
 use Rattle.std.specs.List.{slice_get}
 use Rattle.std.proofs.lemmas.Bool.{cases_lt, le-leb, le-ltb, lt-leb, lt-ltb}
 use Rattle.std.proofs.lemmas.List.{map-append}
@@ -7,12 +7,11 @@ use Rattle.std.proofs.lemmas.List.Elements.{filter-append}
 use Rattle.std.proofs.lemmas.Option.{none-some, same_Some}
 use Rattle.rc_text.specs.Found.{Found}
 use Rattle.rc_text.specs.declared.types.Span.{Span}
-use Rattle.live_matches.specs.declared.changes.Ahead.{Ahead}
 use Rattle.live_matches.specs.declared.entry.Changed.{Changed}
 use Rattle.live_matches.specs.declared.entry.Edit.{Edit}
 use Rattle.live_matches.specs.declared.entry.Entry.{Entry}
 use Rattle.live_matches.specs.Entries.{AreBehind, AreBelow, moved_with}
-use Rattle.live_matches.specs.Lists.{IsChanged, founds}
+use Rattle.live_matches.specs.Lists.{founds}
 use Rattle.live_matches.specs.Drawn.{AreLaid, EndBy, Follow, IsDrawn, IsSplit, lies_above, lies_below, match_moved, place_before}
 use Rattle.live_matches.proofs.Gaps.{last_at}
 

@@ -13,4 +13,5 @@ mod Cuts
 mod Windows
 mod Bounds
 mod Quiets
+mod Stretched
 mod Spans

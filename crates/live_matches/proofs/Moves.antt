@@ -1,5 +1,5 @@
 -- Entries before an edit stay, and those after it move with the text.
-use Rattle.std.proofs.Common.{◌≡◌, ℕ, ◌+◌, ◌-◌, ◌≤◌, List, ◌++◌, length, take, drop, Option, Some, None, sym, ap, ◌∙◌, refl, arith, take-add, length-take, length-append}
+use Rattle.std.proofs.Common.{◌≡◌, ℕ, ◌+◌, ◌-◌, ◌≤◌, List, ◌++◌, length, take, drop, Option, Some, None, sym, ap, ◌∙◌, refl, subst, arith, take-add, length-take, length-append}
 use Rattle.std.specs.Option.{option_map}
 use Rattle.std.proofs.Math.Seq.{drop-append_seam, take-append-add}
 use Rattle.std.proofs.lemmas.List.{drop-take, length-take-le}
@@ -15,6 +15,8 @@ use Rattle.rc_reach.specs.Live.{found_by, over_content}
 use Rattle.rc_reach.proofs.LiveLemmas.{further_by, moves}
 use Rattle.rc_reach.proofs.EditLemmas as edits
 use Rattle.live_matches.specs.Lists.{IsNextFixed, next_after, place_of}
+use Rattle.live_matches.specs.Quiet.{BeginsBy}
+use Rattle.live_matches.specs.Stretches.{IsQuiet}
 
 -- ---- moved matches
 
@@ -41,6 +43,10 @@ one_to_one d (Some m) p e =
     let r = some_of d p (match_further d m) (sym e) in
     ap Some (sym (same_further d r.0 m r.2)) ∙ sym r.1
 
+begins_moved : (b z k : ℕ) (o : Option Found) → BeginsBy (k + b) (option_map (match_further b) o) → BeginsBy (k + z) (option_map (match_further z) o)
+begins_moved b z k None h = tt
+begins_moved b z k (Some m) h = omega (arith, h)
+
 -- the second match is the first, moved with the text from b to z
 pub record IsMoved (b z : ℕ) (m n : Found) : Type 0 where
   pub pattern : n.pattern ≡ m.pattern
@@ -65,6 +71,10 @@ module _ (kind : MatchKind) (s : Search) where
   from_rest c b k inside far =
       edits.next_moved begin_of end_of (found_by kind s (drop b c)) (found_by kind s c) (match_further b) b 4 (moves b)
       (λ j h. further_by s (drop b c) c 0 b b refl (omega arith) (omega arith) inside kind j h) k (Some k) far
+
+  pub found_rest : (c : List ℕ) (b k : ℕ) → b ≤ length c → 4 ≤ k →
+      found_by kind s c (k + b) ≡ option_map (match_further b) (found_by kind s (drop b c) k)
+  found_rest c b k inside far = further_by s (drop b c) c 0 b b refl (omega arith) (omega arith) inside kind k far
 
   -- ---- two contents that are the same from b and from z on
 
@@ -116,6 +126,14 @@ module _ (kind : MatchKind) (s : Search) where
       like_room : b ≤ length like
       like_room = let l = length-append (take b c) (drop z other) in omega (arith, l, front)
 
+      -- no match begins between two places, if none does in the content that is like the first
+      pub quiet_there : (j k : ℕ) → 4 ≤ j → BeginsBy (k + b) (found_by kind s like (j + b)) → BeginsBy (k + z) (found_by kind s other (j + z))
+      quiet_there j k far begins =
+          let rest : found_by kind s like (j + b) ≡ option_map (match_further b) (found_by kind s (drop z other) j) =
+          found_rest like b j like_room far ∙ ap (λ t. option_map (match_further b) (found_by kind s t j)) like_rest in
+          subst (BeginsBy (k + z)) (sym (found_rest other z j room far))
+          (begins_moved b z k (found_by kind s (drop z other) j) (subst (BeginsBy (k + b)) rest begins))
+
       pub settled : (k : ℕ) → 4 ≤ k → IsNextFixed kind s c r (Some (k + b)) →
           next_after kind s other (Some (k + z)) ≡ next_after kind s w (Some (k + z))
       settled k far fixed =
@@ -128,3 +146,7 @@ module _ (kind : MatchKind) (s : Search) where
 
     pub fixed_moved : (k r q : ℕ) → 4 ≤ k → q + b ≡ r + z → b ≤ r → IsNextFixed kind s c r (Some (k + b)) → IsNextFixed kind s w q (Some (k + z))
     fixed_moved k r q far there over fixed other agree = settled other r q there over agree k far fixed
+
+    pub quiet_moved : (j k r q : ℕ) → 4 ≤ j → q + b ≡ r + z → b ≤ r → IsQuiet kind s c r (j + b) (k + b) → IsQuiet kind s w q (j + z) (k + z)
+    quiet_moved j k r q far there over quiet other agree =
+        quiet_there other r q there over agree j k far (quiet (like other r q there over agree) (like_first other r q there over agree))

@@ -1,6 +1,5 @@
 -- Where no match begins: a list may be taken up there, and searches from there find the same.
-use Rattle.std.proofs.Common.{◌≡◌, ◌≢◌, ℕ, ◌+◌, ◌<◌, ◌≤◌, ◌⊎◌, Bool, true, false, List, [], ◌∷◌, take, length, min, Option, Some, None, IfSome, if◌then◌else◌, max, inl, inr, ⊎_elim, refl, sym, ap, subst, ◌∙◌, arith, true≢false, eqb-true, nat_eq, ◌&&◌, take-take}
-use Rattle.std.specs.Prelude.{All}
+use Rattle.std.proofs.Common.{◌≡◌, ◌≢◌, ℕ, ◌+◌, ◌<◌, ◌≤◌, ◌⊎◌, Bool, true, false, List, [], ◌∷◌, take, length, Option, Some, None, IfSome, if◌then◌else◌, max, inl, inr, ⊎_elim, refl, sym, ap, subst, ◌∙◌, arith, true≢false, eqb-true, nat_eq, ◌&&◌, take-take}
 use Rattle.std.specs.List.{slice_get}
 use Rattle.std.proofs.lemmas.Bool.{and_parts, cases_Bool, cases_lt, le-ltb}
 use Rattle.std.proofs.lemmas.Option.{none-some, same_Some}
@@ -16,7 +15,7 @@ use Rattle.rc_program.proofs.ReachLemmas.{longest_law}
 use Rattle.rc_reach.specs.Fixed.{IsFixed}
 use Rattle.rc_reach.specs.Live.{found_by, over_content}
 use Rattle.live_matches.specs.declared.entry.Entry.{Entry}
-use Rattle.live_matches.specs.Entries.{Gapped, IsSkipped, is_before, last_end, reach_of}
+use Rattle.live_matches.specs.Entries.{Gapped, IsSkipped, last_end, reach_of}
 use Rattle.live_matches.specs.Lists.{AreEntries, AreFirst, IsEntry, IsNextFixed, Meets, next_after, place_of}
 use Rattle.live_matches.specs.Quiet.{BeginFrom, BeginsBy, IsLeft, IsSkippedOver}
 use Rattle.live_matches.proofs.Listed.{all_split}
@@ -62,7 +61,7 @@ not_again j m h =
     and_right_of x y t = (and_parts x y t).1
 
 -- an empty match again is where the one before ended
-again_at : (last : Option ℕ) (m : Found) → is_again begin_of end_of last m ≡ true → m.start ≡ place_of last
+pub again_at : (last : Option ℕ) (m : Found) → is_again begin_of end_of last m ≡ true → m.start ≡ place_of last
 again_at None m t = absurd (true≢false (sym t))
 again_at (Some p) m t =
     let both = and_parts (nat_eq m.start m.end) (nat_eq m.end p) t in
@@ -110,7 +109,7 @@ module _ (kind : MatchKind) (s : Search) (other_kind : kind ≢ all_matches) (fr
   }
 
   -- the search from a later place finds the same match, unless that begins before
-  found_later : (o : MatchKind) → o ≢ all_matches → (c : List ℕ) (k j : ℕ) (m : Found) → k ≤ j → j ≤ m.start →
+  pub found_later : (o : MatchKind) → o ≢ all_matches → (c : List ℕ) (k j : ℕ) (m : Found) → k ≤ j → j ≤ m.start →
       found_by o s c k ≡ Some m → found_by o s c j ≡ Some m
   found_later all_matches not c k j m h near e = absurd (not refl)
   found_later leftmost_first not c k j m h near e =
@@ -122,7 +121,7 @@ module _ (kind : MatchKind) (s : Search) (other_kind : kind ≢ all_matches) (fr
       let at : r.0.start ≡ m.start = ap (λ (f : Found). f.start) r.2 in
       (longest_law.answer_some (from_on (over_content s c) j) m).1 (r.0, longest_on c k j r.0 h (omega (arith, at, near)) r.1, r.2)
 
-  none_later : (o : MatchKind) → o ≢ all_matches → (c : List ℕ) (k j : ℕ) → k ≤ j → found_by o s c k ≡ None → found_by o s c j ≡ None
+  pub none_later : (o : MatchKind) → o ≢ all_matches → (c : List ℕ) (k j : ℕ) → k ≤ j → found_by o s c k ≡ None → found_by o s c j ≡ None
   none_later all_matches not c k j h e = absurd (not refl)
   none_later leftmost_first not c k j h e =
       let none = (answer_law.answer_none (from_on (over_content s c) k)).0 e in

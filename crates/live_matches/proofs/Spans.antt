@@ -2,7 +2,6 @@
 use Rattle.std.proofs.Common.{◌≡◌, ℕ, ◌+◌, ◌<◌, ◌≤◌, List, [], length, min, Option, Some, None, IfSome, refl, sym, ap, ◌∙◌, arith}
 use Rattle.rc_text.specs.Found.{Found}
 use Rattle.rc_text.specs.Text.{KeepsText, Searched}
-use Rattle.rc_text.specs.declared.types.Span.{Span}
 use Rattle.rc_pattern.specs.Re.{Re}
 use Rattle.rc_program.specs.Answer.{Search}
 use Rattle.rc_program.specs.Kinds.{answer_by}

@@ -1,5 +1,5 @@
 -- Drawing anew: the span of a text outside which an edit changed no match.
-use Rattle.std.specs.Prelude.{◌≡◌, ℕ, ◌+◌, ◌-◌, ◌<◌, ◌≤◌, Bool, ◌&&◌, List, [], ◌∷◌, filter, map, nat_le, nat_lt, Option, Some, None, slice_get}
+use Rattle.std.specs.Prelude.{◌≡◌, ℕ, ◌+◌, ◌-◌, ◌<◌, ◌≤◌, Bool, ◌&&◌, List, [], ◌∷◌, filter, map, nat_le, nat_lt, slice_get}
 use Rattle.rc_text.specs.Found.{Found}
 use Rattle.rc_text.specs.declared.types.Span.{Span}
 use Rattle.live_matches.specs.declared.changes.Ahead.{Ahead}

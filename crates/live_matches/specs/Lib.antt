@@ -5,3 +5,4 @@ pub mod Live
 pub mod Quiet
 pub mod Ranges
 pub mod Reading
+pub mod Stretches

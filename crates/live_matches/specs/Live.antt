@@ -15,6 +15,7 @@ use Rattle.live_matches.specs.declared.entry.Edit.{Edit}
 use Rattle.live_matches.specs.declared.entry.Entry.{Entry}
 use Rattle.live_matches.specs.Entries.{Gapped, all_of}
 use Rattle.live_matches.specs.Lists.{AreEntries, founds}
+use Rattle.live_matches.specs.Stretches.{AreStretches}
 
 -- The cache was made for the regex.
 abbrev pub IsCacheOf : Regex → Cache → Type 0
@@ -60,9 +61,11 @@ abbrev pub matches_of : Regex → List ℕ → List Found
 matches_of r content =
     matches_by_kind (regex_kind r) (search_for (sought r) (whole content)) 0 None
 
--- A list of matches as contracts see it, of a text of `len` bytes.
+-- A list of matches as contracts see it, of a text of `len` bytes, and stretches of the text in
+-- which no match begins.
 pub record Listed : Type 0 where
   pub entries : List Entry
+  pub quiets : Gapped
   pub len : ℕ
   pub is_stale : Bool
 
@@ -70,10 +73,13 @@ pub record Listed : Type 0 where
 abbrev pub listed : Listed → List Found
 listed l = founds l.entries
 
--- The list is that of the content. The bytes before the reach of each entry settle it.
+-- The list is that of the content. The bytes before the reach of each entry settle it, and those
+-- before the reach of each quiet stretch that no match begins in it.
 pub record IsLive (r : Regex) (content : List ℕ) (l : Listed) : Type 0 where
   pub matches : listed l ≡ matches_of r content
   pub settled : AreEntries (regex_kind r) (seeks r) content None l.entries
+  pub quiet : AreStretches (regex_kind r) (seeks r) content 0 (all_of l.quiets)
+  pub quiet_len : l.quiets.len ≡ length content
   pub len : l.len ≡ length content
   pub fresh : l.is_stale ≡ false
 
@@ -93,6 +99,13 @@ IsStale l = (l.is_stale ≡ true) × (l.entries ≡ [])
 pub record WereEntries (r : Regex) (edit : Edit) (content : List ℕ) (g : Gapped) : Type 0 where
   pub old : List ℕ
   pub are : AreEntries (regex_kind r) (seeks r) old None (all_of g)
+  pub len : g.len ≡ length old
+  pub edited : IsEdited edit old content
+
+-- The stretches are those of some content, of which this one is an edit.
+pub record WereStretches (r : Regex) (edit : Edit) (content : List ℕ) (g : Gapped) : Type 0 where
+  pub old : List ℕ
+  pub are : AreStretches (regex_kind r) (seeks r) old 0 (all_of g)
   pub len : g.len ≡ length old
   pub edited : IsEdited edit old content
 

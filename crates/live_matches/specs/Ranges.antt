@@ -6,9 +6,10 @@ use Rattle.rc_program.specs.Answer.{Search}
 use Rattle.api_meta.specs.Views.{regex_kind}
 use Rattle.api_meta.specs.declared.regex.Regex.{Regex}
 use Rattle.live_matches.specs.declared.entry.Entry.{Entry}
-use Rattle.live_matches.specs.Entries.{is_before, last_end}
+use Rattle.live_matches.specs.Entries.{all_of, is_before, last_end}
 use Rattle.live_matches.specs.Lists.{AreFirst, next_after}
 use Rattle.live_matches.specs.Live.{Listed, seeks}
+use Rattle.live_matches.specs.Stretches.{AreStretches}
 
 -- These are the next entries if the match before them ended at `last`, up to one that ends at
 -- `stop` or later. If none does, these are all.
@@ -31,5 +32,7 @@ begin_of_range range = if nat_eq range.start 0 then None else Some range.start
 -- The list is that of a range of the content.
 pub record IsRange (r : Regex) (content : List ℕ) (range : Span) (l : Listed) : Type 0 where
   pub settled : AreUpTo (regex_kind r) (seeks r) content range.end (begin_of_range range) l.entries
+  pub quiet : AreStretches (regex_kind r) (seeks r) content 0 (all_of l.quiets)
+  pub quiet_len : l.quiets.len ≡ length content
   pub len : l.len ≡ length content
   pub fresh : l.is_stale ≡ false

@@ -1,7 +1,9 @@
 //! Entries: a list of matches with a gap that follows the edits.
-ghost use Rattle.std.specs.Prelude.{◌≡◌, ◌+◌, ◌++◌, ◌<◌, ◌≤◌, IfOk, min};
+ghost use Rattle.std.specs.Prelude.{◌≡◌, ◌+◌, ◌++◌, ◌<◌, ◌≤◌, ℕ, IfOk, IsTrue, List, MatchOption, false, min};
 ghost use Rattle.live_matches.specs.Entries.{AreBelow, Rise, counted_back, entries_of, is_before, most_of, reach_of};
 ghost use Rattle.live_matches.specs.Lists.{place_of};
+ghost use Rattle.live_matches.specs.Stretches.{last_start};
+ghost use Rattle.live_matches.specs.declared.entries.Kept.{Kept as a_kept};
 
 use crate::entry::{Edit, Entry};
 use std::alloc::{AllocError, Global};
@@ -41,9 +43,10 @@ impl Model for Entries {
 }
 
 impl Entries {
-    ghost use Rattle.std.specs.Prelude.{◌≡◌, ◌+◌, ◌-◌, ◌++◌, ◌<◌, ◌≤◌, ◌^◌, ◌∷◌, [], All, IfOk, IfSome, MatchOption, length, map, slice_get};
+    ghost use Rattle.std.specs.Prelude.{◌≡◌, ◌+◌, ◌-◌, ◌++◌, ◌<◌, ◌≤◌, ◌^◌, ◌∷◌, [], All, IfOk, IfSome, IsTrue, MatchOption, length, map, slice_get};
     ghost use Rattle.live_matches.specs.Entries.{AreBehind, AreBelow, FitsEdit, IsSettledTo, IsSkipped, all_of, last_end, len_after, moved_with};
-    ghost use Rattle.live_matches.specs.Quiet.{BeginFrom, IsSkippedOver};
+    ghost use Rattle.live_matches.specs.Quiet.{BeginFrom, HasGone, IsSkippedOver};
+    ghost use Rattle.live_matches.specs.Stretches.{IsDroppedBack};
 
     /// Returns an empty list for a text of `len` bytes. It takes no memory yet.
     pub fn new(alloc: Global, len: usize) -> Entries
@@ -147,6 +150,36 @@ impl Entries {
             Some(kept) => Some(kept.entry.found.end()),
             None => None,
         }
+    }
+
+    /// Drops the last entries before the gap, as long as they begin after a place. An `Err` means
+    /// out of memory.
+    pub fn drop_back(&mut self, at: usize) -> Result<(), AllocError>
+        ensures { IfOk result (λ _. IsDroppedBack at self.old self.new) }
+    {
+        drop_back(&mut self.before, at)
+    }
+
+    /// Drops the first entries after the gap, as long as they end at a place or before it.
+    pub fn drop_by(&mut self, at: usize)
+        ensures { HasGone self.old self.new }
+    {
+        'by: while self.take_next_ending(at) {}
+    }
+
+    /// Takes the first entry after the gap from the list, if it ends at a place or before it.
+    /// Returns whether it does.
+    fn take_next_ending(&mut self, at: usize) -> bool
+        ensures gone { HasGone self.old self.new }
+        ensures fewer { IsTrue result → length self.new.after < length self.old.after }
+    {
+        let Some(entry) = self.get_after(0) else {
+            return false;
+        };
+        if at < entry.found.end() {
+            return false;
+        }
+        self.take_next().is_some()
     }
 
     /// Puts the entries after the gap of another list in place of those of this list. Both are of
@@ -319,6 +352,22 @@ fn move_on(
             return Ok(());
         }
         before.push(kept)?;
+    }
+    Ok(())
+}
+
+/// Drops the last entries, as long as they begin after a place. An `Err` means out of memory.
+fn drop_back(before: &mut Vec<Kept>, at: usize) -> Result<(), AllocError>
+    ensures rise { (len : ℕ) → Rise len 0 before.old.items → Rise len 0 before.new.items }
+    ensures dropped { IfOk result (λ _. (dropped : List a_kept)
+        × (before.old.items ≡ before.new.items ++ dropped)) }
+    ensures far { IfOk result (λ _. last_start 0 (entries_of before.new.items) ≤ at) }
+{
+    'back: while let Some(kept) = before.pop() {
+        if kept.entry.found.start() <= at {
+            before.push(kept)?;
+            return Ok(());
+        }
     }
     Ok(())
 }

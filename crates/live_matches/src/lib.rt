@@ -11,6 +11,7 @@ pub mod live;
 mod quiet;
 mod ranges;
 mod search;
+mod stretches;
 
 pub use entry::{Changed, Edit};
 pub use input::whole_input;

@@ -7,6 +7,7 @@ use crate::entry::{Changed, Edit};
 use crate::iter::LiveMatchesIter;
 use crate::ranges::{begin_of_range, join, search_to};
 use crate::search::{search_on, update};
+use crate::stretches::Stretches;
 use rc_text::input::{content_fits, high};
 use regex_cursor::engines::meta::{Cache, Regex};
 use regex_cursor::types::{Match, Span};
@@ -21,6 +22,7 @@ use std::marker::Model;
 #[derive(Drop)]
 pub struct LiveMatches {
     entries: Entries,
+    stretches: Stretches,
     is_stale: bool,
 }
 
@@ -33,6 +35,7 @@ impl Model for LiveMatches {
 
     ghost view = { λ l. record {
       entries = all_of l.entries;
+      quiets = l.stretches.entries;
       len = l.entries.len;
       is_stale = l.is_stale;
     } };
@@ -67,6 +70,7 @@ impl LiveMatches {
     {
         let mut live = LiveMatches {
             entries: Entries::new(alloc, 0),
+            stretches: Stretches::new(alloc, 0),
             is_stale: true,
         };
         live.rebuild(regex, cache, input)?;
@@ -93,13 +97,15 @@ impl LiveMatches {
         ensures range { IfOk result (IsRange regex.now input.old.content range) }
     {
         content_fits(input);
-        let mut entries = Entries::new(alloc, high(input));
+        let len = high(input);
+        let mut entries = Entries::new(alloc, len);
         let start = begin_of_range(range);
         let done = search_to(&mut entries, start, None, range.end, regex, cache, input);
         input.set_start(0);
         done?;
         Ok(LiveMatches {
             entries,
+            stretches: Stretches::new(alloc, len),
             is_stale: false,
         })
     }
@@ -132,6 +138,7 @@ impl LiveMatches {
         ensures stale { IfErr result (λ _. IsStale self.new) }
     {
         content_fits(input);
+        drop(next.stretches);
         let done = join(&mut self.entries, next.entries, range, regex, cache, input);
         input.set_start(0);
         if done.is_err() {
@@ -156,7 +163,9 @@ impl LiveMatches {
         ensures stale { IfErr result (λ _. IsStale self.new) }
     {
         content_fits(input);
-        self.entries.clear(high(input));
+        let len = high(input);
+        self.entries.clear(len);
+        self.stretches.clear(len);
         self.is_stale = false;
         let done = search_on(&mut self.entries, None, regex, cache, input);
         input.set_start(0);
@@ -214,7 +223,8 @@ impl LiveMatches {
         ensures stale { IfErr result (λ _. IsStale self.new) }
     {
         content_fits(input);
-        let changed = update(&mut self.entries, longest, regex, cache, edit, input);
+        let (entries, stretches) = (&mut self.entries, &mut self.stretches);
+        let changed = update(entries, stretches, longest, regex, cache, edit, input);
         input.set_start(0);
         if changed.is_err() {
             self.make_stale();
@@ -227,6 +237,7 @@ impl LiveMatches {
         ensures { IsStale self.new }
     {
         self.entries.clear(0);
+        self.stretches.clear(0);
         self.is_stale = true;
     }
 
@@ -346,7 +357,8 @@ impl LiveMatches {
 
     /// Roughly the number of bytes that the list has allocated.
     pub fn memory_usage(&self) -> usize {
-        self.entries.memory_usage()
+        let entries = self.entries.memory_usage();
+        entries.saturating_add(self.stretches.memory_usage())
     }
 
     /// Whether the list is stale: out of memory, an edit left it so. It has no matches then.

@@ -1,19 +1,22 @@
-//! Quiet stretches: edits of a text whose matches have a greatest length. Far from all matches
-//! they read about twice as many bytes.
+//! Quiet stretches: edits of a text that end where no match begins. Far from all matches they read
+//! about twice as many bytes as the greatest length of a match, or else a few steps.
 ghost use Rattle.std.specs.Prelude.{◌≡◌, ◌≢◌, ◌+◌, ◌<◌, ◌≤◌, ℕ, IfOk, IfSome, IsTrue, List, MatchOption, None, Some, false, length};
 ghost use Rattle.rc_text.specs.declared.types.MatchKind.{MatchKind as a_kind};
 ghost use Rattle.rc_text.specs.declared.types.MatchKind.TheVariants.{All as all_matches};
 ghost use Rattle.rc_program.specs.Answer.{Search, is_anchored};
 ghost use Rattle.rc_reach.specs.Live.{found_by};
 ghost use Rattle.api_meta.specs.Views.{regex_kind};
-ghost use Rattle.live_matches.specs.Entries.{AreBelow, all_of, last_end};
+ghost use Rattle.rc_text.specs.Text.{Keeps};
+ghost use Rattle.live_matches.specs.Entries.{AreBelow, all_of, last_end, reach_of};
 ghost use Rattle.live_matches.specs.Lists.{AreEntries, AreFirst, IsEntry, IsSearchedOn, Meets, next_after, place_of};
 ghost use Rattle.live_matches.specs.Live.{Goes, IsCacheOf, IsOver, WereEntries, seeks};
 ghost use Rattle.live_matches.specs.Quiet.{BeginFrom, HasGone, IsCarried, IsFrom, IsLeft, IsLongest, IsShort};
+ghost use Rattle.live_matches.specs.Stretches.{AreStretches, IsQuiet};
 
 use crate::entries::{Entries, place_of};
 use crate::entry::{Edit, Entry};
 use crate::search::{LOOKS_BEHIND, entry_of, mark_after, next_entry, search_from};
+use crate::stretches::{Stretch, Stretches};
 use rc_text::input::content_fits;
 use regex_cursor::engines::meta::{Cache, Regex};
 use regex_cursor::types::{MatchKind, Span};
@@ -45,6 +48,16 @@ fn first_place(entries: &Entries, at: usize, longest: usize) -> usize
     match entries.get_after(0) {
         Some(entry) => place.min(entry.found.start()),
         None => place,
+    }
+}
+
+/// Whether the preferred matches count, for which stretches are told.
+pub fn is_first(regex: &Regex) -> bool
+    ensures { IsTrue result → regex_kind regex.now ≢ all_matches }
+{
+    match regex.get_config().get_match_kind() {
+        MatchKind::LeftmostFirst => true,
+        MatchKind::All | MatchKind::LeftmostLongest => false,
     }
 }
 
@@ -243,6 +256,178 @@ fn search_near<C: Cursor>(
     Ok(())
 }
 
+/// Returns the next entry of the list, if the match before it ended where the stretch begins.
+fn entry_behind<C: Cursor>(
+    regex: &Regex,
+    cache: &mut Cache,
+    input: &mut Input<C>,
+    last: Option<usize>,
+    stretch: Stretch,
+) -> Option<Entry>
+    requires made { IsCacheOf regex.now cache.old }
+    requires over { IsOver input.old }
+    requires leftmost { regex_kind regex.now ≢ all_matches }
+    requires inside { place_of last ≤ length input.old.content }
+    requires start { stretch.start ≡ place_of last }
+    requires end { stretch.end ≤ length input.old.content }
+    requires quiet { IsQuiet (regex_kind regex.now) (seeks regex.now) input.old.content
+        stretch.reach stretch.start stretch.end }
+    ensures cache { IsCacheOf regex.now cache.new }
+    ensures over { IsOver input.new }
+    ensures goes { Goes input.old input.new }
+    ensures next { MatchOption result
+        (next_after (regex_kind regex.now) (seeks regex.now) input.old.content last ≡ None)
+        (IsEntry (regex_kind regex.now) (seeks regex.now) input.old.content last) }
+{
+    content_fits(input);
+    if stretch.end <= place_of(last) {
+        return next_entry(regex, cache, input, last);
+    }
+    let first = search_from(regex, cache, input, stretch.end);
+    match first.found {
+        Some(found) => Some(entry_of(found, first.reach.max(stretch.reach))),
+        None => None,
+    }
+}
+
+/// Whether the entries after the gap come next after the last match before it, behind which the
+/// stretch begins. So they do if that match ends at the mark, or if the stretch goes on behind the
+/// mark, and they begin after it.
+fn is_taken(entries: &Entries, mark: Option<usize>, stretch: Stretch) -> bool
+    ensures { (kind : a_kind) (s : Search) (c : List ℕ) → kind ≢ all_matches
+        → is_anchored s.anchoring ≡ false → IsTrue result
+        → stretch.start ≡ place_of (last_end None entries.now.before)
+        → IsQuiet kind s c stretch.reach stretch.start stretch.end
+        → Meets kind s c mark entries.now.after
+        → AreEntries kind s c (last_end None entries.now.before) entries.now.after }
+{
+    let Some(place) = mark else {
+        return false;
+    };
+    if entries.last_end() == mark {
+        return true;
+    }
+    if stretch.end <= place || stretch.end <= stretch.start {
+        return false;
+    }
+    begins_behind(entries.get_after(0), stretch)
+}
+
+/// Whether the entry begins at the end of a stretch or later, and its reach is that of the stretch
+/// or greater. So it is if there is none.
+fn begins_behind(entry: Option<Entry>, stretch: Stretch) -> bool
+    ensures { IsTrue result → IfSome entry (λ e. (stretch.end ≤ e.found.start)
+        × (stretch.reach ≤ reach_of e)) }
+{
+    match entry {
+        Some(entry) => {
+            let reach = entry.found.end().saturating_add(entry.ahead);
+            stretch.end <= entry.found.start() && stretch.reach <= reach
+        }
+        None => true,
+    }
+}
+
+/// Makes the stretch behind the last match longer, until the list may be taken up in it and the
+/// stretches after the gap go on from it, or as long as the next entry isn't near. An `Err` means
+/// out of memory.
+fn stretch_on<C: Cursor>(
+    entries: &Entries,
+    stretches: &mut Stretches,
+    mark: Option<usize>,
+    stretch: Stretch,
+    regex: &Regex,
+    cache: &mut Cache,
+    input: &mut Input<C>,
+) -> Result<Stretch, AllocError>
+    requires made { IsCacheOf regex.now cache.old }
+    requires over { IsOver input.old }
+    requires leftmost { regex_kind regex.now ≢ all_matches }
+    requires len { entries.now.len ≡ length input.old.content }
+    requires stretches_len { stretches.old.entries.len ≡ length input.old.content }
+    requires order { stretch.start ≤ stretch.end }
+    requires inside { stretch.end ≤ length input.old.content }
+    requires are { AreStretches (regex_kind regex.now) (seeks regex.now) input.old.content 0
+        (all_of stretches.old.entries) }
+    requires quiet { IsQuiet (regex_kind regex.now) (seeks regex.now) input.old.content
+        stretch.reach stretch.start stretch.end }
+    ensures cache { IsCacheOf regex.now cache.new }
+    ensures keeps { Keeps input.old input.new }
+    ensures len { IfOk result (λ _. stretches.new.entries.len ≡ length input.old.content) }
+    ensures are { IfOk result (λ _. AreStretches (regex_kind regex.now) (seeks regex.now)
+        input.old.content 0 (all_of stretches.new.entries)) }
+    ensures start { IfOk result (λ r. r.start ≡ stretch.start) }
+    ensures order { IfOk result (λ r. stretch.end ≤ r.end) }
+    ensures inside { IfOk result (λ r. r.end ≤ length input.old.content) }
+    ensures quiet { IfOk result (λ r. IsQuiet (regex_kind regex.now) (seeks regex.now)
+        input.old.content r.reach r.start r.end) }
+{
+    let len = entries.text_len();
+    let limit = match entries.get_after(0) {
+        Some(entry) => entry.found.start().min(len),
+        None => len,
+    };
+    let near = match stretches.entries.get_after(0) {
+        Some(entry) => entry.found.start().min(limit),
+        None => 0,
+    };
+    let stop = match mark {
+        Some(place) => place.saturating_add(1).max(near),
+        None => len,
+    };
+    stretches.go_on(stretch, stop, limit, regex, cache, input)
+}
+
+/// Searches on from the last match before the gap, by steps, until a match ends where the list is
+/// taken up, or no match begins before that. An `Err` means out of memory.
+fn search_quiet<C: Cursor>(
+    entries: &mut Entries,
+    stretches: &mut Stretches,
+    mark: Option<usize>,
+    regex: &Regex,
+    cache: &mut Cache,
+    input: &mut Input<C>,
+) -> Result<(), AllocError>
+    requires made { IsCacheOf regex.now cache.old }
+    requires over { IsOver input.old }
+    requires leftmost { regex_kind regex.now ≢ all_matches }
+    requires len { entries.old.len ≡ length input.old.content }
+    requires stretches_len { stretches.old.entries.len ≡ length input.old.content }
+    requires first { AreFirst (regex_kind regex.now) (seeks regex.now) input.old.content None
+        entries.old.before }
+    requires rest { Meets (regex_kind regex.now) (seeks regex.now) input.old.content mark
+        entries.old.after }
+    requires are { AreStretches (regex_kind regex.now) (seeks regex.now) input.old.content 0
+        (all_of stretches.old.entries) }
+    ensures cache { IsCacheOf regex.now cache.new }
+    ensures goes { Goes input.old input.new }
+    ensures over { IsOver input.new }
+    ensures on { IfOk result (λ _. IsSearchedOn entries.old entries.new) }
+    ensures all { IfOk result (λ _. AreEntries (regex_kind regex.now) (seeks regex.now)
+        input.old.content None (all_of entries.new)) }
+    ensures stretches_len { IfOk result (λ _. stretches.new.entries.len
+        ≡ length input.old.content) }
+    ensures are { IfOk result (λ _. AreStretches (regex_kind regex.now) (seeks regex.now)
+        input.old.content 0 (all_of stretches.new.entries)) }
+{
+    let mut mark = mark;
+    let mut stretch = stretches.stretch_from(place_of(entries.last_end()));
+    stretch = stretch_on(entries, stretches, mark, stretch, regex, cache, input)?;
+    'quiet: while !is_taken(entries, mark, stretch) {
+        let last = entries.last_end();
+        let Some(entry) = entry_behind(regex, cache, input, last, stretch) else {
+            entries.drop_after();
+            return Ok(());
+        };
+        let end = entry.found.end();
+        entries.push(entry)?;
+        mark = skip_past(entries, mark, end);
+        stretch = Stretch::at(end);
+        stretch = stretch_on(entries, stretches, mark, stretch, regex, cache, input)?;
+    }
+    Ok(())
+}
+
 /// Carries the entries over an edit, as `carry_over` does. No match is longer than `longest` bytes.
 /// An `Err` means out of memory.
 pub fn carry_near<C: Cursor>(
@@ -273,4 +458,42 @@ pub fn carry_near<C: Cursor>(
     entries.edit(edit);
     let mark = mark_after(mark, edit);
     search_near(entries, mark, from, longest, regex, cache, input)
+}
+
+/// Carries the entries over an edit, as `carry_over` does, by the stretches of the text. An `Err`
+/// means out of memory.
+pub fn carry_quiet<C: Cursor>(
+    entries: &mut Entries,
+    stretches: &mut Stretches,
+    regex: &Regex,
+    cache: &mut Cache,
+    edit: Edit,
+    input: &mut Input<C>,
+) -> Result<(), AllocError>
+    requires made { IsCacheOf regex.now cache.old }
+    requires over { IsOver input.old }
+    requires leftmost { regex_kind regex.now ≢ all_matches }
+    requires were { WereEntries regex.now edit input.old.content entries.old }
+    requires below { AreBelow edit.replaced.start entries.old.before }
+    requires stretches_len { stretches.old.entries.len ≡ length input.old.content }
+    requires are { AreStretches (regex_kind regex.now) (seeks regex.now) input.old.content 0
+        (all_of stretches.old.entries) }
+    ensures cache { IsCacheOf regex.now cache.new }
+    ensures goes { Goes input.old input.new }
+    ensures over { IsOver input.new }
+    ensures carried { IfOk result (λ _. IsCarried edit entries.old entries.new) }
+    ensures len { IfOk result (λ _. entries.new.len ≡ length input.old.content) }
+    ensures all { IfOk result (λ _. AreEntries (regex_kind regex.now) (seeks regex.now)
+        input.old.content None (all_of entries.new)) }
+    ensures stretches_len { IfOk result (λ _. stretches.new.entries.len
+        ≡ length input.old.content) }
+    ensures are { IfOk result (λ _. AreStretches (regex_kind regex.now) (seeks regex.now)
+        input.old.content 0 (all_of stretches.new.entries)) }
+{
+    content_fits(input);
+    let last = entries.last_end();
+    let mark = skip_behind(entries, last, edit);
+    entries.edit(edit);
+    let mark = mark_after(mark, edit);
+    search_quiet(entries, stretches, mark, regex, cache, input)
 }

@@ -7,13 +7,15 @@ ghost use Rattle.api_meta.specs.Views.{regex_kind};
 ghost use Rattle.live_matches.specs.Drawn.{IsDrawn};
 ghost use Rattle.live_matches.specs.Entries.{AreBelow, all_of};
 ghost use Rattle.live_matches.specs.Lists.{AreEntries, AreFirst, IsChanged, IsEntry, IsSearchedOn, Meets, founds, mark_after, next_after, place_of};
-ghost use Rattle.live_matches.specs.Live.{Goes, IsCacheOf, IsOver, WereEntries, seeks};
+ghost use Rattle.live_matches.specs.Live.{Goes, IsCacheOf, IsOver, WereEntries, WereStretches, seeks};
 ghost use Rattle.live_matches.specs.Quiet.{IsCarried, IsLongest};
+ghost use Rattle.live_matches.specs.Stretches.{AreStretches};
 
 use crate::changes::{Ahead, change_of};
 use crate::entries::{Entries, is_before, place_of};
 use crate::entry::{Changed, Edit, Entry};
-use crate::quiet::{carry_near, short_length};
+use crate::quiet::{carry_near, carry_quiet, is_first, short_length};
+use crate::stretches::Stretches;
 use rc_text::input::content_fits;
 use regex_cursor::engines::meta::{Cache, Reached, Regex};
 use regex_cursor::types::Match;
@@ -120,10 +122,11 @@ pub fn search_on<C: Cursor>(
     Ok(())
 }
 
-/// Makes the entries those of a text after an edit of it. `longest` is the greatest length of a
-/// match, if it is known. An `Err` means out of memory.
+/// Makes the entries and the stretches those of a text after an edit of it. `longest` is the
+/// greatest length of a match, if it is known. An `Err` means out of memory.
 pub fn update<C: Cursor>(
     entries: &mut Entries,
+    stretches: &mut Stretches,
     longest: Option<usize>,
     regex: &Regex,
     cache: &mut Cache,
@@ -134,9 +137,14 @@ pub fn update<C: Cursor>(
     requires over { IsOver input.old }
     requires longest { IfSome longest (IsLongest regex.now) }
     requires were { WereEntries regex.now edit input.old.content entries.old }
+    requires stretches { WereStretches regex.now edit input.old.content stretches.old.entries }
     ensures cache { IsCacheOf regex.now cache.new }
     ensures goes { Goes input.old input.new }
     ensures over { IsOver input.new }
+    ensures are { IfOk result (λ _. AreStretches (regex_kind regex.now) (seeks regex.now)
+        input.old.content 0 (all_of stretches.new.entries)) }
+    ensures stretches_len { IfOk result (λ _. stretches.new.entries.len
+        ≡ length input.old.content) }
     ensures all { IfOk result (λ _. AreEntries (regex_kind regex.now) (seeks regex.now)
         input.old.content None (all_of entries.new)) }
     ensures len { IfOk result (λ _. entries.new.len ≡ length input.old.content) }
@@ -145,11 +153,12 @@ pub fn update<C: Cursor>(
         (founds (all_of entries.new)) c.span) }
 {
     content_fits(input);
+    stretches.edit(edit)?;
     entries.settle_to(edit.replaced.start)?;
     let ahead = Ahead::of(entries);
     let first = entries.count_before();
     let after = entries.count_after();
-    carry(entries, longest, regex, cache, edit, input)?;
+    carry(entries, stretches, longest, regex, cache, edit, input)?;
     let dropped = after - entries.count_after();
     Ok(change_of(entries, &ahead, edit, first, dropped))
 }
@@ -158,6 +167,7 @@ pub fn update<C: Cursor>(
 /// gap. An `Err` means out of memory.
 fn carry<C: Cursor>(
     entries: &mut Entries,
+    stretches: &mut Stretches,
     longest: Option<usize>,
     regex: &Regex,
     cache: &mut Cache,
@@ -169,6 +179,9 @@ fn carry<C: Cursor>(
     requires longest { IfSome longest (IsLongest regex.now) }
     requires were { WereEntries regex.now edit input.old.content entries.old }
     requires below { AreBelow edit.replaced.start entries.old.before }
+    requires stretches_len { stretches.old.entries.len ≡ length input.old.content }
+    requires are { AreStretches (regex_kind regex.now) (seeks regex.now) input.old.content 0
+        (all_of stretches.old.entries) }
     ensures cache { IsCacheOf regex.now cache.new }
     ensures goes { Goes input.old input.new }
     ensures over { IsOver input.new }
@@ -176,11 +189,18 @@ fn carry<C: Cursor>(
     ensures len { IfOk result (λ _. entries.new.len ≡ length input.old.content) }
     ensures all { IfOk result (λ _. AreEntries (regex_kind regex.now) (seeks regex.now)
         input.old.content None (all_of entries.new)) }
+    ensures stretches_len { IfOk result (λ _. stretches.new.entries.len
+        ≡ length input.old.content) }
+    ensures are { IfOk result (λ _. AreStretches (regex_kind regex.now) (seeks regex.now)
+        input.old.content 0 (all_of stretches.new.entries)) }
 {
-    match short_length(regex, longest) {
-        Some(longest) => carry_near(entries, longest, regex, cache, edit, input),
-        None => carry_over(entries, regex, cache, edit, input),
+    if let Some(longest) = short_length(regex, longest) {
+        return carry_near(entries, longest, regex, cache, edit, input);
     }
+    if is_first(regex) {
+        return carry_quiet(entries, stretches, regex, cache, edit, input);
+    }
+    carry_over(entries, regex, cache, edit, input)
 }
 
 /// Carries the entries over an edit. It searches on until a match ends where one did, behind the

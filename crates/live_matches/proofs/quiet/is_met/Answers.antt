@@ -1,4 +1,4 @@
-use Rattle.std.proofs.Common.{◌≡◌, ◌∙◌, ◌+◌, ◌<◌, ◌≤◌, None, max, refl, sym, ap, subst, arith}
+use Rattle.std.proofs.Common.{◌≡◌, ◌+◌, ◌<◌, ◌≤◌, None, max, refl, ap, subst, arith}
 use Rattle.std.specs.Prelude.{IfSome}
 use Rattle.api_meta.specs.Views.{regex_kind}
 use Rattle.rc_reach.specs.Live.{found_by}
@@ -6,7 +6,6 @@ use Rattle.live_matches.specs.declared.entry.Entry.{Entry}
 use Rattle.live_matches.specs.Entries.{last_end}
 use Rattle.live_matches.specs.Lists.{Meets, place_of}
 use Rattle.live_matches.specs.Live.{seeks}
-use Rattle.live_matches.specs.Quiet.{BeginsBy}
 use Rattle.live_matches.proofs.Quiets.{begins_past, come_next, first_far, quiet_next}
 use Rattle.live_matches.proofs.Spans.{near_all}
 use Rattle.live_matches.proofs.quiet.is_met.Goals as goal

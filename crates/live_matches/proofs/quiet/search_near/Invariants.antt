@@ -1,4 +1,4 @@
-use Rattle.std.proofs.Common.{◌≡◌, ◌≤◌, None, length}
+use Rattle.std.proofs.Common.{◌≤◌, None, length}
 use Rattle.api_meta.specs.Views.{regex_kind}
 use Rattle.live_matches.specs.Entries.{last_end}
 use Rattle.live_matches.specs.Lists.{AreFirst, IsSearchedOn, Meets, place_of}

@@ -1,4 +1,4 @@
-use Rattle.std.proofs.Common.{◌∙◌, None, Some, sym, ap, subst, arith}
+use Rattle.std.proofs.Common.{◌∙◌, None, Some, sym, ap, subst}
 use Rattle.api_meta.specs.Views.{regex_kind}
 use Rattle.live_matches.specs.Entries.{Gapped}
 use Rattle.live_matches.specs.Lists.{AreFirst}

@@ -1,11 +1,45 @@
 use Rattle.std.proofs.Common.{◌∙◌, None, length, sym, ap, ap₂, ◌-◌, subst, arith}
 use Rattle.api_meta.specs.Views.{regex_kind}
 use Rattle.live_matches.specs.Drawn.{AreAhead}
-use Rattle.live_matches.specs.Entries.{all_of}
+use Rattle.live_matches.specs.Entries.{all_of, len_after}
 use Rattle.live_matches.specs.Lists.{AreEntries}
 use Rattle.live_matches.specs.Live.{seeks}
+use Rattle.live_matches.proofs.Nexts.{sized}
+use Rattle.live_matches.proofs.Stretched.{are_over, are_rising}
 use Rattle.live_matches.proofs.Updates.{fewer, laid, split}
 use Rattle.live_matches.proofs.search.update.Goals as goal
+
+pub edit-requires-clause-fits : goal.edit-requires-clause-fits
+edit-requires-clause-fits g c =
+    let r = c.args.regex.now in
+    let was = c.requires.stretches in
+    let n = sized (regex_kind r) (seeks r) was.old c.args.input.now.content c.args.edit was.edited in
+    record {
+      order = was.edited.order;
+      inside = omega (arith, was.edited.inside, was.len);
+      fits = omega (arith, n, was.len, c.content_fits.ensures);
+    }
+
+pub edit-requires-clause-rising : goal.edit-requires-clause-rising
+edit-requires-clause-rising g c =
+    let r = c.args.regex.now in
+    let was = c.requires.stretches in
+    are_rising (regex_kind r) (seeks r) was.old 0 (all_of c.args.stretches.now.entries) was.are
+
+pub carry-requires-clause-stretches_len : goal.carry-requires-clause-stretches_len
+carry-requires-clause-stretches_len g c =
+    let r = c.args.regex.now in
+    let was = c.requires.stretches in
+    c.in_ok-edit.ensures.len ∙ ap (len_after c.args.edit) was.len
+    ∙ sym (sized (regex_kind r) (seeks r) was.old c.args.input.now.content c.args.edit was.edited)
+
+pub carry-requires-clause-are : goal.carry-requires-clause-are
+carry-requires-clause-are g c =
+    let r = c.args.regex.now in
+    let was = c.requires.stretches in
+    let by = was.edited in
+    are_over (regex_kind r) (seeks r) was.old c.args.input.now.content c.args.edit by.order by.inside by.room by.back
+    c.args.stretches.now.entries c.edit.new.self.entries by.front c.in_ok-edit.ensures was.are
 
 pub carry-requires-clause-were : goal.carry-requires-clause-were
 carry-requires-clause-were g c =
