@@ -1,14 +1,16 @@
 //! Searched files: those of the command line and of folders, or the standard input.
 
-use crate::fault::{Fault, read};
+use crate::fault::{Fault, read, written};
 use crate::job::{Job, SearchedFile, elapsed};
+use crate::prompt::{PromptReader, SharedStdout};
 use grep_files::{Choice, FoundFile, Identity, Walk};
 use grep_options::filter::{Options, Report};
 use grep_output::{MatchFinder, Output, Template};
 use std::alloc::Global;
+use std::cell::RefCell;
 use std::fs::File;
 use std::io;
-use std::io::{BufWriter, Write};
+use std::io::{BufWriter, IsTerminal, Read, Write};
 
 /// The name of the standard input, in what is printed.
 const STDIN: &str = "(standard input)";
@@ -28,14 +30,40 @@ impl Job<'_, '_, '_> {
         Ok(())
     }
 
-    /// Searches the standard input.
-    fn search_stdin<F: MatchFinder, W: Write + Drop>(
+    /// Searches an open input. What was printed is written before each read, if the input isn't a
+    /// regular file: its error shows in the flush behind a read that failed. `identity` is that of the
+    /// file.
+    fn search_input<R: Read + Drop, F: MatchFinder>(
         &self,
         rt: &HostRuntime,
         finder: &mut F,
-        out: &mut Output<W>,
+        inner: R,
+        identity: Option<Identity>,
+        out: &mut Output<SharedStdout<'_>>,
+        file: SearchedFile<'_>,
     ) -> Result<bool, Fault> {
-        self.check_output(Identity::of_stdin(rt))?;
+        self.check_output(identity)?;
+        let reader = PromptReader {
+            inner,
+            output: out.writer.inner,
+            may_wait: identity.is_none(),
+        };
+        match self.search(rt, finder, reader, out, file) {
+            Err(Fault::Read(fault)) => {
+                written(out.writer.flush())?;
+                Err(Fault::Read(fault))
+            }
+            found => found,
+        }
+    }
+
+    /// Searches the standard input.
+    fn search_stdin<F: MatchFinder>(
+        &self,
+        rt: &HostRuntime,
+        finder: &mut F,
+        out: &mut Output<SharedStdout<'_>>,
+    ) -> Result<bool, Fault> {
         let file = SearchedFile {
             name: if self.options.json {
                 STDIN_RECORD
@@ -44,15 +72,15 @@ impl Job<'_, '_, '_> {
             },
             is_in_folder: false,
         };
-        self.search(rt, finder, rt.stdin(), out, file)
+        self.search_input(rt, finder, rt.stdin(), Identity::of_stdin(rt), out, file)
     }
 
     /// Searches a file, or the standard input.
-    fn search_file<F: MatchFinder, W: Write + Drop>(
+    fn search_file<F: MatchFinder>(
         &self,
         rt: &HostRuntime,
         finder: &mut F,
-        out: &mut Output<W>,
+        out: &mut Output<SharedStdout<'_>>,
         found: &FoundFile,
     ) -> Result<bool, Fault> {
         let name = found.path.as_str();
@@ -60,12 +88,12 @@ impl Job<'_, '_, '_> {
             return self.search_stdin(rt, finder, out);
         }
         let opened = read(File::open(rt, name))?;
-        self.check_output(Identity::of_file(&opened))?;
+        let identity = Identity::of_file(&opened);
         let file = SearchedFile {
             name,
             is_in_folder: found.is_in_folder,
         };
-        self.search(rt, finder, opened, out, file)
+        self.search_input(rt, finder, opened, identity, out, file)
     }
 
     /// Reports a file that couldn't be searched, unless messages are off.
@@ -78,11 +106,11 @@ impl Job<'_, '_, '_> {
 
     /// Searches the next file of a walk, and returns whether a line was selected, or `None` if the
     /// file couldn't be searched, which is reported. An `Err` is an error of the output.
-    fn search_found<F: MatchFinder, W: Write + Drop>(
+    fn search_found<F: MatchFinder>(
         &self,
         rt: &HostRuntime,
         finder: &mut F,
-        out: &mut Output<W>,
+        out: &mut Output<SharedStdout<'_>>,
         found: &FoundFile,
     ) -> io::Result<Option<bool>> {
         match self.search_file(rt, finder, out, found) {
@@ -98,11 +126,11 @@ impl Job<'_, '_, '_> {
     }
 
     /// Searches the files of a walk, and returns the status.
-    fn search_walk<F: MatchFinder, W: Write + Drop>(
+    fn search_walk<F: MatchFinder>(
         &self,
         rt: &HostRuntime,
         finder: &mut F,
-        out: &mut Output<W>,
+        out: &mut Output<SharedStdout<'_>>,
         walk: &mut Walk<'_>,
     ) -> io::Result<u8> {
         let mut is_any = false;
@@ -133,7 +161,8 @@ impl Job<'_, '_, '_> {
         walk: &mut Walk<'_>,
     ) -> io::Result<u8> {
         let begun = self.now(rt);
-        let writer = BufWriter::new(self.alloc, rt.stdout())?;
+        let buffer = RefCell::new(BufWriter::new(self.alloc, rt.stdout())?);
+        let writer = SharedStdout { buffer: &buffer };
         let mut out = Output::new(self.alloc, writer, self.counts(), self.options.json);
         let status = self.search_walk(rt, finder, &mut out, walk)?;
         out.put_total(elapsed(rt, begun))?;
@@ -200,6 +229,7 @@ pub fn search_all<F: MatchFinder>(
         template: template.as_ref(),
         output: output_of(rt, options),
         is_colored,
+        is_line_buffered: options.line_buffered || rt.stdout().is_terminal(),
     };
     let mut walk = Walk::new(alloc, &options.files, choice_of(alloc, options)?)?;
     let status = job.print_walk(rt, finder, &mut walk);

@@ -53,6 +53,8 @@ pub struct Job<'o, 't, 'w> {
     /// The file to which lines are written, if they are written to a file.
     pub output: Option<Identity>,
     pub is_colored: bool,
+    /// Whether each line is written at once.
+    pub is_line_buffered: bool,
 }
 
 impl Job<'_, '_, '_> {
@@ -72,7 +74,7 @@ impl Job<'_, '_, '_> {
             template: self.template,
             is_inverted: options.invert,
             is_colored: self.is_colored,
-            line_buffered: options.line_buffered,
+            line_buffered: self.is_line_buffered,
             separates: options.context().is_some() && !is_quiet,
             is_quiet,
             terminator: options.terminator(),

@@ -4,5 +4,6 @@
 mod fault;
 mod files;
 mod job;
+mod prompt;
 
 pub use files::search_all;

@@ -1,0 +1,48 @@
+//! Prompt output: what was printed is written before a reader may wait.
+
+use std::cell::RefCell;
+use std::io;
+use std::io::{BufWriter, ErrorKind, Read, Stdout, Write};
+
+/// The standard output, behind one buffer that printers and readers share.
+#[derive(Clone, Copy)]
+pub struct SharedStdout<'c> {
+    pub buffer: &'c RefCell<BufWriter<Stdout>>,
+}
+
+impl Write for SharedStdout<'_> {
+    fn write(&mut self, bytes: &[u8]) -> io::Result<usize> {
+        match self.buffer.try_borrow_mut() {
+            Ok(mut buffer) => buffer.write(bytes),
+            Err(_) => Err(io::Error::from(ErrorKind::Other)),
+        }
+    }
+
+    fn flush(&mut self) -> io::Result<()> {
+        match self.buffer.try_borrow_mut() {
+            Ok(mut buffer) => buffer.flush(),
+            Err(_) => Err(io::Error::from(ErrorKind::Other)),
+        }
+    }
+}
+
+/// A reader that flushes the output before each read, if that may wait. An error of the output is one
+/// of the read then, and what couldn't be written stays in the buffer.
+#[derive(Drop)]
+pub struct PromptReader<R: Read + Drop, W: Write + Drop> {
+    pub inner: R,
+    pub output: W,
+    /// Whether a read may wait, as that of a pipe or a terminal does.
+    pub may_wait: bool,
+}
+
+impl<R: Read + Drop, W: Write + Drop> Read for PromptReader<R, W> {
+    ghost remaining = { λ r. R.remaining r.inner };
+
+    fn read(&mut self, bytes: &mut [u8]) -> io::Result<usize> {
+        if self.may_wait {
+            self.output.flush()?;
+        }
+        self.inner.read(bytes)
+    }
+}
