@@ -25,6 +25,8 @@ pub struct Output<W: Write + Drop> {
     pub writer: Counter<W>,
     /// Whether a line with those around it was printed. Then a separator stands before the next file's.
     has_groups: bool,
+    /// Whether a line with a NUL byte was to be printed of this file. Then no more of it is printed.
+    pub is_binary: bool,
     /// What was searched and found in the files so far, if that is counted.
     total: Option<Stats>,
     /// What was searched and found so far in this file.
@@ -40,6 +42,7 @@ impl<W: Write + Drop> Output<W> {
         Output {
             writer: Counter { inner, count: 0 },
             has_groups: false,
+            is_binary: false,
             total: if counts { Some(Stats::new()) } else { None },
             file: Stats::new(),
             records: if records {
@@ -79,6 +82,7 @@ impl<W: Write + Drop> Output<W> {
     /// Begins to count for a file.
     pub fn begin_file(&mut self) {
         self.file = Stats::new();
+        self.is_binary = false;
         self.writer.count = 0;
     }
 
@@ -164,7 +168,8 @@ impl<'o, F: MatchFinder, W: Write + Drop> LinePrinter<F> for Printer<'o, W> {
             self.out
                 .count_line(selector, style.is_inverted, line, &mut self.matches)?;
         }
-        if style.is_quiet {
+        self.out.is_binary |= style.finds_binary(line);
+        if style.is_quiet || self.out.is_binary {
             return Ok(());
         }
         if self.is_apart {
@@ -189,9 +194,7 @@ impl<'o, F: MatchFinder, W: Write + Drop> LinePrinter<F> for Printer<'o, W> {
         ensures ok { OnOk result (Prints None None (separator ∷ [])) }
         ensures failed { IfErr result (λ _. ⊤) }
     {
-        if !self.style.separates {
-            return Ok(());
-        }
-        self.out.writer.write_all(SEPARATOR)
+        self.is_apart = self.style.separates;
+        Ok(())
     }
 }

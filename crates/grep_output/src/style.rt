@@ -3,6 +3,7 @@ ghost use Rattle.std.specs.Prelude.{◌≡◌};
 
 use crate::finder::MatchFinder;
 use crate::template::Template;
+use memchr::memchr;
 use rc_text::types::Span;
 use std::io;
 use std::io::Write;
@@ -52,6 +53,8 @@ pub struct Style<'o> {
     pub separates: bool,
     /// Whether no line is printed. They may be counted.
     pub is_quiet: bool,
+    /// Whether lines with NUL bytes are printed.
+    pub is_text: bool,
     /// The byte in which lines end.
     pub terminator: u8,
 }
@@ -62,6 +65,11 @@ impl<'o> Style<'o> {
         !self.is_quiet
             && !self.is_inverted
             && (self.only_matching || self.is_colored || self.template.is_some())
+    }
+
+    /// Whether this line shows that a file is binary, so that it isn't printed.
+    pub fn finds_binary(&self, line: &[u8]) -> bool {
+        !self.is_quiet && !self.is_text && memchr(0, line).is_some()
     }
 
     /// Writes what comes before a line, or before a match at `start` in it: the name of its file, its

@@ -77,6 +77,7 @@ impl Job<'_, '_, '_> {
             line_buffered: self.is_line_buffered,
             separates: options.context().is_some() && !is_quiet,
             is_quiet,
+            is_text: options.text || options.null_data,
             terminator: options.terminator(),
         }
     }
@@ -208,7 +209,8 @@ impl Job<'_, '_, '_> {
         }
         let count = self.put_lines(finder, reader, out, name, report)?;
         written(self.put_count_or_name(&mut out.writer.inner, name, report, count))?;
-        if count > 0 && report == Report::Binary {
+        let is_binary = report == Report::Binary || (out.is_binary && !self.options.no_binary);
+        if count > 0 && is_binary {
             let _ = writeln!(rt.stderr(), "rcgrep: {name}: binary file matches");
         }
         Ok(count > 0)
