@@ -31,10 +31,8 @@ pub enum List {
     Captures,
     /// The groups of the first match.
     Groups,
-    /// The pieces.
-    Pieces,
-    /// The pieces, so many at most.
-    FirstPieces(usize),
+    /// The pieces, so many at most if that is said.
+    Pieces(Option<usize>),
 }
 
 /// Spans of matches, of groups or of pieces.
@@ -168,29 +166,30 @@ pub fn spans_by<C: Cursor + Drop>(
     input: Input<C>,
 ) -> Spans {
     let mut spans = Spans::new(alloc);
-    let made = match list {
-        List::Matches => put_matches(alloc, regex, input, &mut spans),
-        List::Captures => put_captured(alloc, regex, input, &mut spans),
-        List::Groups => put_groups(alloc, regex, input, &mut spans),
-        List::Pieces => put_pieces(alloc, regex, input, &mut spans),
-        List::FirstPieces(most) => put_first_pieces(alloc, regex, input, most, &mut spans),
-    };
-    if made.is_err() {
+    if put_spans(alloc, regex, list, input, &mut spans).is_err() {
         spans.is_whole = false;
     }
     spans
 }
 
-/// Adds the groups that `captures` gives.
-fn put_groups<C: Cursor + Drop>(
+/// Adds the spans that a call gives.
+fn put_spans<C: Cursor + Drop>(
     alloc: Global,
     regex: &Regex,
+    list: List,
     input: Input<C>,
     spans: &mut Spans,
 ) -> Result<(), AllocError> {
-    let captures = regex.captures(alloc, input)?;
-    put_groups_of(&captures, spans);
-    drop(captures);
+    match list {
+        List::Matches => put_all(regex.find_iter(alloc, input)?, spans),
+        List::Captures => put_all(regex.captures_iter(alloc, input)?, spans),
+        List::Groups => {
+            let captures = regex.captures(alloc, input)?;
+            put_groups_of(&captures, spans);
+            drop(captures);
+        }
+        List::Pieces(most) => put_pieces(alloc, regex, most, input, spans)?,
+    }
     Ok(())
 }
 
@@ -201,47 +200,17 @@ pub fn put_groups_of(captures: &Captures, spans: &mut Spans) {
     }
 }
 
-/// Adds the matches.
-fn put_matches<C: Cursor + Drop>(
+/// Adds the pieces, so many at most if that is said.
+pub fn put_pieces<C: Cursor + Drop>(
     alloc: Global,
     regex: &Regex,
+    most: Option<usize>,
     input: Input<C>,
     spans: &mut Spans,
 ) -> Result<(), AllocError> {
-    put_all(regex.find_iter(alloc, input)?, spans);
-    Ok(())
-}
-
-/// Adds the matches that come with their groups.
-fn put_captured<C: Cursor + Drop>(
-    alloc: Global,
-    regex: &Regex,
-    input: Input<C>,
-    spans: &mut Spans,
-) -> Result<(), AllocError> {
-    put_all(regex.captures_iter(alloc, input)?, spans);
-    Ok(())
-}
-
-/// Adds the pieces.
-fn put_pieces<C: Cursor + Drop>(
-    alloc: Global,
-    regex: &Regex,
-    input: Input<C>,
-    spans: &mut Spans,
-) -> Result<(), AllocError> {
-    put_all(regex.split(alloc, input)?, spans);
-    Ok(())
-}
-
-/// Adds the pieces that a limit leaves.
-fn put_first_pieces<C: Cursor + Drop>(
-    alloc: Global,
-    regex: &Regex,
-    input: Input<C>,
-    most: usize,
-    spans: &mut Spans,
-) -> Result<(), AllocError> {
-    put_all(regex.splitn(alloc, input, most)?, spans);
+    match most {
+        Some(most) => put_all(regex.splitn(alloc, input, most)?, spans),
+        None => put_all(regex.split(alloc, input)?, spans),
+    }
     Ok(())
 }

@@ -27,7 +27,10 @@ const WALKER_BYTES: usize = 8;
 /// The row is answered as it wants to be. Where it wants that engines answer alike, what is wanted is set to what they find.
 pub fn judge(alloc: Global, row: &mut Row) -> Result<(), Fault> {
     if row.patterns.len() > MOST_PATTERNS {
-        return Err(Fault::UnreadPattern);
+        return Err(Fault {
+            by: "unread",
+            what: "pattern",
+        });
     }
     let mut asker = Asker {
         alloc,
@@ -50,10 +53,10 @@ fn judge_wanted(asker: &mut Asker, row: &mut Row)
             over_all_cuttings(asker, &mut engines, row);
             drop(engines);
         }
-        Err(BuildError::Memory) => asker.verdict.note(Fault::Memory),
+        Err(BuildError::Memory) => asker.verdict.note("row", "memory"),
         Err(error) => {
             let is_refused = is_refused(&error, row.want);
-            asker.verdict.expect(is_refused, Fault::Refusal);
+            asker.verdict.expect(is_refused, "row", "refused");
         }
     }
 }
@@ -82,7 +85,7 @@ fn answer_alike(asker: &mut Asker, row: &mut Row) -> Option<BuildError>
         }
         Err(error) => {
             let is_refused = !matches!(error, BuildError::Memory);
-            asker.verdict.expect(is_refused, Fault::Memory);
+            asker.verdict.expect(is_refused, "row", "memory");
             Some(error)
         }
     }
@@ -116,7 +119,7 @@ fn want_found(asker: &mut Asker, engines: &Engines, row: &mut Row, list: List)
     let told = told_by(asker.alloc, regex, Call::Find, over, &mut asker.verdict);
     let over = input(row, Recut::whole(&row.text));
     let spans = spans_by(asker.alloc, regex, list, over);
-    asker.verdict.expect(spans.is_whole, Fault::Memory);
+    asker.verdict.expect(spans.is_whole, "row", "memory");
     row.number = match told.found() {
         Some(found) => Some(found.pattern().as_usize()),
         None => None,
@@ -156,7 +159,7 @@ fn over_chunks<'a>(
 ) {
     match ChunkCursor::at(chunks, at) {
         Ok(cursor) => over(asker, engines, row, cursor),
-        Err(_) => asker.verdict.note(Fault::Chunks),
+        Err(_) => asker.verdict.note("row", "chunks"),
     }
 }
 
@@ -169,7 +172,7 @@ fn over<C: Cursor + Copy + Drop>(asker: &mut Asker, engines: &mut Engines, row: 
         Want::Captured => searches::captured(asker, engines, row, cursor),
         Want::Pieces => searches::pieces(asker, engines, row, cursor),
         Want::Which => which::which(asker, engines, row, cursor),
-        Want::Refused(word) => asker.verdict.expect(word == "no", Fault::Refusal),
-        Want::Nothing | Want::Alike => asker.verdict.note(Fault::UnreadWant),
+        Want::Refused(word) => asker.verdict.expect(word == "no", "row", "refused"),
+        Want::Nothing | Want::Alike => asker.verdict.note("unread", "want"),
     }
 }

@@ -45,7 +45,8 @@ fn main(rt: HostRuntime) -> io::Result<()> {
         rows = rows.saturating_add(1);
         if let Err(fault) = run(rt.alloc(), &line) {
             wrong = wrong.saturating_add(1);
-            println!(rt; "line {number}: {fault:?}: {line}")?;
+            let Fault { by, what } = fault;
+            println!(rt; "line {number}: {by} {what}: {line}")?;
         }
     }
     println!(rt; "{rows} rows, {wrong} wrong")

@@ -5,7 +5,7 @@ ghost use Rattle.std.specs.Prelude.{◌≤◌, length};
 
 use crate::cursors::Recut;
 use crate::engines::{Engines, may_be_empty};
-use crate::faults::{Fault, Verdict};
+use crate::faults::Verdict;
 use crate::inputs::{input, start_at};
 use crate::row::{Pair, Row};
 use crate::slots::Asker;
@@ -80,7 +80,7 @@ pub fn agree(asker: &mut Asker, engines: &Engines, row: &Row)
             from_each_start(asker, engines, &hirs, row);
             drop(hirs);
         }
-        Err(_) => asker.verdict.note(Fault::Memory),
+        Err(_) => asker.verdict.note("row", "memory"),
     }
 }
 
@@ -101,7 +101,7 @@ fn from_start(asker: &mut Asker, engines: &Engines, hirs: &[Hir], row: &Row, sta
             are_preferred(asker, &captures, hirs, row, start);
             drop(captures);
         }
-        Err(_) => asker.verdict.note(Fault::Memory),
+        Err(_) => asker.verdict.note("row", "memory"),
     }
 }
 
@@ -110,9 +110,9 @@ fn are_preferred(asker: &mut Asker, captures: &Captures, hirs: &[Hir], row: &Row
     let mut parser = Parser::new(asker, row, start);
     let preferred = parser.preferred(hirs);
     let is_same = is_preferred(captures, &preferred);
-    parser.verdict.expect(is_same, Fault::LeastParse);
+    parser.verdict.expect(is_same, "parses", "match");
     let has_groups = parser.has_groups(captures, &preferred);
-    parser.verdict.expect(has_groups, Fault::LeastParseGroups);
+    parser.verdict.expect(has_groups, "parses", "groups");
     asker.verdict = parser.verdict;
 }
 
@@ -384,7 +384,7 @@ impl<'a> Parser<'a> {
                 self.add(found, choice.parse);
             }
         }
-        self.verdict.note(Fault::ManyParses);
+        self.verdict.note("parses", "count");
     }
 
     /// Puts the choices after each further turn uppermost, those of an earlier parse of it above those of a later one.

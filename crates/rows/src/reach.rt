@@ -1,7 +1,6 @@
 //! Reaches: how many bytes of the text settle what the regexes and the `PikeVM` find.
 
 use crate::engines::Engines;
-use crate::faults::Fault;
 use crate::inputs::input;
 use crate::row::Row;
 use crate::slots::Asker;
@@ -22,23 +21,9 @@ pub fn reaches<C: Cursor + Copy + Drop>(
     groups_reach(asker, &engines.regex, row, found, cursor);
     groups_reach(asker, &engines.unfiltered, row, found, cursor);
     groups_reach(asker, &engines.tabled, row, found, cursor);
-    reach(asker, &engines.regex, Fault::Reach, row, found, cursor);
-    reach(
-        asker,
-        &engines.unfiltered,
-        Fault::ReachUnfiltered,
-        row,
-        found,
-        cursor,
-    );
-    reach(
-        asker,
-        &engines.tabled,
-        Fault::ReachByTables,
-        row,
-        found,
-        cursor,
-    );
+    reach(asker, &engines.regex, "regex", row, found, cursor);
+    reach(asker, &engines.unfiltered, "unfiltered", row, found, cursor);
+    reach(asker, &engines.tabled, "tabled", row, found, cursor);
     vm_reach(asker, &engines.vm, row, found, cursor);
 }
 
@@ -46,7 +31,7 @@ pub fn reaches<C: Cursor + Copy + Drop>(
 fn reach<C: Cursor + Drop>(
     asker: &mut Asker,
     regex: &Regex,
-    fault: Fault,
+    by: &'static str,
     row: &Row,
     found: &Option<Match>,
     mut cursor: C,
@@ -60,9 +45,9 @@ fn reach<C: Cursor + Drop>(
             let told = regex.search_reach_with(&mut cache, &mut input);
             drop(cache);
             let is_told = told.found == *found && least <= told.reach && told.reach <= most;
-            asker.verdict.expect(is_told, fault);
+            asker.verdict.expect(is_told, by, "reach");
         }
-        Err(_) => asker.verdict.note(Fault::Memory),
+        Err(_) => asker.verdict.note("row", "memory"),
     }
 }
 
@@ -84,14 +69,14 @@ fn groups_reach<C: Cursor + Drop>(
                     let mut input = input(row, &mut cursor);
                     let told = regex.search_captures_reach_with(&mut cache, &mut input, &mut caps);
                     let is_told = caps.get_match() == *found && least <= told && told <= most;
-                    asker.verdict.expect(is_told, Fault::GroupsReach);
+                    asker.verdict.expect(is_told, "regex", "reach of groups");
                     drop(caps);
                 }
-                Err(_) => asker.verdict.note(Fault::Memory),
+                Err(_) => asker.verdict.note("row", "memory"),
             }
             drop(cache);
         }
-        Err(_) => asker.verdict.note(Fault::Memory),
+        Err(_) => asker.verdict.note("row", "memory"),
     }
 }
 
@@ -113,8 +98,8 @@ fn vm_reach<C: Cursor + Drop>(
             let told = search_reach(vm, &mut cache, &mut input);
             drop(cache);
             let is_told = told.found == *found && least <= told.reach && told.reach <= most;
-            asker.verdict.expect(is_told, Fault::VmReach);
+            asker.verdict.expect(is_told, "PikeVM", "reach");
         }
-        Err(_) => asker.verdict.note(Fault::Memory),
+        Err(_) => asker.verdict.note("row", "memory"),
     }
 }

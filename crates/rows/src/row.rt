@@ -123,7 +123,7 @@ impl<'a> Row<'a> {
         }
         match field.split_once('=') {
             Some((name, value)) => self.set(name, value, verdict),
-            None => verdict.note(Fault::UnreadField),
+            None => verdict.note("unread", "field"),
         }
     }
 
@@ -155,7 +155,7 @@ impl<'a> Row<'a> {
 
     /// Sets what is wanted, where nothing was: a number or none, and spans or none.
     fn wants(&mut self, want: Want<'a>, value: &str, verdict: &mut Verdict) {
-        verdict.expect(matches!(self.want, Want::Nothing), Fault::UnreadWant);
+        verdict.expect(matches!(self.want, Want::Nothing), "unread", "want");
         self.want = want;
         match value.split_once(": ") {
             None => put_spans(value, &mut self.spans, verdict),
@@ -172,7 +172,7 @@ pub fn number(word: &str, verdict: &mut Verdict) -> usize {
     match word.parse::<usize>() {
         Ok(number) => number,
         Err(_) => {
-            verdict.note(Fault::UnreadNumber);
+            verdict.note("unread", "number");
             0
         }
     }
@@ -187,7 +187,7 @@ fn pair(word: &str, verdict: &mut Verdict) -> Option<Pair> {
             Some((start, end))
         }
         None => {
-            verdict.note(Fault::UnreadSpan);
+            verdict.note("unread", "span");
             None
         }
     }
@@ -197,7 +197,7 @@ fn pair(word: &str, verdict: &mut Verdict) -> Option<Pair> {
 fn range(word: &str, verdict: &mut Verdict) -> Option<Pair> {
     let pair = pair(word, verdict);
     if let Some((start, end)) = pair {
-        verdict.expect(start.saturating_sub(1) <= end, Fault::UnreadSpan);
+        verdict.expect(start.saturating_sub(1) <= end, "unread", "span");
     }
     pair
 }
@@ -249,7 +249,7 @@ fn anchoring(word: &str, verdict: &mut Verdict) -> Anchored {
         _ => match PatternID::new(number(word, verdict)) {
             Some(id) => Anchored::Pattern(id),
             None => {
-                verdict.note(Fault::UnreadPattern);
+                verdict.note("unread", "pattern");
                 Anchored::No
             }
         },
@@ -308,7 +308,7 @@ fn put_unescaped(escaped: &str, text: &mut Vec<u8>, verdict: &mut Verdict) {
         }
         state = after;
     }
-    verdict.expect(matches!(state, State::Plain), Fault::UnreadEscape);
+    verdict.expect(matches!(state, State::Plain), "unread", "escape");
 }
 
 /// What stands before a byte of an escaped text.

@@ -2,9 +2,8 @@
 ghost use Rattle.rc_captures.specs.Captures.{IsCapturesFor};
 ghost use Rattle.api_meta.specs.Views.{regex_names};
 
-use crate::calls::{Call, List, Spans, put_groups_of, spans_by, told_by};
+use crate::calls::{Call, List, Spans, put_groups_of, put_pieces, spans_by, told_by};
 use crate::engines::Engines;
-use crate::faults::{Fault, Part};
 use crate::inputs::{Request, end_at, input, pair_of, start_at};
 use crate::reach::reaches;
 use crate::row::{Pair, Quits, Row, Want};
@@ -39,9 +38,12 @@ pub fn first<C: Cursor + Copy + Drop>(
         passes_over: engines.known.passes_over,
     };
     let is_wanted = is_wanted(row, &wanted.found);
-    asker.verdict.expect(is_wanted, Fault::InACache);
+    asker
+        .verdict
+        .expect(is_wanted, "regex", "search_captures_with");
     reaches(asker, engines, row, &wanted.found, cursor);
     by_calls(asker, engines, &wanted, cursor);
+    by_value(asker, &engines.regex, &wanted, cursor);
     early(asker, &engines.regex, row, cursor);
     early(asker, &engines.unfiltered, row, cursor);
     early(asker, &engines.tabled, row, cursor);
@@ -75,6 +77,15 @@ fn found_over<C: Cursor + Drop>(
     found(asker, engines, row.settings.walker, &mut input)
 }
 
+/// The calls that tell of the first match, and their names.
+const CALLS: [(Call, &str); 5] = [
+    (Call::Find, "find"),
+    (Call::Search, "search"),
+    (Call::SearchHalf, "search_half"),
+    (Call::IsMatch, "is_match"),
+    (Call::Captures, "captures"),
+];
+
 /// The calls of the regexes that make a cache of their own tell of the match.
 fn by_calls<C: Cursor + Copy + Drop>(
     asker: &mut Asker,
@@ -83,44 +94,21 @@ fn by_calls<C: Cursor + Copy + Drop>(
     cursor: C,
 ) {
     let regex = &engines.regex;
-    lent(asker, regex, Call::Find, Fault::Find, wanted, cursor);
-    lent(asker, regex, Call::Search, Fault::Search, wanted, cursor);
+    for one in &CALLS {
+        let (call, what) = *one;
+        lent(asker, regex, call, "regex", what, wanted, cursor);
+    }
+    let (call, what) = CALLS[0];
     lent(
         asker,
-        regex,
-        Call::SearchHalf,
-        Fault::SearchHalf,
+        &engines.unfiltered,
+        call,
+        "unfiltered",
+        what,
         wanted,
         cursor,
     );
-    lent(asker, regex, Call::IsMatch, Fault::IsMatch, wanted, cursor);
-    lent(
-        asker,
-        regex,
-        Call::Captures,
-        Fault::Captures,
-        wanted,
-        cursor,
-    );
-    call(asker, regex, Call::Find, Fault::FindByValue, wanted, cursor);
-    let regex = &engines.unfiltered;
-    lent(
-        asker,
-        regex,
-        Call::Find,
-        Fault::FindUnfiltered,
-        wanted,
-        cursor,
-    );
-    let regex = &engines.tabled;
-    lent(
-        asker,
-        regex,
-        Call::Find,
-        Fault::FindByTables,
-        wanted,
-        cursor,
-    );
+    lent(asker, &engines.tabled, call, "tabled", what, wanted, cursor);
 }
 
 /// The call tells of the match over the cursor, which is lent.
@@ -128,25 +116,22 @@ fn lent<C: Cursor + Drop>(
     asker: &mut Asker,
     regex: &Regex,
     which: Call,
-    fault: Fault,
+    by: &'static str,
+    what: &'static str,
     wanted: &Wanted,
     mut cursor: C,
 ) {
-    call(asker, regex, which, fault, wanted, &mut cursor);
+    let input = input(wanted.row, &mut cursor);
+    let told = told_by(asker.alloc, regex, which, input, &mut asker.verdict);
+    asker.verdict.expect(told.is_of(&wanted.found), by, what);
 }
 
-/// The call tells of the match over the cursor itself.
-fn call<C: Cursor + Drop>(
-    asker: &mut Asker,
-    regex: &Regex,
-    which: Call,
-    fault: Fault,
-    wanted: &Wanted,
-    cursor: C,
-) {
-    let input = input(wanted.row, cursor);
-    let told = told_by(asker.alloc, regex, which, input, &mut asker.verdict);
-    asker.verdict.expect(told.is_of(&wanted.found), fault);
+/// The regex finds the match over the cursor itself.
+fn by_value<C: Cursor + Drop>(asker: &mut Asker, regex: &Regex, wanted: &Wanted, cursor: C) {
+    let found = regex.find(asker.alloc, input(wanted.row, cursor));
+    let found = asker.verdict.made(found, None);
+    let is_same = found == wanted.found;
+    asker.verdict.expect(is_same, "regex", "find by value");
 }
 
 /// With the earliest flag on the regex finds some match exactly where one is wanted.
@@ -157,9 +142,13 @@ fn early<C: Cursor + Drop>(asker: &mut Asker, regex: &Regex, row: &Row, mut curs
     let answer = answer_of(asker, regex, Question::Match, &mut input);
     let stays = Request::of(&input) == before;
     let is_wanted = is_as_wanted(row, &answer.told) && stays;
-    asker.verdict.expect(is_wanted, Fault::EarlyWith);
+    asker
+        .verdict
+        .expect(is_wanted, "regex", "earliest in a cache");
     let told = told_by(asker.alloc, regex, Call::Find, input, &mut asker.verdict);
-    asker.verdict.expect(is_as_wanted(row, &told), Fault::Early);
+    asker
+        .verdict
+        .expect(is_as_wanted(row, &told), "regex", "earliest");
 }
 
 /// It tells of a match exactly where the row wants one.
@@ -179,7 +168,7 @@ fn by_table<E: Tables, C: Cursor + Copy + Drop>(
     let is_same = wanted.row.settings.clears || engine.keeps_states();
     asker
         .verdict
-        .expect(is_same, engine.kind().fault(Part::Clear));
+        .expect(is_same, engine.kind().name(), "clear_count");
 }
 
 /// The engine finds the match and its end, and then its start, with the earliest flag off and on.
@@ -226,23 +215,25 @@ fn tells<E: Tables, C: Cursor>(
     let told = engine.told(seek, input);
     let stays = Request::of(input) == before;
     let is_right = wanted.is_right(asker, engine.kind(), seek, is_early, &told);
-    let fault = engine.kind().fault(part_of(seek, is_early));
-    asker.verdict.expect(is_right && stays, fault);
+    let what = search_of(seek, is_early);
+    asker
+        .verdict
+        .expect(is_right && stays, engine.kind().name(), what);
     match told {
         Ok(told) => told.is_match(),
         Err(_) => false,
     }
 }
 
-/// The part that such a search is.
-fn part_of(seek: Seek, is_early: bool) -> Part {
+/// How such a search is called.
+fn search_of(seek: Seek, is_early: bool) -> &'static str {
     match (seek, is_early) {
-        (Seek::Match, false) => Part::Find,
-        (Seek::Match, true) => Part::Early,
-        (Seek::End, false) => Part::Forward,
-        (Seek::End, true) => Part::EarlyForward,
-        (Seek::Start, false) => Part::Backward,
-        (Seek::Start, true) => Part::EarlyBackward,
+        (Seek::Match, false) => "find",
+        (Seek::Match, true) => "earliest find",
+        (Seek::End, false) => "forward search",
+        (Seek::End, true) => "earliest forward search",
+        (Seek::Start, false) => "backward search",
+        (Seek::Start, true) => "earliest backward search",
     }
 }
 
@@ -255,7 +246,7 @@ fn may_end_by(asker: &mut Asker, kind: Kind, quits: Quits, error: &MatchError) -
             Quits::Anywhere => true,
         },
         MatchError::GaveUp { memory, .. } => {
-            asker.verdict.expect(!*memory, Fault::Memory);
+            asker.verdict.expect(!*memory, "row", "memory");
             matches!(kind, Kind::SmallHybrid)
         }
     }
@@ -331,7 +322,7 @@ pub fn captured<C: Cursor + Copy + Drop>(
     cursor: C,
 ) {
     let list = List::Groups;
-    lists(asker, engines, list, &GROUPS, row, cursor);
+    lists(asker, engines, list, "captures", row, cursor);
     again(asker, &engines.regex, row, cursor);
 }
 
@@ -343,7 +334,7 @@ fn again<C: Cursor + Drop>(asker: &mut Asker, regex: &Regex, row: &Row, mut curs
             filled_again(asker, regex, row, &mut cursor, &mut captures);
             drop(captures);
         }
-        Err(_) => asker.verdict.note(Fault::Memory),
+        Err(_) => asker.verdict.note("row", "memory"),
     }
 }
 
@@ -361,7 +352,7 @@ fn filled_again<C: Cursor + Drop>(
     asker.verdict.made(searched, ());
     let mut spans = Spans::new(asker.alloc);
     put_groups_of(captures, &mut spans);
-    are_wanted(asker, row, &spans, Fault::SearchCaptures);
+    are_wanted(asker, row, &spans, "regex", "search_captures");
 }
 
 /// All matches are those wanted: those of `find_iter`, with and without prefilters, those of `captures_iter`, and those that each
@@ -373,81 +364,64 @@ pub fn all<C: Cursor + Copy + Drop>(
     cursor: C,
 ) {
     first(asker, engines, row, cursor);
-    lists(asker, engines, List::Matches, &MATCHES, row, cursor);
+    lists(asker, engines, List::Matches, "find_iter", row, cursor);
     if let Some(dfa) = &engines.dfa {
         list_by_table(asker, dfa, row, cursor);
     }
     list_by_table(asker, &engines.hybrid, row, cursor);
     list_by_table(asker, &engines.small, row, cursor);
-    lists_lent(
+    listed(
         asker,
         &engines.regex,
         List::Captures,
-        Fault::CapturesIter,
+        "regex",
+        "captures_iter",
         row,
         cursor,
     );
     in_turn(asker, engines, row, cursor);
 }
 
-/// The faults of the regexes' groups, matches and pieces: of the regex, of the one that looks for no needles, and of the one with tables.
-const GROUPS: [Fault; 3] = [
-    Fault::Captures,
-    Fault::CapturesUnfiltered,
-    Fault::CapturesByTables,
-];
-
-const MATCHES: [Fault; 3] = [
-    Fault::FindIter,
-    Fault::FindIterUnfiltered,
-    Fault::FindIterByTables,
-];
-
-const PIECES: [Fault; 3] = [Fault::Split, Fault::SplitUnfiltered, Fault::SplitByTables];
-
-/// The spans that the regexes give are those wanted, else these faults.
+/// The spans that the regexes give by these calls are those wanted.
 fn lists<C: Cursor + Copy + Drop>(
     asker: &mut Asker,
     engines: &Engines,
     list: List,
-    faults: &[Fault; 3],
+    what: &'static str,
     row: &Row,
     cursor: C,
 ) {
-    lists_lent(asker, &engines.regex, list, faults[0], row, cursor);
-    lists_lent(asker, &engines.unfiltered, list, faults[1], row, cursor);
-    lists_lent(asker, &engines.tabled, list, faults[2], row, cursor);
+    listed(asker, &engines.regex, list, "regex", what, row, cursor);
+    listed(
+        asker,
+        &engines.unfiltered,
+        list,
+        "unfiltered",
+        what,
+        row,
+        cursor,
+    );
+    listed(asker, &engines.tabled, list, "tabled", what, row, cursor);
 }
 
 /// The spans that a regex gives over the cursor, which is lent, are those wanted.
-fn lists_lent<C: Cursor + Drop>(
+fn listed<C: Cursor + Drop>(
     asker: &mut Asker,
     regex: &Regex,
     list: List,
-    fault: Fault,
+    by: &'static str,
+    what: &'static str,
     row: &Row,
     mut cursor: C,
 ) {
-    lists_by(asker, regex, list, fault, row, &mut cursor);
-}
-
-/// The spans that a regex gives over the cursor itself are those wanted.
-fn lists_by<C: Cursor + Drop>(
-    asker: &mut Asker,
-    regex: &Regex,
-    list: List,
-    fault: Fault,
-    row: &Row,
-    cursor: C,
-) {
-    let spans = spans_by(asker.alloc, regex, list, input(row, cursor));
-    are_wanted(asker, row, &spans, fault);
+    let spans = spans_by(asker.alloc, regex, list, input(row, &mut cursor));
+    are_wanted(asker, row, &spans, by, what);
 }
 
 /// The spans are those wanted.
-fn are_wanted(asker: &mut Asker, row: &Row, spans: &Spans, fault: Fault) {
-    asker.verdict.expect(spans.is_whole, Fault::Memory);
-    asker.verdict.expect(spans.list == row.spans, fault);
+fn are_wanted(asker: &mut Asker, row: &Row, spans: &Spans, by: &'static str, what: &'static str) {
+    asker.verdict.expect(spans.is_whole, "row", "memory");
+    asker.verdict.expect(spans.list == row.spans, by, what);
 }
 
 /// The matches that the engine finds one after another, up to where it stops, are those wanted.
@@ -460,10 +434,10 @@ fn list_by_table<E: Tables, C: Cursor + Drop>(
     let mut spans = Spans::new(asker.alloc);
     engine.list(asker.alloc, input(row, &mut cursor), &mut spans);
     let is_same = is_listed(asker, engine.kind(), row, &spans);
-    asker.verdict.expect(spans.is_whole, Fault::Memory);
+    asker.verdict.expect(spans.is_whole, "row", "memory");
     asker
         .verdict
-        .expect(is_same, engine.kind().fault(Part::List));
+        .expect(is_same, engine.kind().name(), "find_iter");
 }
 
 /// The spans are those wanted, or the first of them, if a search stops where the row says so.
@@ -484,11 +458,15 @@ fn in_turn<C: Cursor + Drop>(asker: &mut Asker, engines: &Engines, row: &Row, mu
     let mut last = None;
     for wanted in &row.spans {
         let span = next_match(asker, engines, walks, &mut input, last);
-        asker.verdict.expect(span == *wanted, Fault::InTurn);
+        asker
+            .verdict
+            .expect(span == *wanted, "regex", "matches in turn");
         last = go_on(&mut input, span);
     }
     let span = next_match(asker, engines, walks, &mut input, last);
-    asker.verdict.expect(span.is_none(), Fault::InTurn);
+    asker
+        .verdict
+        .expect(span.is_none(), "regex", "matches in turn");
 }
 
 /// Has the next search start where this match ended, and tells where.
@@ -520,19 +498,23 @@ fn next_match<C: Cursor>(
     }
 }
 
-/// The pieces between matches are those wanted, with and without prefilters.
+/// The pieces between matches are those wanted: of the regexes, and over the cursor itself.
 pub fn pieces<C: Cursor + Copy + Drop>(asker: &mut Asker, engines: &Engines, row: &Row, cursor: C) {
-    let list = match row.number {
-        Some(most) => List::FirstPieces(most),
-        None => List::Pieces,
-    };
-    lists(asker, engines, list, &PIECES, row, cursor);
-    lists_by(
-        asker,
-        &engines.regex,
-        list,
-        Fault::SplitByValue,
-        row,
-        cursor,
+    let list = List::Pieces(row.number);
+    lists(asker, engines, list, "pieces", row, cursor);
+    pieces_by_value(asker, &engines.regex, row, cursor);
+}
+
+/// The pieces that a regex gives over the cursor itself are those wanted.
+fn pieces_by_value<C: Cursor + Drop>(asker: &mut Asker, regex: &Regex, row: &Row, cursor: C) {
+    let mut spans = Spans::new(asker.alloc);
+    let put = put_pieces(
+        asker.alloc,
+        regex,
+        row.number,
+        input(row, cursor),
+        &mut spans,
     );
+    asker.verdict.made(put, ());
+    are_wanted(asker, row, &spans, "regex", "pieces by value");
 }

@@ -3,7 +3,7 @@
 ghost use Rattle.rc_text.specs.Limits.{most_patterns};
 ghost use Rattle.std.specs.Prelude.{◌≤◌, length};
 
-use crate::faults::{Fault, Verdict};
+use crate::faults::Verdict;
 use crate::row::number;
 use api_meta::regex::Regex;
 use api_pikevm::vm::PikeVM;
@@ -70,7 +70,7 @@ impl Capacity {
         if let Some(less) = rest.strip_prefix('-') {
             return Capacity::Least(0, number(less, verdict));
         }
-        verdict.expect(rest.is_empty(), Fault::UnreadSetting);
+        verdict.expect(rest.is_empty(), "unread", "setting");
         Capacity::Least(0, 0)
     }
 
@@ -100,7 +100,7 @@ fn byte(word: &str, verdict: &mut Verdict) -> u8 {
     match word.parse::<u8>() {
         Ok(byte) => byte,
         Err(_) => {
-            verdict.note(Fault::UnreadSetting);
+            verdict.note("unread", "setting");
             0
         }
     }
@@ -146,7 +146,7 @@ impl<'a> Settings<'a> {
             "capacity" => self.capacity = Some(Capacity::read(value, verdict)),
             "dfa_limit" => self.dfa_limit = Some(number(value, verdict)),
             "nest" => self.syntax = self.syntax.nest_limit(u32::from(byte(value, verdict))),
-            _ => verdict.note(Fault::UnreadSetting),
+            _ => verdict.note("unread", "setting"),
         }
     }
 

@@ -7,7 +7,7 @@ ghost use Rattle.api_pikevm.specs.Caches as pikevm;
 ghost use Rattle.api_pikevm.specs.Views.{sought};
 
 use crate::engines::Engines;
-use crate::faults::{Fault, Verdict};
+use crate::faults::Verdict;
 use crate::inputs::Request;
 use crate::told::Told;
 use api_meta::cache;
@@ -104,7 +104,7 @@ impl Asker {
         match vec![in self.alloc; None; len] {
             Ok(slots) => slots,
             Err(_) => {
-                self.verdict.note(Fault::Memory);
+                self.verdict.note("row", "memory");
                 Vec::new(self.alloc)
             }
         }
@@ -132,7 +132,7 @@ impl Asker {
 
     /// No answer: out of memory.
     fn refused(&mut self) -> Answer {
-        self.verdict.note(Fault::Memory);
+        self.verdict.note("row", "memory");
         self.plain(Told::IsMatch(false))
     }
 }
@@ -260,34 +260,27 @@ impl<'p> Engine for Walker<'p> {
     }
 }
 
-/// A question, and the faults of an answer that tells of another match or has other slots.
-type Asked = (Question, Fault, Fault);
+/// A question, and the search that answers it.
+type Asked = (Question, &'static str);
 
 /// What the regex is asked.
 const REGEX: [Asked; 4] = [
-    (Question::Match, Fault::SearchCapturesWith, Fault::Slots),
-    (Question::End, Fault::SearchHalfWith, Fault::Slots),
-    (Question::Slots, Fault::SearchSlotsWith, Fault::Slots),
-    (Question::HalfSlots, Fault::SearchSlotsWith, Fault::Slots),
+    (Question::Match, "search_with"),
+    (Question::End, "search_half_with"),
+    (Question::Slots, "search_slots_with"),
+    (Question::HalfSlots, "search_slots_with"),
 ];
 
 /// What the `PikeVM` is asked.
 const VM: [Asked; 4] = [
-    (Question::Match, Fault::VmIsMatch, Fault::VmSlots),
-    (Question::Captures, Fault::Vm, Fault::VmSlots),
-    (Question::Slots, Fault::VmSearchSlots, Fault::VmSearchSlots),
-    (
-        Question::HalfSlots,
-        Fault::VmSearchSlots,
-        Fault::VmSearchSlots,
-    ),
+    (Question::Match, "is_match"),
+    (Question::Captures, "search"),
+    (Question::Slots, "search_slots"),
+    (Question::HalfSlots, "search_slots"),
 ];
 
 /// What the walker is asked.
-const WALKER: [Asked; 2] = [
-    (Question::Match, Fault::Walker, Fault::WalkerSlots),
-    (Question::Slots, Fault::WalkerPattern, Fault::WalkerSlots),
-];
+const WALKER: [Asked; 2] = [(Question::Match, "find"), (Question::Slots, "find_slots")];
 
 /// What all engines tell of the match, each in one cache over all questions.
 pub fn found<C: Cursor>(
@@ -298,13 +291,13 @@ pub fn found<C: Cursor>(
 ) -> Option<Match> {
     let before = Request::of(input);
     let wanted = answer_of(asker, &engines.regex, Question::Captures, input);
-    agrees(asker, &engines.regex, &REGEX, &wanted, input);
-    agrees(asker, &engines.vm, &VM, &wanted, input);
+    agrees(asker, &engines.regex, "regex", &REGEX, &wanted, input);
+    agrees(asker, &engines.vm, "PikeVM", &VM, &wanted, input);
     if walks {
         by_walker(asker, engines, &wanted, input);
     }
     let stays = Request::of(input) == before;
-    asker.verdict.expect(stays, Fault::SearchCapturesWith);
+    asker.verdict.expect(stays, "regex", "search_with");
     wanted.told.found()
 }
 
@@ -318,7 +311,7 @@ fn by_walker<C: Cursor>(
     if let Some(program) = &engines.program {
         let slot_len = wanted.slots.len();
         let walker = Walker { program, slot_len };
-        agrees(asker, &walker, &WALKER, wanted, input);
+        agrees(asker, &walker, "walker", &WALKER, wanted, input);
     }
 }
 
@@ -343,6 +336,7 @@ pub fn answer_of<E: Engine, C: Cursor>(
 fn agrees<E: Engine, C: Cursor>(
     asker: &mut Asker,
     engine: &E,
+    by: &'static str,
     asked: &[Asked],
     wanted: &Answer,
     input: &mut Input<C>,
@@ -350,31 +344,30 @@ fn agrees<E: Engine, C: Cursor>(
     match engine.new_cache(asker.alloc) {
         Ok(mut cache) => {
             for one in asked {
-                ask(asker, engine, &mut cache, one, wanted, input);
+                let told = ask(asker, engine, &mut cache, one.0, wanted, input);
+                asker.verdict.expect(told, by, one.1);
             }
             drop(cache);
         }
-        Err(_) => asker.verdict.note(Fault::Memory),
+        Err(_) => asker.verdict.note("row", "memory"),
     }
 }
 
-/// The engine answers one question as another did, in this cache.
+/// The engine answers a question as another did, in this cache: of the match, and by the slots.
 fn ask<E: Engine, C: Cursor>(
     asker: &mut Asker,
     engine: &E,
     cache: &mut E::Cache,
-    asked: &Asked,
+    question: Question,
     wanted: &Answer,
     input: &mut Input<C>,
-)
+) -> bool
     requires { E.IsCache engine.now cache.old }
     ensures { E.IsCache engine.now cache.new }
 {
-    let (question, fault, slots_fault) = *asked;
     let before = Request::of(input);
     let answer = engine.answer(asker, cache, question, input);
-    let is_same = answer.told.is_of(&wanted.told.found()) && Request::of(input) == before;
-    asker.verdict.expect(is_same, fault);
-    let has_slots = question.has_same(&wanted.slots, &answer.slots);
-    asker.verdict.expect(has_slots, slots_fault);
+    answer.told.is_of(&wanted.told.found())
+        && Request::of(input) == before
+        && question.has_same(&wanted.slots, &answer.slots)
 }

@@ -4,7 +4,6 @@ ghost use Rattle.std.specs.Prelude.{◌<◌};
 
 use crate::calls::{Placed, Spans};
 use crate::engines::Engines;
-use crate::faults::Fault;
 use crate::row::Row;
 use crate::slots::Asker;
 use api_meta::finder::Finder;
@@ -39,11 +38,15 @@ fn stream(asker: &mut Asker, regex: &Regex, row: &Row, len: usize)
             drop(searcher);
             asker
                 .verdict
-                .expect(fed.is_ok() && spans.is_whole, Fault::Memory);
-            asker.verdict.expect(spans.list == row.spans, Fault::Stream);
-            asker.verdict.expect(early >= row.early, Fault::StreamEarly);
+                .expect(fed.is_ok() && spans.is_whole, "row", "memory");
+            asker
+                .verdict
+                .expect(spans.list == row.spans, "stream", "matches");
+            asker
+                .verdict
+                .expect(early >= row.early, "stream", "early matches");
         }
-        Err(_) => asker.verdict.note(Fault::Memory),
+        Err(_) => asker.verdict.note("row", "memory"),
     }
 }
 

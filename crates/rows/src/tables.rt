@@ -4,7 +4,6 @@ ghost use Rattle.std.specs.Prelude.{ℕ};
 ghost use Rattle.api_hybrid.specs.Caches.{IsCacheFor, capacity_of};
 
 use crate::calls::{Spans, put_all};
-use crate::faults::{Fault, Part};
 use crate::told::Told;
 use api_dfa::search as dfa;
 use api_hybrid::cache::Cache;
@@ -40,12 +39,12 @@ pub enum Kind {
 }
 
 impl Kind {
-    /// This fault of a search by such an engine.
-    pub fn fault(self, part: Part) -> Fault {
+    /// How it is called.
+    pub fn name(self) -> &'static str {
         match self {
-            Kind::Dfa => Fault::Dfa(part),
-            Kind::Hybrid => Fault::Hybrid(part),
-            Kind::SmallHybrid => Fault::SmallHybrid(part),
+            Kind::Dfa => "DFA",
+            Kind::Hybrid => "hybrid",
+            Kind::SmallHybrid => "small hybrid",
         }
     }
 }

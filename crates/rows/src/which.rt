@@ -1,7 +1,6 @@
 //! Pattern sets: which patterns have a match, as each regex tells.
 
 use crate::engines::Engines;
-use crate::faults::Fault;
 use crate::inputs::input;
 use crate::row::Row;
 use crate::slots::Asker;
@@ -14,29 +13,25 @@ use std::alloc::{AllocError, Global};
 
 /// Each regex tells of the row's patterns alone that they have a match.
 pub fn which<C: Cursor + Copy + Drop>(asker: &mut Asker, engines: &Engines, row: &Row, cursor: C) {
-    which_by(asker, &engines.regex, Fault::Which, row, cursor);
-    which_by(
-        asker,
-        &engines.unfiltered,
-        Fault::WhichUnfiltered,
-        row,
-        cursor,
-    );
-    which_by(asker, &engines.tabled, Fault::WhichByTables, row, cursor);
+    which_by(asker, &engines.regex, "regex", row, cursor);
+    which_by(asker, &engines.unfiltered, "unfiltered", row, cursor);
+    which_by(asker, &engines.tabled, "tabled", row, cursor);
 }
 
 /// The regex tells of the row's patterns alone that they have a match.
 fn which_by<C: Cursor + Drop>(
     asker: &mut Asker,
     regex: &Regex,
-    fault: Fault,
+    by: &'static str,
     row: &Row,
     mut cursor: C,
 ) {
     let mut input = input(row, &mut cursor);
     match set_of(asker.alloc, regex, &mut input) {
-        Ok(set) => asker.verdict.expect(has_just(&set, &row.members), fault),
-        Err(_) => asker.verdict.note(Fault::Memory),
+        Ok(set) => asker
+            .verdict
+            .expect(has_just(&set, &row.members), by, "which"),
+        Err(_) => asker.verdict.note("row", "memory"),
     }
 }
 
