@@ -10,7 +10,7 @@ use Rattle.rc_text.specs.declared.types.Anchored.{Anchored}
 use Rattle.rc_text.specs.declared.types.Anchored.TheVariants.{No, Yes, Pattern}
 use Rattle.rc_determinize.specs.Sides.{IsReadable}
 use Rattle.rc_determinize.specs.States.{State}
-use Rattle.rc_dfa.specs.Machine.{Machine, Begins, Leads, IsAsked, IsClassing, AreOfOneClass, is_dead}
+use Rattle.rc_dfa.specs.Machine.{Machine, bytes, Begins, Leads, IsAsked, IsClassing, AreOfOneClass, is_dead}
 use Rattle.rc_dfa.specs.Runs.{IsByte}
 use Rattle.rc_dense_dfa.specs.Cells.{quit, skip, row_of, IsNamed, IsMarkedAs, AreMarked}
 use Rattle.rc_dense_dfa.specs.Tables.{IsTable, marks, Names, mode_of, class_at, cell_at, start_at, column, dead_state}
@@ -191,11 +191,12 @@ begins_by m samples states d anchored (Some b) k width a asked byte =
     (told_by m d (length samples) states (Some t.0) (Some b) (Begins m anchored (Some t.0)) (Begins m anchored (Some b)) _ _ width t.2.read t.3.read
     (t.2.begin anchored) told (inl refl))
 
-pub table_by : (m : Machine) (samples : List ℕ) (states : List State) (d : Table) (cells : List ℕ) → IsClassing m d.classes.items samples →
+pub table_by : (m : Machine) → m.alphabet ≡ bytes → (samples : List ℕ) (states : List State) (d : Table) (cells : List ℕ) → IsClassing m d.classes.items samples →
     d.width ≡ length samples → AreRows m samples states (length states) 0 cells → AreMarked cells d.cells.items → AreStarts m samples states (length m.entries + 2) 0 d.starts.items →
     AreEnds m states d.ends.items → length d.ends.items ≡ length states → AreTells states d.tells.items → length d.tells.items ≡ length states →
     AreIdles states d.idles.items → length d.idles.items ≡ length states → IsTable m states d
-table_by m samples states d cells k width rows marked starts ends ends_len tells tells_len idles idles_len = record {
+table_by m reads samples states d cells k width rows marked starts ends ends_len tells tells_len idles idles_len = record {
+  reads = reads;
   rows = let len = rows.len in let same = marked.len in let size : length d.cells.items ≡ length states * length samples = omega (arith, len, same) in size ∙ ap (λ n. length states * n) (sym width);
   leads = λ row b s lt r. leads_by m samples states d cells r.0 row b s k width rows marked lt r.1 r.2;
   ends = λ id s e. let w = slice_get_within states id s e in ends id s (omega (arith, w, ends_len)) e;
@@ -239,12 +240,12 @@ module _ (m : Machine) (classes samples : List ℕ) (limit : Option ℕ) (n : co
   pub few_cells : length cells < 2305843009213693952
   few_cells = small_by m classes samples limit n starts cells cells ends tells idles k p (record { len = refl; each = λ i. inl refl })
 
-pub made_by : (m : Machine) (samples : List ℕ) (limit : Option ℕ) (n : code.Names) (cells : List ℕ) (d : Table) → IsClassing m d.classes.items samples →
+pub made_by : (m : Machine) → m.alphabet ≡ bytes → (samples : List ℕ) (limit : Option ℕ) (n : code.Names) (cells : List ℕ) (d : Table) → IsClassing m d.classes.items samples →
     d.width ≡ length samples → AreParts m samples limit n d.starts.items cells d.ends.items d.tells.items d.idles.items → AreMarked cells d.cells.items →
     IsMade m (length samples) limit d
-made_by m samples limit n cells d k width p marked = record {
+made_by m reads samples limit n cells d k width p marked = record {
   states = n.states;
-  is_table = table_by m samples n.states d cells k width p.are_rows marked p.are_starts p.are_ends p.all_ends p.are_tells p.all_tells p.are_idles p.all_idles;
+  is_table = table_by m reads samples n.states d cells k width p.are_rows marked p.are_starts p.are_ends p.all_ends p.are_tells p.all_tells p.are_idles p.all_idles;
   are_states = p.are_named.are_states;
   first = p.first;
   width = width;

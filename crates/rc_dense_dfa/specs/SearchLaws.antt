@@ -7,6 +7,7 @@ use Rattle.rc_dense_dfa.specs.declared.dense.Dense.{Dense}
 
 pub lawful : (d : Dense) (backwards : Bool) → IsLawful (view_of d backwards)
 lawful d backwards = record {
+  reads = λ m of. let table = of.0.1 in table.reads;
   spends_nothing = λ a n. tt;
   spends_both = λ a b c n k x y. tt;
   spends_within = λ a b n k le x. tt;

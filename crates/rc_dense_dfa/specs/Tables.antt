@@ -4,7 +4,7 @@ use Rattle.rc_text.specs.declared.types.Anchored.{Anchored}
 use Rattle.rc_text.specs.declared.types.Anchored.TheVariants.{No, Yes, Pattern}
 use Rattle.rc_determinize.specs.Sides.{IsReadable}
 use Rattle.rc_determinize.specs.States.{State}
-use Rattle.rc_dfa.specs.Machine.{Machine, Leads, Begins, IsAsked, is_dead, is_idle}
+use Rattle.rc_dfa.specs.Machine.{Machine, bytes, Leads, Begins, IsAsked, is_dead, is_idle}
 use Rattle.rc_dfa.specs.Runs.{IsByte}
 use Rattle.rc_dense_dfa.specs.Cells.{met, dead, skip, quit}
 use Rattle.rc_dense_dfa.specs.declared.table.Table.{Table}
@@ -46,8 +46,9 @@ mode_of No = 0
 mode_of Yes = 1
 mode_of (Pattern p) = p + 2
 
--- The table of the machine, whose rows are those of these states, in this order.
+-- The table of the machine, which reads bytes. Its rows are those of these states, in this order.
 pub record IsTable (m : Machine) (states : List State) (d : Table) : Type 0 where
+  pub reads : m.alphabet ≡ bytes
   pub rows : length d.cells.items ≡ length states * d.width
   -- A byte leads where the cell says, or may not be read.
   pub leads : (row b : ℕ) (s : State) → b < 256 → IsRow d states row s →

@@ -7,8 +7,8 @@ use Rattle.rc_determinize.specs.declared.sides.Seen.{Seen}
 use Rattle.rc_determinize.specs.Sides.{byte_of, told, told_side, sides_near}
 use Rattle.rc_determinize.specs.States.{State, IsInside, sides_ahead, sides_behind}
 use Rattle.rc_determinize.proofs.TextLemmas.{told_before, told_after, near_told, ahead_told, behind_told}
-use Rattle.rc_dfa.specs.Machine.{Machine, LeadsOver, BeginsBeside}
-use Rattle.rc_dfa.specs.Runs.{Alphabet, bytes, symbols, MayReadSide, LeadsAcross, LeadsBy, BeginsBy}
+use Rattle.rc_dfa.specs.Machine.{Alphabet, bytes, symbols, Machine, LeadsOver, BeginsBeside}
+use Rattle.rc_dfa.specs.Runs.{MayReadSide, LeadsAcross, LeadsBy, BeginsBy}
 
 pub across_ahead : (a : Alphabet) (m : Machine) (t : Text) (hi i : ℕ) → i < hi → IsInside t i hi → MayReadSide a m (after_at t i) → (s next : State) →
     LeadsAcross a m (after_at t i) (before_at t (i + 1)) s next → LeadsOver m s (sides_ahead m.setting t i) next

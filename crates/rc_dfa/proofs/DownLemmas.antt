@@ -18,8 +18,8 @@ use Rattle.rc_determinize.proofs.Leads.{Leads, listed, leads}
 use Rattle.rc_determinize.proofs.RunLemmas.{back_decides}
 use Rattle.rc_determinize.proofs.TextLemmas.{near, last}
 use Rattle.rc_determinize.proofs.LawLemmas.{backward_law}
-use Rattle.rc_dfa.specs.Machine.{Machine, backwards, begins_beside}
-use Rattle.rc_dfa.specs.Runs.{RunEnd, met_last, Alphabet, MayReadSide, BeginsBy, RunsDownOver, begun, goes_down, EndsDownOver, at_bound, dead, early, quit, SearchEndsDownOver, ran, unread}
+use Rattle.rc_dfa.specs.Machine.{Alphabet, Machine, backwards, begins_beside}
+use Rattle.rc_dfa.specs.Runs.{RunEnd, met_last, MayReadSide, BeginsBy, RunsDownOver, begun, goes_down, EndsDownOver, at_bound, dead, early, quit, SearchEndsDownOver, ran, unread}
 use Rattle.rc_dfa.specs.Laws.{ReachesMatch, IsLeastOf}
 use Rattle.rc_dfa.proofs.AlphabetLemmas.{LeadsNear, across_behind, near_behind, begins_back}
 use Rattle.rc_dfa.proofs.StartLemmas.{same_met, stop_no_met}
@@ -38,7 +38,7 @@ no_leads W i empty (leads q p h l) = no_leads W i empty l
 module _ (a : Alphabet) (only : Option ℕ) (g : Setting) (entries : List ℕ) (ok : IsSetting g) (t : Text) (same : g.terminator ≡ t.terminator) (hi lo end : ℕ)
     (inside : IsInside t lo hi) (within : end ≤ hi) where
   abbrev m : Machine
-  m = record { setting = g; entries = entries; direction = backwards }
+  m = record { setting = g; entries = entries; direction = backwards; alphabet = a }
 
   -- over the program whose other patterns have no match place
   abbrev n : Setting
@@ -146,7 +146,7 @@ comes_at g entries (Pattern p) facts s h =
 module _ (a : Alphabet) (g : Setting) (entries : List ℕ) (ok : IsSetting g) (t : Text) (same : g.terminator ≡ t.terminator) (hi lo end : ℕ)
     (inside : IsInside t lo hi) (within : end ≤ hi) (anchored : Anchored) where
   abbrev machine : Machine
-  machine = record { setting = g; entries = entries; direction = backwards }
+  machine = record { setting = g; entries = entries; direction = backwards; alphabet = a }
 
   abbrev only : Option ℕ
   only = only_pattern anchored

@@ -11,8 +11,8 @@ use Rattle.rc_determinize.specs.declared.sides.Sides.{Sides}
 use Rattle.rc_determinize.specs.Sides.{sides_near}
 use Rattle.rc_determinize.specs.States.{Setting, IsSetting, State, IsNextOver, IsInside, IsUnderWay, Stops, root_if, sides_ahead}
 use Rattle.rc_determinize.proofs.LawLemmas.{forward_law}
-use Rattle.rc_dfa.specs.Machine.{Machine, forwards, is_empty, is_dead}
-use Rattle.rc_dfa.specs.Runs.{RunEnd, met_last, Alphabet, RunsOver, begun, goes_on, EndsOver, at_bound, dead, early, quit, rests}
+use Rattle.rc_dfa.specs.Machine.{Alphabet, Machine, forwards, is_empty, is_dead}
+use Rattle.rc_dfa.specs.Runs.{RunEnd, met_last, RunsOver, begun, goes_on, EndsOver, at_bound, dead, early, quit, rests}
 use Rattle.rc_dfa.proofs.AlphabetLemmas.{across_ahead, near_ahead}
 use Rattle.rc_dfa.proofs.StartLemmas.{same_met, stop_no_met, rest_no_met}
 
@@ -43,7 +43,7 @@ no_list s d = by_list s.list s.goes_on d
 module _ (a : Alphabet) (g : Setting) (entries : List ℕ) (ok : IsSetting g) (t : Text) (same : g.terminator ≡ t.terminator) (hi from root : ℕ) (inside : IsInside t from hi)
     (origin : List Pair) (first : State) (u : IsUnderWay g t hi root origin from first None) (rooted : (root ≡ 0) ⊎ (first.goes_on ≡ false)) where
   abbrev m : Machine
-  m = record { setting = g; entries = entries; direction = forwards leftmost_first }
+  m = record { setting = g; entries = entries; direction = forwards leftmost_first; alphabet = a }
 
   runs_on : {i : ℕ} {s : State} {met : Option Pair} → RunsOver a m t hi from first i s met →
       (from ≤ i) × IsUnderWay g t hi root origin i s met × ((root ≡ 0) ⊎ (s.goes_on ≡ false))

@@ -17,8 +17,8 @@ use Rattle.rc_determinize.specs.Spans.{IsLastSoFar, last_at}
 use Rattle.rc_determinize.proofs.TextLemmas.{near}
 use Rattle.rc_determinize.proofs.LawLemmas.{gather_law}
 use Rattle.rc_determinize.proofs.SpanLemmas.{greatest_span_law}
-use Rattle.rc_dfa.specs.Machine.{Machine, forwards, is_dead}
-use Rattle.rc_dfa.specs.Runs.{RunEnd, met_last, Alphabet, RunsOver, begun, goes_on, EndsOver, at_bound, dead, early, quit, rests}
+use Rattle.rc_dfa.specs.Machine.{Alphabet, Machine, forwards, is_dead}
+use Rattle.rc_dfa.specs.Runs.{RunEnd, met_last, RunsOver, begun, goes_on, EndsOver, at_bound, dead, early, quit, rests}
 use Rattle.rc_dfa.specs.Laws.{position_of}
 use Rattle.rc_dfa.proofs.AlphabetLemmas.{LeadsNear, across_ahead, near_ahead}
 use Rattle.rc_dfa.proofs.StartLemmas.{same_met, stop_no_met, rest_no_met, starts_at, first_start, later_start, once_start}
@@ -56,7 +56,7 @@ module _ (a : Alphabet) (g : Setting) (entries : List ℕ) (ok : IsSetting g) (t
     (inside : IsInside t from hi) (first : State)
     (f : IsFirstBeside root (told_side g.needs g.terminator (before_at t from)) once first) (rooted : (root ≡ 0) ⊎ (once ≡ true)) where
   abbrev m : Machine
-  m = record { setting = g; entries = entries; direction = forwards all_matches }
+  m = record { setting = g; entries = entries; direction = forwards all_matches; alphabet = a }
 
   abbrev W : Pair → List Pair
   W = ways g.places t hi

@@ -15,8 +15,8 @@ use Rattle.rc_determinize.specs.States.{Setting, IsSetting, State, IsInside, Sto
 use Rattle.rc_determinize.specs.Longest.{AddsGroups, root_group, IsNextOfLongestOver}
 use Rattle.rc_determinize.specs.LongestLaws.{IsRacing, GivesLongest}
 use Rattle.rc_determinize.proofs.LongestStepLemmas.{longest_forward_law}
-use Rattle.rc_dfa.specs.Machine.{Machine, forwards, begins_beside, IsMachine}
-use Rattle.rc_dfa.specs.Runs.{RunEnd, met_last, Alphabet, RunsOver, begun, goes_on, EndsOver, at_bound, dead, early, quit, rests}
+use Rattle.rc_dfa.specs.Machine.{Alphabet, Machine, forwards, begins_beside, IsMachine}
+use Rattle.rc_dfa.specs.Runs.{RunEnd, met_last, RunsOver, begun, goes_on, EndsOver, at_bound, dead, early, quit, rests}
 use Rattle.rc_dfa.proofs.AlphabetLemmas.{across_ahead, near_ahead}
 use Rattle.rc_dfa.proofs.StartLemmas.{IsRoot, same_met, stop_no_met, rest_no_met}
 use Rattle.rc_dfa.proofs.FirstLemmas.{no_list}
@@ -41,28 +41,28 @@ any_root places root s next sides (inr f) n =
     )
 
 -- the root from which a search begins is a place
-pub placed_root : (g : Setting) (entries : List ℕ) (anchored : Anchored) (facts : Seen) (from hi : ℕ) (first : State) →
-    let m : Machine = record { setting = g; entries = entries; direction = forwards leftmost_longest } in
+pub placed_root : (a : Alphabet) (g : Setting) (entries : List ℕ) (anchored : Anchored) (facts : Seen) (from hi : ℕ) (first : State) →
+    let m : Machine = record { setting = g; entries = entries; direction = forwards leftmost_longest; alphabet = a } in
     IsMachine m → begins_beside (forwards leftmost_longest) g.places entries anchored facts first → (b : IsRoot m anchored facts from hi first) × (b.root < length g.places)
-placed_root g entries No facts from hi first k h =
+placed_root a g entries No facts from hi first k h =
     (record { root = 0; once = false; is_first = h; starts = refl; rooted = inl refl }, k.rooted)
-placed_root g entries Yes facts from hi first k h =
+placed_root a g entries Yes facts from hi first k h =
     (record { root = 0; once = true; is_first = h; starts = refl; rooted = inl refl }, k.rooted)
-placed_root g entries (Pattern p) facts from hi first k h = (
+placed_root a g entries (Pattern p) facts from hi first k h = (
   record { root = h.0; once = true; is_first = h.2; starts = ap (λ e. (e, from) ∷ []) (get_or_from_slice_get entries p h.0 0 h.1); rooted = inr refl },
-  entry_below (record { setting = g; entries = entries; direction = forwards leftmost_longest }) p h.0 k h.1,
+  entry_below (record { setting = g; entries = entries; direction = forwards leftmost_longest; alphabet = a }) p h.0 k h.1,
 )
 
-module _ (g : Setting) (entries : List ℕ) (ok : IsSetting g) (closed : IsClosed g.places) (t : Text) (same : g.terminator ≡ t.terminator) (hi from root : ℕ)
+module _ (a : Alphabet) (g : Setting) (entries : List ℕ) (ok : IsSetting g) (closed : IsClosed g.places) (t : Text) (same : g.terminator ≡ t.terminator) (hi from root : ℕ)
     (placed : root < length g.places) (inside : IsInside t from hi) (origin : List Pair) (first : State) (u : IsRacing g t hi root origin from first None)
     (rooted : (root ≡ 0) ⊎ (first.goes_on ≡ false)) where
   abbrev m : Machine
-  m = record { setting = g; entries = entries; direction = forwards leftmost_longest }
+  m = record { setting = g; entries = entries; direction = forwards leftmost_longest; alphabet = a }
 
-  pub runs_on : {a : Alphabet} {i : ℕ} {s : State} {met : Option Pair} → RunsOver a m t hi from first i s met →
+  pub runs_on : {i : ℕ} {s : State} {met : Option Pair} → RunsOver a m t hi from first i s met →
       (from ≤ i) × IsRacing g t hi root origin i s met × ((root ≡ 0) ⊎ (s.goes_on ≡ false))
   runs_on begun = (omega arith, u, rooted)
-  runs_on {a} (goes_on {met} i s next r lt may step) =
+  runs_on (goes_on {met} i s next r lt may step) =
       let h = runs_on r in
       let low = h.0 in
       let here : IsInside t i hi = record { low = let l = inside.low in omega (arith, l, low); high = inside.high; bounded = inside.bounded } in
@@ -70,20 +70,20 @@ module _ (g : Setting) (entries : List ℕ) (ok : IsSetting g) (closed : IsClose
       (omega (arith, low), longest_forward_law.goes_over g t hi root origin i s next met ok closed placed same lt here h.1 n.0, n.1)
 
   -- how it ends
-  pub ends : (a : Alphabet) (earliest : Bool) (e : RunEnd) (r : Option Pair) → EndsOver a m t hi from first earliest e → e ≡ met_last r → (earliest ≡ false) ⊎ (r ≡ None) →
+  pub ends : (earliest : Bool) (e : RunEnd) (r : Option Pair) → EndsOver a m t hi from first earliest e → e ≡ met_last r → (earliest ≡ false) ⊎ (r ≡ None) →
       GivesLongest (ways g.places t hi) (Stops g.places) origin r
-  ends a earliest e r (at_bound {met} s next runs may step) is k =
+  ends earliest e r (at_bound {met} s next runs may step) is k =
       let h = runs_on runs in
       let l = near_ahead a m t hi may s next step in
       let n = any_root g.places root s next (sides_near g.needs g.terminator (after_at t hi) l.0) h.2 l.1 in
       subst (λ x. GivesLongest (ways g.places t hi) (Stops g.places) origin x) (same_met is)
       (longest_forward_law.ends_over g t hi root origin s next met l.0 ok same h.1 n.0)
-  ends a earliest e r (dead {met} i s runs d) is k =
+  ends earliest e r (dead {met} i s runs d) is k =
       let h = runs_on runs in
       let n = no_list s d in
       subst (λ x. GivesLongest (ways g.places t hi) (Stops g.places) origin x) (same_met is)
       (longest_forward_law.dies g t hi root origin i s met ok same h.1 n.0 n.1)
-  ends a earliest e r (early {met} i s t2 runs) is (inl f) = absurd (true≢false (sym t2 ∙ f))
-  ends a earliest e r (early {met} i s t2 runs) is (inr f) = absurd (none-some met (sym f ∙ sym (same_met is)))
-  ends a earliest e r (quit i s runs le unread) is k = absurd (stop_no_met is)
-  ends a earliest e r (rests i s runs le idle) is k = absurd (rest_no_met is)
+  ends earliest e r (early {met} i s t2 runs) is (inl f) = absurd (true≢false (sym t2 ∙ f))
+  ends earliest e r (early {met} i s t2 runs) is (inr f) = absurd (none-some met (sym f ∙ sym (same_met is)))
+  ends earliest e r (quit i s runs le unread) is k = absurd (stop_no_met is)
+  ends earliest e r (rests i s runs le idle) is k = absurd (rest_no_met is)

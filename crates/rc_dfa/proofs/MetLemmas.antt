@@ -17,8 +17,8 @@ use Rattle.rc_determinize.specs.Sets.{Comes}
 use Rattle.rc_determinize.specs.Sets as sets
 use Rattle.rc_determinize.proofs.RunLemmas.{reach_walks}
 use Rattle.rc_determinize.proofs.TextLemmas.{near, last}
-use Rattle.rc_dfa.specs.Machine.{Machine}
-use Rattle.rc_dfa.specs.Runs.{RunEnd, met_last, stopped_at, Alphabet, MayReadSide, LeadsBy, RunsOver, EndsOver, at_bound, dead, early, quit, rests}
+use Rattle.rc_dfa.specs.Machine.{Alphabet, Machine}
+use Rattle.rc_dfa.specs.Runs.{RunEnd, met_last, stopped_at, MayReadSide, LeadsBy, RunsOver, EndsOver, at_bound, dead, early, quit, rests}
 use Rattle.rc_dfa.specs.Runs as runs
 use Rattle.rc_dfa.proofs.AlphabetLemmas.{across_near}
 use Rattle.rc_dfa.proofs.StartLemmas.{same_met, stop_no_met, rest_no_met}

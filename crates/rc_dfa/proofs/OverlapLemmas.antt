@@ -11,13 +11,13 @@ use Rattle.rc_determinize.specs.declared.sides.Sides.{Sides}
 use Rattle.rc_determinize.specs.Sides.{told_side, sides_near}
 use Rattle.rc_determinize.specs.States.{Setting, IsSetting, State, IsInside}
 use Rattle.rc_determinize.proofs.TextLemmas.{near, told_after, near_told}
-use Rattle.rc_dfa.specs.Machine.{Machine, forwards, Leads, LeadsOver, IsMachine, is_dead}
-use Rattle.rc_dfa.specs.Runs.{Alphabet, bytes, symbols, stopped_at, MayReadSide, BeginsBy, RunsOver}
-use Rattle.rc_dfa.specs.Laws.{starts_of, ComesOn, OverlapLawOver, OverlapLaw, SymbolRunLaw}
+use Rattle.rc_dfa.specs.Machine.{Alphabet, bytes, symbols, Machine, forwards, Leads, LeadsOver, IsMachine, is_dead}
+use Rattle.rc_dfa.specs.Runs.{stopped_at, MayReadSide, BeginsBy, RunsOver, Runs, SearchEndsOver, SearchEndsDownOver}
+use Rattle.rc_dfa.specs.Laws.{starts_of, ComesOn, OverlapLaw, SymbolRunLaw}
 use Rattle.rc_dfa.proofs.StopLemmas as matched
 use Rattle.rc_dfa.proofs.GatherLemmas as gather
 use Rattle.rc_dfa.proofs.MetLemmas.{comes_within}
-use Rattle.rc_dfa.proofs.RunLemmas.{turned, run_by}
+use Rattle.rc_dfa.proofs.RunLemmas.{turned}
 use Rattle.rc_dfa.proofs.AlphabetLemmas.{begins_ahead}
 use Rattle.rc_dfa.proofs.StartLemmas.{some_root, starts_at, starts_within}
 
@@ -32,7 +32,7 @@ comes_on symbols m t i read s q P h = h
 
 module _ (a : Alphabet) (g : Setting) (entries : List ℕ) where
   abbrev machine : Machine
-  machine = record { setting = g; entries = entries; direction = forwards all_matches }
+  machine = record { setting = g; entries = entries; direction = forwards all_matches; alphabet = a }
 
   module _ (ok : IsSetting g) (t : Text) (same : g.terminator ≡ t.terminator) (hi from : ℕ) (inside : IsInside t from hi) (anchored : Anchored)
       (first s : State) (i : ℕ) (met : Option Pair) (may : MayReadSide a machine (before_at t from)) (begins : BeginsBy a machine anchored (before_at t from) first)
@@ -40,7 +40,7 @@ module _ (a : Alphabet) (g : Setting) (entries : List ℕ) where
     comes : i ≤ hi → MayReadSide a machine (after_at t i) → (q : ℕ) →
         ComesOn a machine (after_at t i) s q ↔ Comes (ways g.places t hi) (starts_of machine anchored from hi) (q, i)
     comes le read q =
-        let b = some_root all_matches g entries anchored _ from hi first (begins_ahead a machine anchored t from first may begins) in
+        let b = some_root a all_matches g entries anchored _ from hi first (begins_ahead a machine anchored t from first may begins) in
         subst (λ o. ComesOn a machine (after_at t i) s q ↔ Comes (ways g.places t hi) o (q, i)) (sym b.starts)
         (comes_on a machine t i read s q _
         (gather.comes_here a g entries ok t same hi from b.root b.once inside first b.is_first b.rooted i q s met
@@ -48,7 +48,7 @@ module _ (a : Alphabet) (g : Setting) (entries : List ℕ) where
 
     dies : is_dead s ≡ true → (q y : ℕ) → i ≤ y → ¬ Comes (ways g.places t hi) (starts_of machine anchored from hi) (q, y)
     dies dead q y le =
-        let b = some_root all_matches g entries anchored _ from hi first (begins_ahead a machine anchored t from first may begins) in
+        let b = some_root a all_matches g entries anchored _ from hi first (begins_ahead a machine anchored t from first may begins) in
         subst (λ o. ¬ Comes (ways g.places t hi) o (q, y)) (sym b.starts)
         (gather.none_comes a g entries ok t same hi from b.root b.once inside first b.is_first b.rooted i s met runs dead q y le)
 
@@ -74,18 +74,18 @@ unmet : (places : List Place) (s next : State) (sides : Sides) → IsNextOfAllOv
 unmet places s next sides h none q ends =
     let least = subst (λ o. IsLeastMatch places (ComesOver places s sides) o) none h.matched in least q ends.0 ends.1
 
-overlap_by : (a : Alphabet) → OverlapLawOver a
-overlap_by a = record {
+pub overlap_law : OverlapLaw
+overlap_law = record {
   comes = λ m t hi from anchored first s i met k d same inside may begins runs le read q.
       let v = turned m (forwards all_matches) d in
-      subst (λ x. ComesOn a (record m { direction = x }) (after_at t i) s q ↔ Comes (ways m.setting.places t hi) (starts_of m anchored from hi) (q, i)) (sym d)
-      (comes a m.setting m.entries k.setting t same hi from inside anchored first s i met (v (λ x. MayReadSide a x (before_at t from)) may)
-      (v (λ x. BeginsBy a x anchored (before_at t from) first) begins) (v (λ x. RunsOver a x t hi from first i s met) runs) le
-      (v (λ x. MayReadSide a x (after_at t i)) read) q);
+      subst (λ x. ComesOn m.alphabet (record m { direction = x }) (after_at t i) s q ↔ Comes (ways m.setting.places t hi) (starts_of m anchored from hi) (q, i)) (sym d)
+      (comes m.alphabet m.setting m.entries k.setting t same hi from inside anchored first s i met (v (λ x. MayReadSide x.alphabet x (before_at t from)) may)
+      (v (λ x. BeginsBy x.alphabet x anchored (before_at t from) first) begins) (v (λ x. Runs x t hi from first i s met) runs) le
+      (v (λ x. MayReadSide x.alphabet x (after_at t i)) read) q);
   dies = λ m t hi from anchored first s i met k d same inside may begins runs dead q y le.
       let v = turned m (forwards all_matches) d in
-      dies a m.setting m.entries k.setting t same hi from inside anchored first s i met (v (λ x. MayReadSide a x (before_at t from)) may)
-      (v (λ x. BeginsBy a x anchored (before_at t from) first) begins) (v (λ x. RunsOver a x t hi from first i s met) runs) dead q y le;
+      dies m.alphabet m.setting m.entries k.setting t same hi from inside anchored first s i met (v (λ x. MayReadSide x.alphabet x (before_at t from)) may)
+      (v (λ x. BeginsBy x.alphabet x anchored (before_at t from) first) begins) (v (λ x. Runs x t hi from first i s met) runs) dead q y le;
   within = within;
   unmet_over = λ m s next sides d h none q.
       unmet m.setting.places s next sides (turned m (forwards all_matches) d (λ x. LeadsOver x s sides next) h) none q;
@@ -93,13 +93,10 @@ overlap_by a = record {
       unmet m.setting.places s next _ (turned m (forwards all_matches) d (λ x. Leads x s beside next) h) none q;
 }
 
-pub overlap_law : OverlapLaw
-overlap_law = overlap_by bytes
-
 pub symbol_run_law : SymbolRunLaw
 symbol_run_law = record {
-  finds = run_by symbols;
-  overlaps = overlap_by symbols;
-  reads_all = λ m t hi from anchored earliest p s. matched.reads_all m t hi from anchored earliest (stopped_at p) p s refl;
-  reads_all_down = λ m t lo end anchored earliest p s. matched.reads_all_down m t lo end anchored earliest (stopped_at p) p s refl;
+  reads_all = λ m t hi from anchored earliest p is s.
+      matched.reads_all m t hi from anchored earliest (stopped_at p) p (subst (λ a. SearchEndsOver a m t hi from anchored earliest (stopped_at p)) is s) refl;
+  reads_all_down = λ m t lo end anchored earliest p is s.
+      matched.reads_all_down m t lo end anchored earliest (stopped_at p) p (subst (λ a. SearchEndsDownOver a m t lo end anchored earliest (stopped_at p)) is s) refl;
 }

@@ -14,9 +14,9 @@ use Rattle.rc_determinize.specs.Sets.{Comes}
 use Rattle.rc_determinize.specs.States.{Setting, IsSetting, State, IsInside, IsUnderWay, Stops, all_starts, best_at}
 use Rattle.rc_determinize.specs.Spans.{IsLastSoFar}
 use Rattle.rc_determinize.proofs.LawLemmas.{forward_law}
-use Rattle.rc_dfa.specs.Machine.{Direction, forwards, backwards, Machine, IsMachine}
-use Rattle.rc_dfa.specs.Runs.{RunEnd, met_last, stopped_at, Alphabet, bytes, symbols, MayReadSide, BeginsBy, at_bound, SearchEndsOver, SearchEndsDownOver, ran, unread}
-use Rattle.rc_dfa.specs.Laws.{starts_of, position_of, IsUnread, RunLawOver, RunLaw}
+use Rattle.rc_dfa.specs.Machine.{Alphabet, bytes, symbols, Direction, forwards, backwards, Machine, IsMachine}
+use Rattle.rc_dfa.specs.Runs.{RunEnd, met_last, stopped_at, MayReadSide, BeginsBy, at_bound, SearchEndsOver, SearchEnds, SearchEndsDownOver, SearchEndsDown, ran, unread}
+use Rattle.rc_dfa.specs.Laws.{starts_of, position_of, IsUnread, RunLaw}
 use Rattle.rc_dfa.proofs.AlphabetLemmas.{near_ahead, begins_ahead}
 use Rattle.rc_dfa.proofs.StartLemmas.{IsRoot, some_root, stop_no_met, fewer_starts, starts_within}
 use Rattle.rc_dfa.proofs.FirstLemmas as first
@@ -31,14 +31,14 @@ use Rattle.rc_dfa.proofs.MetLemmas.{IsMetAt, end_met, runs_below, runs_low, come
 module _ (a : Alphabet) (g : Setting) (entries : List ℕ) (ok : IsSetting g) (t : Text) (same : g.terminator ≡ t.terminator) (hi from : ℕ) (inside : IsInside t from hi)
     (anchored : Anchored) where
   abbrev machine : MatchKind → Machine
-  machine kind = record { setting = g; entries = entries; direction = forwards kind }
+  machine kind = record { setting = g; entries = entries; direction = forwards kind; alphabet = a }
 
   abbrev Begun : MatchKind → State → Type 0
   Begun kind s = IsRoot (machine kind) anchored (told_side g.needs g.terminator (before_at t from)) from hi s
 
   begun_so : (kind : MatchKind) (s : State) → MayReadSide a (machine kind) (before_at t from) → BeginsBy a (machine kind) anchored (before_at t from) s →
       Begun kind s
-  begun_so kind s may h = some_root kind g entries anchored _ from hi s (begins_ahead a (machine kind) anchored t from s may h)
+  begun_so kind s may h = some_root a kind g entries anchored _ from hi s (begins_ahead a (machine kind) anchored t from s may h)
 
   -- walks may begin at a later position by the root 0 alone
   rooted_so : (kind : MatchKind) (s : State) → (b : Begun kind s) → (b.root ≡ 0) ⊎ (s.goes_on ≡ false)
@@ -96,11 +96,11 @@ module _ (a : Alphabet) (g : Setting) (entries : List ℕ) (ok : IsSetting g) (t
   longest_run : (earliest : Bool) (e : RunEnd) (r : Option Pair) → IsMachine Longest → SearchEndsOver a Longest t hi from anchored earliest e → e ≡ met_last r →
       (earliest ≡ false) ⊎ (r ≡ None) → GivesLongest (ways g.places t hi) (Stops g.places) (starts_of Longest anchored from hi) r
   longest_run earliest e r k (ran s may begins ends) is c =
-      let p = longest.placed_root g entries anchored _ from hi s k (begins_ahead a Longest anchored t from s may begins) in
+      let p = longest.placed_root a g entries anchored _ from hi s k (begins_ahead a Longest anchored t from s may begins) in
       let b = p.0 in
       subst (λ o. GivesLongest (ways g.places t hi) (Stops g.places) o r) (sym b.starts)
-      (longest.ends g entries ok k.closed t same hi from b.root p.1 inside (all_starts b.once b.root from hi) s (racing_at hi s b p.1)
-      (rooted_so leftmost_longest s b) a earliest e r ends is c)
+      (longest.ends a g entries ok k.closed t same hi from b.root p.1 inside (all_starts b.once b.root from hi) s (racing_at hi s b p.1)
+      (rooted_so leftmost_longest s b) earliest e r ends is c)
   longest_run earliest e r k (unread p q may) is c = absurd (stop_no_met is)
 
   longest_met : (s : State) (n : Pair) → IsMachine Longest → (b : Begun leftmost_longest s) → b.root < length g.places →
@@ -111,7 +111,7 @@ module _ (a : Alphabet) (g : Setting) (entries : List ℕ) (ok : IsSetting g) (t
       let low = runs_low Longest t hi from s w.run in
       let near : IsInside t from n.1 = record { low = inside.low; high = omega (arith, le, high); bounded = inside.bounded } in
       let origin = all_starts b.once b.root from n.1 in
-      let f = longest.ends g entries ok k.closed t same n.1 from b.root placed near origin s (racing_at n.1 s b placed) (rooted_so leftmost_longest s b) a false
+      let f = longest.ends a g entries ok k.closed t same n.1 from b.root placed near origin s (racing_at n.1 s b placed) (rooted_so leftmost_longest s b) false
       (met_last (best_at n.1 w.next.matched w.before)) (Some n)
       (at_bound w.state w.next (runs_below Longest t hi from s w.run n.1 (omega arith)) w.may w.step)
       (ap (λ o. met_last (best_at n.1 o w.before)) w.matched) (inl refl) in
@@ -132,7 +132,7 @@ module _ (a : Alphabet) (g : Setting) (entries : List ℕ) (ok : IsSetting g) (t
       (gather.meets a g entries ok t same hi from b.root b.once inside s b.is_first b.rooted n.1 n.0 w.state w.next w.before w.within w.run
       (near_ahead a (machine all_matches) t n.1 w.may w.state w.next w.step) w.matched)
   met_run leftmost_longest earliest e n k (ran s may begins ends) is =
-      let p = longest.placed_root g entries anchored _ from hi s k (begins_ahead a Longest anchored t from s may begins) in
+      let p = longest.placed_root a g entries anchored _ from hi s k (begins_ahead a Longest anchored t from s may begins) in
       longest_met s n k p.0 p.1 (end_met Longest t hi from s earliest e n ends is)
   met_run kind earliest e n k (unread p q may) is = absurd (stop_no_met is)
 
@@ -154,35 +154,35 @@ module _ (a : Alphabet) (g : Setting) (entries : List ℕ) (ok : IsSetting g) (t
 pub turned : (m : Machine) (d : Direction) → m.direction ≡ d → (P : Machine → Type 0) → P m → P (record m { direction = d })
 turned m d e P h = subst (λ x. P (record m { direction = x })) e h
 
-pub run_by : (a : Alphabet) → RunLawOver a
-run_by a = record {
+pub run_law : RunLaw
+run_law = record {
   first = λ m t hi from anchored r k d same inside s.
-      first_run a m.setting m.entries k.setting t same hi from inside anchored false (met_last r) r
-      (turned m (forwards leftmost_first) d (λ x. SearchEndsOver a x t hi from anchored false (met_last r)) s) refl (inl refl);
+      first_run m.alphabet m.setting m.entries k.setting t same hi from inside anchored false (met_last r) r
+      (turned m (forwards leftmost_first) d (λ x. SearchEnds x t hi from anchored false (met_last r)) s) refl (inl refl);
   last = λ m t hi from anchored r k d same inside s.
-      last_run a m.setting m.entries k.setting t same hi from inside anchored false (met_last r) r
-      (turned m (forwards all_matches) d (λ x. SearchEndsOver a x t hi from anchored false (met_last r)) s) refl (inl refl);
+      last_run m.alphabet m.setting m.entries k.setting t same hi from inside anchored false (met_last r) r
+      (turned m (forwards all_matches) d (λ x. SearchEnds x t hi from anchored false (met_last r)) s) refl (inl refl);
   longest = λ m t hi from anchored r k d same inside s.
-      longest_run a m.setting m.entries k.setting t same hi from inside anchored false (met_last r) r (turned m (forwards leftmost_longest) d IsMachine k)
-      (turned m (forwards leftmost_longest) d (λ x. SearchEndsOver a x t hi from anchored false (met_last r)) s) refl (inl refl);
+      longest_run m.alphabet m.setting m.entries k.setting t same hi from inside anchored false (met_last r) r (turned m (forwards leftmost_longest) d IsMachine k)
+      (turned m (forwards leftmost_longest) d (λ x. SearchEnds x t hi from anchored false (met_last r)) s) refl (inl refl);
   met = λ kind m t hi from anchored earliest n k d same inside s.
-      met_run a m.setting m.entries k.setting t same hi from inside anchored kind earliest (met_last (Some n)) n (turned m (forwards kind) d IsMachine k)
-      (turned m (forwards kind) d (λ x. SearchEndsOver a x t hi from anchored earliest (met_last (Some n))) s) refl;
+      met_run m.alphabet m.setting m.entries k.setting t same hi from inside anchored kind earliest (met_last (Some n)) n (turned m (forwards kind) d IsMachine k)
+      (turned m (forwards kind) d (λ x. SearchEnds x t hi from anchored earliest (met_last (Some n))) s) refl;
   none = λ kind m t hi from anchored earliest k d same inside s.
-      none_run a m.setting m.entries k.setting t same hi from inside anchored kind earliest (met_last None) (turned m (forwards kind) d IsMachine k)
-      (turned m (forwards kind) d (λ x. SearchEndsOver a x t hi from anchored earliest (met_last None)) s) refl;
+      none_run m.alphabet m.setting m.entries k.setting t same hi from inside anchored kind earliest (met_last None) (turned m (forwards kind) d IsMachine k)
+      (turned m (forwards kind) d (λ x. SearchEnds x t hi from anchored earliest (met_last None)) s) refl;
   least = λ m t hi lo end anchored r k d same inside within s.
-      down.least_run a m.setting m.entries k.setting t same hi lo end inside within anchored false (met_last r) r
-      (turned m backwards d (λ x. SearchEndsDownOver a x t lo end anchored false (met_last r)) s) refl (inl refl);
+      down.least_run m.alphabet m.setting m.entries k.setting t same hi lo end inside within anchored false (met_last r) r
+      (turned m backwards d (λ x. SearchEndsDown x t lo end anchored false (met_last r)) s) refl (inl refl);
   of_any = down.of_any;
   met_down = λ m t hi lo end anchored earliest x i k d same inside within s.
-      down.met_run a m.setting m.entries k.setting t same hi lo end inside within anchored earliest (met_last (Some (x, i))) (x, i)
-      (turned m backwards d (λ y. SearchEndsDownOver a y t lo end anchored earliest (met_last (Some (x, i)))) s) refl;
+      down.met_run m.alphabet m.setting m.entries k.setting t same hi lo end inside within anchored earliest (met_last (Some (x, i))) (x, i)
+      (turned m backwards d (λ y. SearchEndsDown y t lo end anchored earliest (met_last (Some (x, i)))) s) refl;
   none_down = λ m t hi lo end anchored earliest k d same inside within s.
-      down.least_run a m.setting m.entries k.setting t same hi lo end inside within anchored earliest (met_last None) None
-      (turned m backwards d (λ x. SearchEndsDownOver a x t lo end anchored earliest (met_last None)) s) refl (inr refl);
-  stops = stops_by a;
-  stops_down = stops_down_by a;
+      down.least_run m.alphabet m.setting m.entries k.setting t same hi lo end inside within anchored earliest (met_last None) None
+      (turned m backwards d (λ x. SearchEndsDown x t lo end anchored earliest (met_last None)) s) refl (inr refl);
+  stops = λ m t hi from anchored earliest p inside le s. stops_by m.alphabet m t hi from anchored earliest p inside le s;
+  stops_down = λ m t hi lo end anchored earliest p inside below within s. stops_down_by m.alphabet m t hi lo end anchored earliest p inside below within s;
 }
   where
     stops_by : (a : Alphabet) (m : Machine) (t : Text) (hi from : ℕ) (anchored : Anchored) (earliest : Bool) (p : ℕ) → IsInside t from hi → from ≤ hi →
@@ -196,6 +196,3 @@ run_by a = record {
         matched.stops_down m t hi lo end anchored earliest (stopped_at p) p inside below within s refl
     stops_down_by symbols m t hi lo end anchored earliest p inside below within s =
         absurd (matched.reads_all_down m t lo end anchored earliest (stopped_at p) p s refl)
-
-pub run_law : RunLaw
-run_law = run_by bytes

@@ -8,7 +8,7 @@ use Rattle.rc_determinize.specs.Gives.{starts}
 use Rattle.rc_determinize.specs.declared.sides.Seen.{Seen}
 use Rattle.rc_determinize.specs.States.{Setting, State, IsFirstBeside, all_starts}
 use Rattle.rc_determinize.proofs.LawLemmas.{in_starts, starts_in}
-use Rattle.rc_dfa.specs.Machine.{Machine, forwards, begins_beside}
+use Rattle.rc_dfa.specs.Machine.{Alphabet, Machine, forwards, begins_beside}
 use Rattle.rc_dfa.specs.Runs.{RunEnd, met_last, stopped_at, idle_at}
 use Rattle.rc_dfa.specs.Laws.{starts_of}
 use Rattle.rc_text.specs.declared.types.MatchKind.{MatchKind}
@@ -41,12 +41,12 @@ pub record IsRoot (m : Machine) (anchored : Anchored) (facts : Seen) (from hi : 
   pub starts : starts_of m anchored from hi ≡ all_starts once root from hi
   pub rooted : (root ≡ 0) ⊎ (once ≡ true)
 
-pub some_root : (kind : MatchKind) (g : Setting) (entries : List ℕ) (anchored : Anchored) (facts : Seen) (from hi : ℕ) (first : State) →
+pub some_root : (a : Alphabet) (kind : MatchKind) (g : Setting) (entries : List ℕ) (anchored : Anchored) (facts : Seen) (from hi : ℕ) (first : State) →
     begins_beside (forwards kind) g.places entries anchored facts first →
-    IsRoot (record { setting = g; entries = entries; direction = forwards kind }) anchored facts from hi first
-some_root kind g entries No facts from hi first h = record { root = 0; once = false; is_first = h; starts = refl; rooted = inl refl }
-some_root kind g entries Yes facts from hi first h = record { root = 0; once = true; is_first = h; starts = refl; rooted = inl refl }
-some_root kind g entries (Pattern p) facts from hi first h =
+    IsRoot (record { setting = g; entries = entries; direction = forwards kind; alphabet = a }) anchored facts from hi first
+some_root a kind g entries No facts from hi first h = record { root = 0; once = false; is_first = h; starts = refl; rooted = inl refl }
+some_root a kind g entries Yes facts from hi first h = record { root = 0; once = true; is_first = h; starts = refl; rooted = inl refl }
+some_root a kind g entries (Pattern p) facts from hi first h =
     record { root = h.0; once = true; is_first = h.2; starts = ap (λ e. (e, from) ∷ []) (get_or_from_slice_get entries p h.0 0 h.1); rooted = inr refl }
 
 -- THE STARTS

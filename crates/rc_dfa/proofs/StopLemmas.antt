@@ -9,8 +9,8 @@ use Rattle.rc_determinize.specs.declared.sides.Asked.{Asked}
 use Rattle.rc_determinize.specs.Sides.{byte_of, IsReadable}
 use Rattle.rc_determinize.specs.States.{State, IsInside}
 use Rattle.rc_determinize.proofs.TextLemmas.{get_some, byte_ahead, byte_behind}
-use Rattle.rc_dfa.specs.Machine.{Machine}
-use Rattle.rc_dfa.specs.Runs.{RunEnd, met_last, stopped_at, idle_at, symbols, ahead_at, behind_at, MayRead, Runs, EndsSo, SearchEnds, RunsDown, EndsDown, SearchEndsDown}
+use Rattle.rc_dfa.specs.Machine.{bytes, symbols, Machine}
+use Rattle.rc_dfa.specs.Runs.{RunEnd, met_last, stopped_at, idle_at, ahead_at, behind_at, MayRead}
 use Rattle.rc_dfa.specs.Runs as runs
 use Rattle.rc_dfa.specs.Laws.{IsUnread}
 use Rattle.rc_dfa.proofs.StartLemmas.{has_met}
@@ -72,14 +72,14 @@ is_read needs o b u h e = subst (λ x. IsReadable needs x) e h u
 
 module _ (m : Machine) (t : Text) (hi from : ℕ) (first : State) where
   -- each byte on the way was read
-  all_read : {i : ℕ} {s : State} {met : Option (ℕ × ℕ)} → Runs m t hi from first i s met → (from ≤ i) × ((y : ℕ) → from ≤ y → y < i → MayRead m (ahead_at t y))
+  all_read : {i : ℕ} {s : State} {met : Option (ℕ × ℕ)} → runs.RunsOver bytes m t hi from first i s met → (from ≤ i) × ((y : ℕ) → from ≤ y → y < i → MayRead m (ahead_at t y))
   all_read runs.begun = (omega arith, λ y a b. absurd (omega (arith, a, b)))
   all_read (runs.goes_on i s next r lt may step) =
       let v = all_read r in
       let low = v.0 in
       (omega (arith, low), λ y a b. ⊎_elim (λ e. subst (λ k. MayRead m (ahead_at t k)) (sym e) may) (λ ne. v.1 y a (omega (arith, b, ne))) (cases_eq y i))
 
-  end_stop : (earliest : Bool) (e : RunEnd) (p : ℕ) → EndsSo m t hi from first earliest e → e ≡ stopped_at p →
+  end_stop : (earliest : Bool) (e : RunEnd) (p : ℕ) → runs.EndsOver bytes m t hi from first earliest e → e ≡ stopped_at p →
       (from ≤ p) × (p ≤ hi) × (¬ MayRead m (ahead_at t p)) × ((y : ℕ) → from ≤ y → y < p → MayRead m (ahead_at t y))
   end_stop earliest e p (runs.at_bound s next r may step) is = absurd (no_stop is)
   end_stop earliest e p (runs.dead i s r d) is = absurd (no_stop is)
@@ -91,7 +91,7 @@ module _ (m : Machine) (t : Text) (hi from : ℕ) (first : State) where
       (v.0, le, h, v.1)
 
 pub stops : (m : Machine) (t : Text) (hi from : ℕ) (anchored : Anchored) (earliest : Bool) (e : RunEnd) (p : ℕ) → IsInside t from hi → from ≤ hi →
-    SearchEnds m t hi from anchored earliest e → e ≡ stopped_at p → (from ≤ p + 1) × (p ≤ hi) × IsUnread m t (λ y. (from ≤ y + 1) × (y < p)) p
+    runs.SearchEndsOver bytes m t hi from anchored earliest e → e ≡ stopped_at p → (from ≤ p + 1) × (p ≤ hi) × IsUnread m t (λ y. (from ≤ y + 1) × (y < p)) p
 stops m t hi from anchored earliest e p inside le (runs.ran first may begins ends) is =
     let v = end_stop m t hi from first earliest e p ends is in
     let low = v.0 in let start = inside.low in
@@ -129,7 +129,7 @@ stops m t hi from anchored earliest e p inside le (runs.unread q one h) is =
 -- BACKWARDS
 
 module _ (m : Machine) (t : Text) (lo end : ℕ) (first : State) where
-  all_read_down : {i : ℕ} {s : State} {least : Option (ℕ × ℕ)} → RunsDown m t lo end first i s least →
+  all_read_down : {i : ℕ} {s : State} {least : Option (ℕ × ℕ)} → runs.RunsDownOver bytes m t lo end first i s least →
       (i ≤ end) × ((y : ℕ) → i ≤ y → y < end → MayRead m (behind_at t (y + 1)))
   all_read_down runs.begun = (omega arith, λ y a b. absurd (omega (arith, a, b)))
   all_read_down (runs.goes_down i s next r le may step) =
@@ -137,7 +137,7 @@ module _ (m : Machine) (t : Text) (lo end : ℕ) (first : State) where
       let high = v.0 in
       (omega (arith, high), λ y a b. ⊎_elim (λ e. subst (λ k. MayRead m (behind_at t (k + 1))) (sym e) may) (λ ne. v.1 y (omega (arith, a, ne)) b) (cases_eq y i))
 
-  end_stop_down : (earliest : Bool) (e : RunEnd) (p : ℕ) → EndsDown m t lo end first earliest e → e ≡ stopped_at p →
+  end_stop_down : (earliest : Bool) (e : RunEnd) (p : ℕ) → runs.EndsDownOver bytes m t lo end first earliest e → e ≡ stopped_at p →
       (lo ≤ p + 1) × (p + 1 ≤ end) × (¬ MayRead m (behind_at t (p + 1))) × ((y : ℕ) → p < y → y < end → MayRead m (behind_at t (y + 1)))
   end_stop_down earliest e p (runs.at_bound s next r may step) is = absurd (no_stop is)
   end_stop_down earliest e p (runs.dead i s r d) is = absurd (no_stop is)
@@ -148,7 +148,7 @@ module _ (m : Machine) (t : Text) (lo end : ℕ) (first : State) where
       (le, v.0, h, λ y a b. v.1 y (omega (arith, a)) b)
 
 pub stops_down : (m : Machine) (t : Text) (hi lo end : ℕ) (anchored : Anchored) (earliest : Bool) (e : RunEnd) (p : ℕ) → IsInside t lo hi → lo ≤ end → end ≤ hi →
-    SearchEndsDown m t lo end anchored earliest e → e ≡ stopped_at p → (lo ≤ p + 1) × (p ≤ end) × IsUnread m t (λ y. (p < y) × (y ≤ end)) p
+    runs.SearchEndsDownOver bytes m t lo end anchored earliest e → e ≡ stopped_at p → (lo ≤ p + 1) × (p ≤ end) × IsUnread m t (λ y. (p < y) × (y ≤ end)) p
 stops_down m t hi lo end anchored earliest e p inside below_end within (runs.ran first may begins ends) is =
     let v = end_stop_down m t lo end first earliest e p ends is in
     let below = v.1 in let high = inside.high in let bounded = inside.bounded in

@@ -21,8 +21,8 @@ use Rattle.rc_determinize.specs.Sets.{Comes, ComesHere, ComesOver, EndsHere, End
 use Rattle.rc_determinize.specs.States.{Setting, State, IsInside, Stops, all_starts}
 use Rattle.rc_determinize.specs.Backward.{IsFirstRoot, IsLeastSoFar}
 use Rattle.rc_determinize.specs.Spans.{IsLastSoFar}
-use Rattle.rc_dfa.specs.Machine.{Machine, forwards, backwards, entry_bound, longest_in, IsListIn, Leads, LeadsOver, Begins, BeginsBeside, IsMachine, is_dead}
-use Rattle.rc_dfa.specs.Runs.{met_last, stopped_at, Alphabet, bytes, symbols, MayReadSide, BeginsBy, RunsOver, SearchEndsOver, SearchEndsDownOver}
+use Rattle.rc_dfa.specs.Machine.{Alphabet, bytes, symbols, Machine, forwards, backwards, entry_bound, longest_in, IsListIn, Leads, LeadsOver, Begins, BeginsBeside, IsMachine, is_dead}
+use Rattle.rc_dfa.specs.Runs.{met_last, stopped_at, MayReadSide, BeginsBy, Runs, SearchEnds, SearchEndsDown}
 
 -- The state has places of the program, each once. So it is no longer than the program, or than
 -- twice the program if it has marks.
@@ -69,55 +69,52 @@ pub record IsUnread (m : Machine) (t : Text) (IsRead : ℕ → Type 0) (p : ℕ)
   pub byte : (b : ℕ) × (slice_get t.content p ≡ Some b) × (128 ≤ b)
   pub first : (y b : ℕ) → IsRead y → t.slice_start ≤ y → y < t.slice_end → slice_get t.content y ≡ Some b → b < 128
 
--- The law of what runs find, whatever they read.
-pub record RunLawOver (a : Alphabet) : Type 0 where
+-- The law of what runs find.
+pub record RunLaw : Type 0 where
   -- Forwards, for leftmost-first: where the first walk ends.
   pub first : (m : Machine) (t : Text) (hi from : ℕ) (anchored : Anchored) (r : Option Pair) → IsMachine m → m.direction ≡ forwards leftmost_first →
-      m.setting.terminator ≡ t.terminator → IsInside t from hi → SearchEndsOver a m t hi from anchored false (met_last r) →
+      m.setting.terminator ≡ t.terminator → IsInside t from hi → SearchEnds m t hi from anchored false (met_last r) →
       Gives (ways m.setting.places t hi) (Stops m.setting.places) [] (starts_of m anchored from hi) r
   -- Forwards, for `MatchKind::All`: the last position at which a walk ends.
   pub last : (m : Machine) (t : Text) (hi from : ℕ) (anchored : Anchored) (r : Option Pair) → IsMachine m → m.direction ≡ forwards all_matches →
-      m.setting.terminator ≡ t.terminator → IsInside t from hi → SearchEndsOver a m t hi from anchored false (met_last r) →
+      m.setting.terminator ≡ t.terminator → IsInside t from hi → SearchEnds m t hi from anchored false (met_last r) →
       IsLastSoFar m.setting t hi (starts_of m anchored from hi) (hi + 1) (position_of r)
   -- Forwards, for leftmost-longest: where the longest walk of the least start ends.
   pub longest : (m : Machine) (t : Text) (hi from : ℕ) (anchored : Anchored) (r : Option Pair) → IsMachine m → m.direction ≡ forwards leftmost_longest →
-      m.setting.terminator ≡ t.terminator → IsInside t from hi → SearchEndsOver a m t hi from anchored false (met_last r) →
+      m.setting.terminator ≡ t.terminator → IsInside t from hi → SearchEnds m t hi from anchored false (met_last r) →
       GivesLongest (ways m.setting.places t hi) (Stops m.setting.places) (starts_of m anchored from hi) r
   -- Forwards, whether or not the first match is enough: what is found is the end of a walk.
   pub met : (kind : MatchKind) (m : Machine) (t : Text) (hi from : ℕ) (anchored : Anchored) (earliest : Bool) (n : Pair) → IsMachine m →
-      m.direction ≡ forwards kind → m.setting.terminator ≡ t.terminator → IsInside t from hi → SearchEndsOver a m t hi from anchored earliest (met_last (Some n)) →
+      m.direction ≡ forwards kind → m.setting.terminator ≡ t.terminator → IsInside t from hi → SearchEnds m t hi from anchored earliest (met_last (Some n)) →
       Comes (ways m.setting.places t hi) (starts_of m anchored from hi) n × Stops m.setting.places n
   -- If nothing is found, no walk ends.
   pub none : (kind : MatchKind) (m : Machine) (t : Text) (hi from : ℕ) (anchored : Anchored) (earliest : Bool) → IsMachine m →
-      m.direction ≡ forwards kind → m.setting.terminator ≡ t.terminator → IsInside t from hi → SearchEndsOver a m t hi from anchored earliest (met_last None) →
+      m.direction ≡ forwards kind → m.setting.terminator ≡ t.terminator → IsInside t from hi → SearchEnds m t hi from anchored earliest (met_last None) →
       (n : Pair) → Comes (ways m.setting.places t hi) (starts_of m anchored from hi) n → ¬ Stops m.setting.places n
   -- Backwards: the least position from which an entry leads to a match place at `end`.
   pub least : (m : Machine) (t : Text) (hi lo end : ℕ) (anchored : Anchored) (r : Option (ℕ × ℕ)) → IsMachine m → m.direction ≡ backwards →
-      m.setting.terminator ≡ t.terminator → IsInside t lo hi → end ≤ hi → SearchEndsDownOver a m t lo end anchored false (met_last r) →
+      m.setting.terminator ≡ t.terminator → IsInside t lo hi → end ≤ hi → SearchEndsDown m t lo end anchored false (met_last r) →
       IsLeastOf (only_pattern anchored) m.setting t hi end m.entries lo r
   -- That is the least so far if no pattern is asked for.
   pub of_any : (g : Setting) (t : Text) (hi end : ℕ) (roots : List ℕ) (lo : ℕ) (r : Option (ℕ × ℕ)) → IsLeastOf None g t hi end roots lo r →
       IsLeastSoFar g t hi end roots lo r
   -- Backwards, whether or not the first match is enough.
   pub met_down : (m : Machine) (t : Text) (hi lo end : ℕ) (anchored : Anchored) (earliest : Bool) (x k : ℕ) → IsMachine m → m.direction ≡ backwards →
-      m.setting.terminator ≡ t.terminator → IsInside t lo hi → end ≤ hi → SearchEndsDownOver a m t lo end anchored earliest (met_last (Some (x, k))) →
+      m.setting.terminator ≡ t.terminator → IsInside t lo hi → end ≤ hi → SearchEndsDown m t lo end anchored earliest (met_last (Some (x, k))) →
       (lo ≤ x) × (x ≤ end) × IsFirstRoot (ReachesMatch (only_pattern anchored) m.setting t hi end x) m.entries (Some k)
   pub none_down : (m : Machine) (t : Text) (hi lo end : ℕ) (anchored : Anchored) (earliest : Bool) → IsMachine m → m.direction ≡ backwards →
-      m.setting.terminator ≡ t.terminator → IsInside t lo hi → end ≤ hi → SearchEndsDownOver a m t lo end anchored earliest (met_last None) →
+      m.setting.terminator ≡ t.terminator → IsInside t lo hi → end ≤ hi → SearchEndsDown m t lo end anchored earliest (met_last None) →
       IsLeastOf (only_pattern anchored) m.setting t hi end m.entries lo None
   -- Where a search stops. Forwards it reads the byte before its start, if there is one, and those
   -- from there to its bound and at it.
   pub stops : (m : Machine) (t : Text) (hi from : ℕ) (anchored : Anchored) (earliest : Bool) (p : ℕ) → IsInside t from hi → from ≤ hi →
-      SearchEndsOver a m t hi from anchored earliest (stopped_at p) →
+      SearchEnds m t hi from anchored earliest (stopped_at p) →
       (from ≤ p + 1) × (p ≤ hi) × IsUnread m t (λ y. (from ≤ y + 1) × (y < p)) p
   -- Backwards it reads the byte at its end, if there is one, and those from there down to its bound
   -- and before it.
   pub stops_down : (m : Machine) (t : Text) (hi lo end : ℕ) (anchored : Anchored) (earliest : Bool) (p : ℕ) → IsInside t lo hi → lo ≤ end → end ≤ hi →
-      SearchEndsDownOver a m t lo end anchored earliest (stopped_at p) →
+      SearchEndsDown m t lo end anchored earliest (stopped_at p) →
       (lo ≤ p + 1) × (p ≤ end) × IsUnread m t (λ y. (p < y) × (y ≤ end)) p
-
-abbrev pub RunLaw : Type 0
-RunLaw = RunLawOver bytes
 
 -- Some walk comes to the place at the state's position, by what stands ahead.
 abbrev pub ComesOn : Alphabet → Machine → Side → State → ℕ → Type 0
@@ -125,17 +122,17 @@ ComesOn bytes m side s = ComesHere m.setting s (byte_of side)
 ComesOn symbols m side s =
     ComesOver m.setting.places s (sides_near m.setting.needs m.setting.terminator side (told_side m.setting.needs m.setting.terminator side))
 
--- The law of what runs for `MatchKind::All` tell of walks at each position, whatever they read.
-pub record OverlapLawOver (a : Alphabet) : Type 0 where
+-- The law of what runs for `MatchKind::All` tell of walks at each position.
+pub record OverlapLaw : Type 0 where
   -- To which places walks come.
   pub comes : (m : Machine) (t : Text) (hi from : ℕ) (anchored : Anchored) (first s : State) (i : ℕ) (met : Option Pair) → IsMachine m →
-      m.direction ≡ forwards all_matches → m.setting.terminator ≡ t.terminator → IsInside t from hi → MayReadSide a m (before_at t from) →
-      BeginsBy a m anchored (before_at t from) first → RunsOver a m t hi from first i s met → i ≤ hi → MayReadSide a m (after_at t i) →
-      (q : ℕ) → ComesOn a m (after_at t i) s q ↔ Comes (ways m.setting.places t hi) (starts_of m anchored from hi) (q, i)
+      m.direction ≡ forwards all_matches → m.setting.terminator ≡ t.terminator → IsInside t from hi → MayReadSide m.alphabet m (before_at t from) →
+      BeginsBy m.alphabet m anchored (before_at t from) first → Runs m t hi from first i s met → i ≤ hi → MayReadSide m.alphabet m (after_at t i) →
+      (q : ℕ) → ComesOn m.alphabet m (after_at t i) s q ↔ Comes (ways m.setting.places t hi) (starts_of m anchored from hi) (q, i)
   -- From where nothing goes on, none comes to any.
   pub dies : (m : Machine) (t : Text) (hi from : ℕ) (anchored : Anchored) (first s : State) (i : ℕ) (met : Option Pair) → IsMachine m →
-      m.direction ≡ forwards all_matches → m.setting.terminator ≡ t.terminator → IsInside t from hi → MayReadSide a m (before_at t from) →
-      BeginsBy a m anchored (before_at t from) first → RunsOver a m t hi from first i s met → is_dead s ≡ true →
+      m.direction ≡ forwards all_matches → m.setting.terminator ≡ t.terminator → IsInside t from hi → MayReadSide m.alphabet m (before_at t from) →
+      BeginsBy m.alphabet m anchored (before_at t from) first → Runs m t hi from first i s met → is_dead s ≡ true →
       (q y : ℕ) → i ≤ y → ¬ Comes (ways m.setting.places t hi) (starts_of m anchored from hi) (q, y)
   -- None comes to a position outside the bounds.
   pub within : (m : Machine) (t : Text) (hi from : ℕ) (anchored : Anchored) (q y : ℕ) → IsMachine m → from ≤ hi →
@@ -146,14 +143,9 @@ pub record OverlapLawOver (a : Alphabet) : Type 0 where
   pub unmet : (m : Machine) (s next : State) (beside : Option ℕ) → m.direction ≡ forwards all_matches → Leads m s beside next → next.matched ≡ None →
       (q : ℕ) → ¬ EndsHere m.setting s beside q
 
-abbrev pub OverlapLaw : Type 0
-OverlapLaw = OverlapLawOver bytes
-
--- The law of runs over symbols: they find the same, whatever bytes there are, and never stop.
+-- The law of runs over symbols: they never stop, whatever bytes there are.
 pub record SymbolRunLaw : Type 0 where
-  pub finds : RunLawOver symbols
-  pub overlaps : OverlapLawOver symbols
-  pub reads_all : (m : Machine) (t : Text) (hi from : ℕ) (anchored : Anchored) (earliest : Bool) (p : ℕ) →
-      ¬ SearchEndsOver symbols m t hi from anchored earliest (stopped_at p)
-  pub reads_all_down : (m : Machine) (t : Text) (lo end : ℕ) (anchored : Anchored) (earliest : Bool) (p : ℕ) →
-      ¬ SearchEndsDownOver symbols m t lo end anchored earliest (stopped_at p)
+  pub reads_all : (m : Machine) (t : Text) (hi from : ℕ) (anchored : Anchored) (earliest : Bool) (p : ℕ) → m.alphabet ≡ symbols →
+      ¬ SearchEnds m t hi from anchored earliest (stopped_at p)
+  pub reads_all_down : (m : Machine) (t : Text) (lo end : ℕ) (anchored : Anchored) (earliest : Bool) (p : ℕ) → m.alphabet ≡ symbols →
+      ¬ SearchEndsDown m t lo end anchored earliest (stopped_at p)

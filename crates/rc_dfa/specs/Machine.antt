@@ -1,5 +1,5 @@
--- Determinizers: what states are made of. It is a byte program, the direction of the search, and
--- the kind of match.
+-- Determinizers: what states are made of. It is a byte program, the direction of the search, the
+-- kind of match, and what is read.
 use Rattle.std.specs.Prelude.{◌≡◌, ◌↔◌, ℕ, ◌<◌, Bool, true, false, not, ◌&&◌, List, [], ◌∷◌, length, Option, Some, None, nat_eq, slice_get}
 use Rattle.rc_text.specs.declared.types.MatchKind.{MatchKind}
 use Rattle.rc_text.specs.declared.types.Anchored.{Anchored}
@@ -19,12 +19,19 @@ pub data Direction : Type 0 where
   forwards : MatchKind → Direction
   backwards : Direction
 
+-- What is read: bytes, each known alone, of which some may not be read; or symbols, which are bytes
+-- with both their sides.
+pub data Alphabet : Type 0 where
+  bytes : Alphabet
+  symbols : Alphabet
+
 -- A byte program, which is entered at place 0; the entry of each of its patterns, in their order;
--- and the direction.
+-- the direction; and what is read.
 pub record Machine : Type 0 where
   pub setting : Setting
   pub entries : List ℕ
   pub direction : Direction
+  pub alphabet : Alphabet
 
 -- The state to which a byte leads, or the end of what the search sees, by what is told of its sides.
 -- Backwards, a state's `matched` is the pattern whose entry was reached.

@@ -1,37 +1,45 @@
 -- How far a DFA search forwards looked at a text, whatever holds its states.
 use Rattle.std.specs.Prelude.{◌≡◌, ℕ, ◌+◌, ◌≤◌, Bool, true, Option, Some, None, IsTrue, slice_get}
 use Rattle.rc_text.specs.declared.types.Anchored.{Anchored}
-use Rattle.rc_program.specs.Text.{Text}
+use Rattle.rc_program.specs.Text.{Text, before_at, after_at}
 use Rattle.rc_program.specs.Program.{place_at}
 use Rattle.rc_program.specs.Answer.{pattern_at}
 use Rattle.rc_determinize.specs.States.{State, best_at}
-use Rattle.rc_dfa.specs.Machine.{Machine, Leads, Begins, is_dead, is_idle}
-use Rattle.rc_dfa.specs.Runs.{ahead_at, behind_at, MayRead, Runs, RunEnd, met_last, stopped_at, idle_at, SearchEnds}
+use Rattle.rc_dfa.specs.Machine.{Alphabet, bytes, symbols, Machine, is_dead, is_idle}
+use Rattle.rc_dfa.specs.Runs.{MayReadSide, BeginsBy, LeadsBy, RunsOver, RunEnd, met_last, stopped_at, idle_at}
 use Rattle.rc_dfa.specs.declared.ended.Ended.{Ended}
 use Rattle.rc_dfa.specs.declared.ended.Ended.TheVariants.{Found, Idle, Quit, GaveUp}
 
--- The run ended so, and looked at the bytes before r alone.
-pub data EndsBelow (m : Machine) (t : Text) (hi from : ℕ) (first : State) (earliest : Bool) : RunEnd → ℕ → Type 0 where
+-- The run ended so, and looked at what is read before r alone.
+pub data EndsBelowOver (a : Alphabet) (m : Machine) (t : Text) (hi from : ℕ) (first : State) (earliest : Bool) : RunEnd → ℕ → Type 0 where
   -- At the upper bound it looked at the byte there.
-  at_bound : {met : Option (ℕ × ℕ)} (s next : State) → Runs m t hi from first hi s met → MayRead m (ahead_at t hi) → Leads m s (ahead_at t hi) next →
-      EndsBelow m t hi from first earliest (met_last (best_at hi next.matched met)) (hi + 1)
+  at_bound : {met : Option (ℕ × ℕ)} (s next : State) → RunsOver a m t hi from first hi s met → MayReadSide a m (after_at t hi) →
+      LeadsBy a m (after_at t hi) s next →
+      EndsBelowOver a m t hi from first earliest (met_last (best_at hi next.matched met)) (hi + 1)
   -- Where nothing goes on it looked at the bytes before.
-  dead : {met : Option (ℕ × ℕ)} (i : ℕ) (s : State) → Runs m t hi from first i s met → is_dead s ≡ true →
-      EndsBelow m t hi from first earliest (met_last met) i
-  early : {met : ℕ × ℕ} (i : ℕ) (s : State) → earliest ≡ true → Runs m t hi from first i s (Some met) →
-      EndsBelow m t hi from first earliest (met_last (Some met)) i
+  dead : {met : Option (ℕ × ℕ)} (i : ℕ) (s : State) → RunsOver a m t hi from first i s met → is_dead s ≡ true →
+      EndsBelowOver a m t hi from first earliest (met_last met) i
+  early : {met : ℕ × ℕ} (i : ℕ) (s : State) → earliest ≡ true → RunsOver a m t hi from first i s (Some met) →
+      EndsBelowOver a m t hi from first earliest (met_last (Some met)) i
   -- It looked at the byte that it may not read.
-  quit : {met : Option (ℕ × ℕ)} (i : ℕ) (s : State) → Runs m t hi from first i s met → i ≤ hi → ¬ MayRead m (ahead_at t i) →
-      EndsBelow m t hi from first earliest (stopped_at i) (i + 1)
-  rests : (i : ℕ) (s : State) → Runs m t hi from first i s None → i ≤ hi → is_idle s ≡ true → EndsBelow m t hi from first earliest (idle_at i) i
+  quit : {met : Option (ℕ × ℕ)} (i : ℕ) (s : State) → RunsOver a m t hi from first i s met → i ≤ hi → ¬ MayReadSide a m (after_at t i) →
+      EndsBelowOver a m t hi from first earliest (stopped_at i) (i + 1)
+  rests : (i : ℕ) (s : State) → RunsOver a m t hi from first i s None → i ≤ hi → is_idle s ≡ true →
+      EndsBelowOver a m t hi from first earliest (idle_at i) i
+
+abbrev pub EndsBelow : Machine → Text → ℕ → ℕ → State → Bool → RunEnd → ℕ → Type 0
+EndsBelow m = EndsBelowOver m.alphabet m
 
 -- A whole search forwards. It also looks at the byte before its start.
-pub data SearchEndsBelow (m : Machine) (t : Text) (hi from : ℕ) (anchored : Anchored) (earliest : Bool) : RunEnd → ℕ → Type 0 where
-  ran : {e : RunEnd} {r : ℕ} (first : State) → MayRead m (behind_at t from) → Begins m anchored (behind_at t from) first →
-      EndsBelow m t hi from first earliest e r → SearchEndsBelow m t hi from anchored earliest e r
-  unread : (p : ℕ) → p + 1 ≡ from → ¬ MayRead m (behind_at t from) → SearchEndsBelow m t hi from anchored earliest (stopped_at p) from
+pub data SearchEndsBelowOver (a : Alphabet) (m : Machine) (t : Text) (hi from : ℕ) (anchored : Anchored) (earliest : Bool) : RunEnd → ℕ → Type 0 where
+  ran : {e : RunEnd} {r : ℕ} (first : State) → MayReadSide a m (before_at t from) → BeginsBy a m anchored (before_at t from) first →
+      EndsBelowOver a m t hi from first earliest e r → SearchEndsBelowOver a m t hi from anchored earliest e r
+  unread : (p : ℕ) → p + 1 ≡ from → ¬ MayReadSide a m (before_at t from) → SearchEndsBelowOver a m t hi from anchored earliest (stopped_at p) from
 
--- A search forwards may end so, and looked at the bytes before r alone. How far it looked before it
+abbrev pub SearchEndsBelow : Machine → Text → ℕ → ℕ → Anchored → Bool → RunEnd → ℕ → Type 0
+SearchEndsBelow m = SearchEndsBelowOver m.alphabet m
+
+-- A search forwards may end so, and looked at what is read before r alone. How far it looked before it
 -- gave up isn't told.
 abbrev pub HasEndedBelow : Machine → Text → ℕ → ℕ → Anchored → Bool → Bool → Ended → ℕ → Type 0
 HasEndedBelow m t hi from anchored earliest may_rest (Found None) r = SearchEndsBelow m t hi from anchored earliest (met_last None) r

@@ -7,7 +7,7 @@ use Rattle.rc_determinize.specs.declared.sides.Seen.{Seen}
 use Rattle.rc_determinize.specs.Sides.{byte_of, told_side, sides_near, IsReadable}
 use Rattle.rc_determinize.specs.States.{State, best_at}
 use Rattle.rc_determinize.specs.Backward.{least_at}
-use Rattle.rc_dfa.specs.Machine.{Machine, Leads, LeadsOver, Begins, BeginsBeside, is_dead, is_idle}
+use Rattle.rc_dfa.specs.Machine.{Alphabet, bytes, symbols, Machine, Leads, LeadsOver, Begins, BeginsBeside, is_dead, is_idle}
 
 -- The byte at the position, or before it, within what the search sees; none at its ends.
 abbrev pub ahead_at : Text → ℕ → Option ℕ
@@ -21,14 +21,9 @@ abbrev pub IsByte : Option ℕ → Type 0
 IsByte None = Unit {0}
 IsByte (Some b) = b < 256
 
+-- It may be read if it is known alone.
 abbrev pub MayRead : Machine → Option ℕ → Type 0
 MayRead m = IsReadable m.setting.needs
-
--- What is read: bytes, each known alone, of which some may not be read; or symbols, which are bytes
--- with both their sides.
-pub data Alphabet : Type 0 where
-  bytes : Alphabet
-  symbols : Alphabet
 
 -- What stands there may be read.
 abbrev pub MayReadSide : Alphabet → Machine → Side → Type 0
@@ -61,7 +56,7 @@ pub data RunsOver (a : Alphabet) (m : Machine) (t : Text) (hi from : ℕ) (first
       LeadsAcross a m (after_at t i) (before_at t (i + 1)) s next → RunsOver a m t hi from first (i + 1) next (best_at i next.matched met)
 
 abbrev pub Runs : Machine → Text → ℕ → ℕ → State → ℕ → State → Option (ℕ × ℕ) → Type 0
-Runs = RunsOver bytes
+Runs m = RunsOver m.alphabet m
 
 -- How a search forwards ended. It may be with the last find, if there is one, and its position. It
 -- may be at the offset of a byte that may not be read. Or it is at a position before which nothing
@@ -87,7 +82,7 @@ pub data EndsOver (a : Alphabet) (m : Machine) (t : Text) (hi from : ℕ) (first
   rests : (i : ℕ) (s : State) → RunsOver a m t hi from first i s None → i ≤ hi → is_idle s ≡ true → EndsOver a m t hi from first earliest (idle_at i)
 
 abbrev pub EndsSo : Machine → Text → ℕ → ℕ → State → Bool → RunEnd → Type 0
-EndsSo = EndsOver bytes
+EndsSo m = EndsOver m.alphabet m
 
 -- A whole search forwards. It begins at `from`, by what stands before, if that may be read.
 pub data SearchEndsOver (a : Alphabet) (m : Machine) (t : Text) (hi from : ℕ) (anchored : Anchored) (earliest : Bool) : RunEnd → Type 0 where
@@ -96,7 +91,7 @@ pub data SearchEndsOver (a : Alphabet) (m : Machine) (t : Text) (hi from : ℕ) 
   unread : (p : ℕ) → p + 1 ≡ from → ¬ MayReadSide a m (before_at t from) → SearchEndsOver a m t hi from anchored earliest (stopped_at p)
 
 abbrev pub SearchEnds : Machine → Text → ℕ → ℕ → Anchored → Bool → RunEnd → Type 0
-SearchEnds = SearchEndsOver bytes
+SearchEnds m = SearchEndsOver m.alphabet m
 
 -- `RunsDownOver a m t lo end first i s least`: from the state `first` at the position `end`, what is
 -- read down to the position i leads to the state s. `least` is the least position above i at which
@@ -108,7 +103,7 @@ pub data RunsDownOver (a : Alphabet) (m : Machine) (t : Text) (lo end : ℕ) (fi
       RunsDownOver a m t lo end first i next (least_at (i + 1) next.matched least)
 
 abbrev pub RunsDown : Machine → Text → ℕ → ℕ → State → ℕ → State → Option (ℕ × ℕ) → Type 0
-RunsDown = RunsDownOver bytes
+RunsDown m = RunsDownOver m.alphabet m
 
 -- How a search backwards ended: in one of the same ways, and the position is the least one.
 pub data EndsDownOver (a : Alphabet) (m : Machine) (t : Text) (lo end : ℕ) (first : State) (earliest : Bool) : RunEnd → Type 0 where
@@ -123,7 +118,7 @@ pub data EndsDownOver (a : Alphabet) (m : Machine) (t : Text) (lo end : ℕ) (fi
       ¬ MayReadSide a m (before_at t (p + 1)) → EndsDownOver a m t lo end first earliest (stopped_at p)
 
 abbrev pub EndsDown : Machine → Text → ℕ → ℕ → State → Bool → RunEnd → Type 0
-EndsDown = EndsDownOver bytes
+EndsDown m = EndsDownOver m.alphabet m
 
 -- A whole search backwards. It begins at `end`, by what stands there, if that may be read.
 pub data SearchEndsDownOver (a : Alphabet) (m : Machine) (t : Text) (lo end : ℕ) (anchored : Anchored) (earliest : Bool) : RunEnd → Type 0 where
@@ -132,4 +127,4 @@ pub data SearchEndsDownOver (a : Alphabet) (m : Machine) (t : Text) (lo end : �
   unread : ¬ MayReadSide a m (after_at t end) → SearchEndsDownOver a m t lo end anchored earliest (stopped_at end)
 
 abbrev pub SearchEndsDown : Machine → Text → ℕ → ℕ → Anchored → Bool → RunEnd → Type 0
-SearchEndsDown = SearchEndsDownOver bytes
+SearchEndsDown m = SearchEndsDownOver m.alphabet m

@@ -8,14 +8,13 @@ pub fn machines_keep_places()
 {}
 
 /// Forwards, a DFA search finds where the first walk ends, or the last position at which a walk
-/// ends; backwards, it finds the least position from which a walk leads to the end. It stops at the
-/// first byte that may not be read.
+/// ends; backwards, it finds the least position from which a walk leads to the end. It does so
+/// whether it reads bytes or symbols, and stops at the first byte that may not be read.
 pub fn runs_meet_walks()
     ensures { RunLaw }
 {}
 
-/// A search that knows both sides of each byte finds the same, whatever bytes there are, and never
-/// stops.
+/// A search that reads symbols never stops, whatever bytes there are.
 pub fn runs_read_symbols()
     ensures { SymbolRunLaw }
 {}

@@ -37,7 +37,7 @@ use Rattle.rc_determinize.specs.Laws.{IsSettingOf}
 use Rattle.rc_determinize.proofs.RunLemmas.{reach_long, walk_reaches}
 use Rattle.rc_determinize.proofs.AnswerLemmas.{last_at}
 use Rattle.rc_determinize.proofs.TextLemmas.{near, last}
-use Rattle.rc_dfa.specs.Machine.{Direction, forwards, backwards, Machine, IsMachine}
+use Rattle.rc_dfa.specs.Machine.{Direction, forwards, backwards, Machine, IsMachine, bytes}
 use Rattle.rc_dfa.specs.Laws.{starts_of}
 use Rattle.rc_dfa.proofs.EntryLemmas.{HoldsOfSome}
 use Rattle.rc_dfa_search.specs.Machines.{entries_from, entries_of, machine_by, IsCase}
@@ -100,6 +100,15 @@ back_direction c = let ms = c.machines in ap (λ (x : Machine). x.direction) ms.
 pub same_setting : {hs : List Re} {kind : MatchKind} {m n : Machine} {anchored : Anchored} {s : Search} → IsCase hs kind m n anchored s →
     m.setting ≡ n.setting
 same_setting c = let ms = c.machines in ap (λ (x : Machine). x.setting) ms.ahead ∙ sym (ap (λ (x : Machine). x.setting) ms.back)
+
+-- both machines read bytes
+pub ahead_reads : {hs : List Re} {kind : MatchKind} {m n : Machine} {anchored : Anchored} {s : Search} → IsCase hs kind m n anchored s →
+    m.alphabet ≡ bytes
+ahead_reads c = let ms = c.machines in ap (λ (x : Machine). x.alphabet) ms.ahead
+
+pub back_reads : {hs : List Re} {kind : MatchKind} {m n : Machine} {anchored : Anchored} {s : Search} → IsCase hs kind m n anchored s →
+    n.alphabet ≡ bytes
+back_reads c = let ms = c.machines in ap (λ (x : Machine). x.alphabet) ms.back
 
 pub ahead_entries : {hs : List Re} {kind : MatchKind} {m n : Machine} {anchored : Anchored} {s : Search} → IsCase hs kind m n anchored s →
     m.entries ≡ entries_of hs

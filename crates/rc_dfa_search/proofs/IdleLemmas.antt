@@ -26,6 +26,7 @@ use Rattle.rc_dfa.specs.Machine.{Machine, forwards}
 use Rattle.rc_dfa.specs.Reads as reads
 use Rattle.rc_dfa.specs.Reads.{EndsBelow, SearchEndsBelow}
 use Rattle.rc_dfa.specs.Runs.{RunEnd, met_last, stopped_at, idle_at}
+use Rattle.rc_dfa_reach.specs.RunReach.{seen_to}
 use Rattle.rc_dfa_reach.proofs.TableReachLemmas.{table_reach_law}
 use Rattle.rc_idle.specs.Idle.{LeadOn}
 use Rattle.rc_idle.proofs.IdleLemmas.{idle_law}
@@ -35,7 +36,7 @@ use Rattle.rc_dfa_search.specs.Aims.{AreHalvesOf, search_for}
 use Rattle.rc_dfa_search.specs.Machines.{IsCase}
 use Rattle.rc_dfa_search.specs.Reaches.{HasRunBelow, NoneBeginBelow}
 use Rattle.rc_dfa_search.specs.Legs.{GoesByNeedles}
-use Rattle.rc_dfa_search.proofs.CaseLemmas.{ahead_direction, ahead_machine, ahead_places, ahead_terminator, case_closed, only_is}
+use Rattle.rc_dfa_search.proofs.CaseLemmas.{ahead_direction, ahead_machine, ahead_places, ahead_reads, ahead_terminator, case_closed, only_is}
 use Rattle.rc_dfa_search.proofs.FirstLemmas.{inside_from}
 use Rattle.rc_dfa_search.proofs.LegLemmas.{free_case}
 use Rattle.rc_dfa_search.proofs.ReachLemmas.{same_case}
@@ -105,7 +106,9 @@ module _ (AreOf : Machine → Machine → Type 0) (aim : Aim) (hs : List Re) (te
       (λ before. none t in2 (agrees_less Z t at i on agrees) z low before)
       (λ after.
       let is : q ≡ i = read_before of.ahead Z.text Z.hi at (idle_at i) q i h refl in
-      let run = table_reach_law of.ahead Z t at No false (idle_at i) q (inside_of aim hs terminator s) in2 below h (agrees_less Z t q i (omega (arith, is)) agrees) in
+      let run = table_reach_law of.ahead Z t at No false (idle_at i) q (inside_of aim hs terminator s) in2 below h
+      (subst (λ a. AgreesBelow (seen_to a q) Z t) (sym (ahead_reads (free_case AreOf aim hs terminator s of ordered goes.free)))
+      (agrees_less Z t q i (omega (arith, is)) agrees)) in
       let c = same_case hs aim.kind goes.kind of.ahead of.back No Z (free_case AreOf aim hs terminator s of ordered goes.free) (inside_of aim hs terminator s) goes.all i t in2
       agrees (omega (arith, above, on)) in
       let lo = agrees.lo in

@@ -24,6 +24,7 @@ use Rattle.rc_dfa.specs.declared.ended.Ended.{Ended}
 use Rattle.rc_dfa.specs.declared.ended.Ended.TheVariants.{Found as found_last, Idle, Quit, GaveUp}
 use Rattle.rc_dfa.specs.declared.ended.Met.{Met}
 use Rattle.rc_dfa.specs.declared.ended.Reading.{Reading}
+use Rattle.rc_dfa_reach.specs.RunReach.{seen_to}
 use Rattle.rc_dfa_reach.proofs.RunReachLemmas.{run_reach_law}
 use Rattle.rc_dfa_reach.proofs.TableReachLemmas.{look_same, table_reach_law}
 use Rattle.rc_dfa_search.specs.declared.search.Aim.{Aim}
@@ -33,6 +34,7 @@ use Rattle.rc_dfa_search.specs.Laws.{met_from}
 use Rattle.rc_dfa_search.specs.Leftmost.{IsLeftmost, IsRaisedBy}
 use Rattle.rc_dfa_search.specs.Machines.{IsCase}
 use Rattle.rc_dfa_search.specs.Reaches.{BeginsBy, HasMetBelow, IsAnswerBelow, TellsReach}
+use Rattle.rc_dfa_search.proofs.CaseLemmas.{ahead_reads, back_reads}
 use Rattle.rc_dfa_search.proofs.LeftmostLemmas.{leftmost_law}
 use Rattle.rc_dfa_search.proofs.SeekLemmas.{void_answer}
 use Rattle.rc_dfa_search.proofs.ToldLemmas.{asked_so, case_of}
@@ -84,7 +86,8 @@ module _ (hs : List Re) (kind : MatchKind) (left : IsLeftmost kind) (m n : Machi
     ends_too : (o : Option (ℕ × ℕ)) → SearchEndsBelow m s.text s.hi s.lo anchored false (met_last o) r → SearchEnds m t.text t.hi t.lo anchored false (met_last o)
     ends_too o h =
         subst (λ x. SearchEnds m t.text t.hi x anchored false (met_last o)) (sym agrees.lo)
-        (table_reach_law m s t s.lo anchored false (met_last o) r inside in2 c.ordered h agrees)
+        (table_reach_law m s t s.lo anchored false (met_last o) r inside in2 c.ordered h
+        (subst (λ a. AgreesBelow (seen_to a r) s t) (sym (ahead_reads c)) agrees))
 
     begins_too : IsRaisedBy kind (by_bytes t) t.lo
     begins_too = leftmost_law.begins hs kind m n anchored t same_case
@@ -114,7 +117,7 @@ module _ (hs : List Re) (kind : MatchKind) (left : IsLeftmost kind) (m n : Machi
   down_too o t in2 agrees d =
       subst (λ x. SearchEndsDown n t.text x e No false (met_last o)) (sym agrees.lo)
       (run_reach_law.down n s.text s.hi s.lo e No false (met_last o) r t.text t.hi (run_reach_law.met_before m s.text s.hi s.lo No false q e r h) d
-      (look_same s t r inside in2 agrees))
+      (look_same n.alphabet s t r inside in2 (subst (λ a. AgreesBelow (seen_to a r) s t) (sym (back_reads c)) agrees)))
 
   pub some_free : (x k : ℕ) → SearchEndsDown n s.text s.lo e No false (met_last (Some (x, k))) → IsAnswerBelow kind s r (Some (met_from m q x e))
   some_free x k d t in2 agrees =

@@ -28,8 +28,9 @@ use Rattle.rc_determinize.specs.Steps.{at}
 use Rattle.rc_determinize.specs.LongestLaws.{IsRacing, GivesLongest}
 use Rattle.rc_determinize.proofs.LawLemmas.{forward_law}
 use Rattle.rc_determinize.proofs.LongestStepLemmas.{longest_forward_law}
-use Rattle.rc_dfa.specs.Machine.{Machine, IsMachine, forwards, is_root_alone}
+use Rattle.rc_dfa.specs.Machine.{Alphabet, Machine, IsMachine, forwards, is_root_alone}
 use Rattle.rc_dfa.specs.Runs.{RunEnd, met_last, stopped_at, idle_at, Runs, begun, goes_on, EndsSo, at_bound, dead, early, quit, rests, SearchEnds, ran, unread}
+use Rattle.rc_dfa.proofs.AlphabetLemmas.{across_ahead, begins_ahead}
 use Rattle.rc_dfa.proofs.LongestRunLemmas as longest
 use Rattle.rc_dfa_search.specs.Leftmost.{IsLeftmost, GivesBy}
 use Rattle.rc_dfa_search.specs.Machines.{IsCase}
@@ -95,21 +96,21 @@ rests_between m t hi from anchored earliest e i (ran first may begins so) is = e
 rests_between m t hi from anchored earliest e i (unread p q may) is = absurd (true≢false (ap has_stopped is))
 
 -- forwards, for the preferred match
-abbrev ahead_by : Setting → List ℕ → Machine
-ahead_by g entries = record { setting = g; entries = entries; direction = forwards leftmost_first }
+abbrev ahead_by : Alphabet → Setting → List ℕ → Machine
+ahead_by a g entries = record { setting = g; entries = entries; direction = forwards leftmost_first; alphabet = a }
 
-module _ (g : Setting) (entries : List ℕ) (ok : IsSetting g) (t : Text) (same : g.terminator ≡ t.terminator) (hi from : ℕ) (inside : IsInside t from hi)
+module _ (a : Alphabet) (g : Setting) (entries : List ℕ) (ok : IsSetting g) (t : Text) (same : g.terminator ≡ t.terminator) (hi from : ℕ) (inside : IsInside t from hi)
     (origin : List Pair) (first : State) (u : IsUnderWay g t hi 0 origin from first None) where
-  runs_on : {i : ℕ} {s : State} {met : Option Pair} → Runs (ahead_by g entries) t hi from first i s met → (from ≤ i) × IsUnderWay g t hi 0 origin i s met
+  runs_on : {i : ℕ} {s : State} {met : Option Pair} → Runs (ahead_by a g entries) t hi from first i s met → (from ≤ i) × IsUnderWay g t hi 0 origin i s met
   runs_on begun = (omega arith, u)
   runs_on (goes_on {met} i s next r lt may step) =
       let h = runs_on r in
       let low = h.0 in
       let here : IsInside t i hi = record { low = let l = inside.low in omega (arith, l, low); high = inside.high; bounded = inside.bounded } in
-      (omega (arith, low), forward_law.goes g t hi 0 origin i s next met ok same lt here h.1 may step)
+      (omega (arith, low), forward_law.goes_over g t hi 0 origin i s next met ok same lt here h.1 (across_ahead a (ahead_by a g entries) t hi i lt here may s next step))
 
   -- what the starts from where it rests on give, the first starts give
-  rests_carry : (earliest : Bool) (e : RunEnd) (i : ℕ) → EndsSo (ahead_by g entries) t hi from first earliest e → e ≡ idle_at i →
+  rests_carry : (earliest : Bool) (e : RunEnd) (i : ℕ) → EndsSo (ahead_by a g entries) t hi from first earliest e → e ≡ idle_at i →
       (from ≤ i) × (i ≤ hi) × ((r : Option Pair) → Gives (ways g.places t hi) (Stops g.places) [] (all_starts false 0 i hi) r →
       Gives (ways g.places t hi) (Stops g.places) [] origin r)
   rests_carry earliest e i (at_bound s next runs may step) is = absurd (true≢false (ap has_met is))
@@ -136,20 +137,22 @@ module _ (g : Setting) (entries : List ℕ) (ok : IsSetting g) (t : Text) (same 
       or_none None h = h
       or_none (Some x) h = h
 
-rests_run : (g : Setting) (entries : List ℕ) → IsSetting g → (t : Text) → g.terminator ≡ t.terminator → (hi from : ℕ) → IsInside t from hi →
-    (earliest : Bool) (e : RunEnd) (i : ℕ) → SearchEnds (ahead_by g entries) t hi from No earliest e → e ≡ idle_at i →
+rests_run : (a : Alphabet) (g : Setting) (entries : List ℕ) → IsSetting g → (t : Text) → g.terminator ≡ t.terminator → (hi from : ℕ) → IsInside t from hi →
+    (earliest : Bool) (e : RunEnd) (i : ℕ) → SearchEnds (ahead_by a g entries) t hi from No earliest e → e ≡ idle_at i →
     (from ≤ i) × (i ≤ hi) × ((r : Option Pair) → Gives (ways g.places t hi) (Stops g.places) [] (all_starts false 0 i hi) r →
     Gives (ways g.places t hi) (Stops g.places) [] (all_starts false 0 from hi) r)
-rests_run g entries ok t same hi from inside earliest e i (ran first may begins so) is =
-    rests_carry g entries ok t same hi from inside (all_starts false 0 from hi) first (forward_law.begins g t hi 0 from false first ok same may begins)
+rests_run a g entries ok t same hi from inside earliest e i (ran first may begins so) is =
+    rests_carry a g entries ok t same hi from inside (all_starts false 0 from hi) first
+    (forward_law.begins_beside g t hi 0 from false first ok same (begins_ahead a (ahead_by a g entries) No t from first may begins))
     earliest e i so is
-rests_run g entries ok t same hi from inside earliest e i (unread p q may) is = absurd (true≢false (ap has_stopped is))
+rests_run a g entries ok t same hi from inside earliest e i (unread p q may) is = absurd (true≢false (ap has_stopped is))
 
 -- and for the longest
-module _ (g : Setting) (entries : List ℕ) (k : IsMachine (record { setting = g; entries = entries; direction = forwards leftmost_longest })) (t : Text)
+module _ (a : Alphabet) (g : Setting) (entries : List ℕ)
+    (k : IsMachine (record { setting = g; entries = entries; direction = forwards leftmost_longest; alphabet = a })) (t : Text)
     (same : g.terminator ≡ t.terminator) (hi from : ℕ) (inside : IsInside t from hi) where
   abbrev longest_by : Machine
-  longest_by = record { setting = g; entries = entries; direction = forwards leftmost_longest }
+  longest_by = record { setting = g; entries = entries; direction = forwards leftmost_longest; alphabet = a }
 
   longest_carry : (first : State) → IsRacing g t hi 0 (all_starts false 0 from hi) from first None → (earliest : Bool) (e : RunEnd) (i : ℕ) →
       EndsSo longest_by t hi from first earliest e → e ≡ idle_at i → (r : Option Pair) →
@@ -160,7 +163,7 @@ module _ (g : Setting) (entries : List ℕ) (k : IsMachine (record { setting = g
   longest_carry first u earliest e i (early j s t2 runs) is = absurd (true≢false (ap has_met is))
   longest_carry first u earliest e i (quit j s runs le may) is = absurd (true≢false (ap has_stopped is))
   longest_carry first u earliest e i (rests j s runs le idle) is = λ r gives.
-      let h = longest.runs_on g entries k.setting k.closed t same hi from 0 k.rooted inside (all_starts false 0 from hi) first u (inl refl) runs in
+      let h = longest.runs_on a g entries k.setting k.closed t same hi from 0 k.rooted inside (all_starts false 0 from hi) first u (inl refl) runs in
       let idles = both (is_root_alone s.list) s.goes_on idle in
       longest_forward_law.rests g t hi 0 (all_starts false 0 from hi) j s k.setting same h.1 (root_alone s.list idles.0) idles.1 r
       (subst (λ x. GivesLongest (ways g.places t hi) (Stops g.places) (all_starts false 0 x hi) r) (sym (same_rest is)) gives)
@@ -169,7 +172,7 @@ module _ (g : Setting) (entries : List ℕ) (k : IsMachine (record { setting = g
       GivesLongest (ways g.places t hi) (Stops g.places) (all_starts false 0 i hi) r →
       GivesLongest (ways g.places t hi) (Stops g.places) (all_starts false 0 from hi) r
   rests_longest earliest e i (ran first may begins so) is =
-      longest_carry first (longest_forward_law.begins g t hi 0 from false first k.setting k.rooted same may begins) earliest e i so is
+      longest_carry first (longest_forward_law.begins_beside g t hi 0 from false first k.setting k.rooted same (begins_ahead a longest_by No t from first may begins)) earliest e i so is
   rests_longest earliest e i (unread p q may) is = absurd (true≢false (ap has_stopped is))
 
 -- STARTS WITHOUT A WALK
@@ -255,10 +258,10 @@ rests_too : (kind : MatchKind) → IsLeftmost kind → (m : Machine) → IsMachi
     GivesBy kind (ways m.setting.places t hi) (Stops m.setting.places) (all_starts false 0 from hi) r
 rests_too all_matches left m k d t same hi from inside earliest i h r g = absurd left
 rests_too leftmost_first left m k d t same hi from inside earliest i h r g =
-    (rests_run m.setting m.entries k.setting t same hi from inside earliest (idle_at i) i
+    (rests_run m.alphabet m.setting m.entries k.setting t same hi from inside earliest (idle_at i) i
     (turned m leftmost_first d (λ x. SearchEnds x t hi from No earliest (idle_at i)) h) refl).2 r g
 rests_too leftmost_longest left m k d t same hi from inside earliest i h r g =
-    rests_longest m.setting m.entries (turned m leftmost_longest d IsMachine k) t same hi from inside earliest (idle_at i) i
+    rests_longest m.alphabet m.setting m.entries (turned m leftmost_longest d IsMachine k) t same hi from inside earliest (idle_at i) i
     (turned m leftmost_longest d (λ x. SearchEnds x t hi from No earliest (idle_at i)) h) refl r g
 
 module _ (hs : List Re) (kind : MatchKind) (left : IsLeftmost kind) (m n : Machine) (s : Search) (c : IsCase hs kind m n No s) where

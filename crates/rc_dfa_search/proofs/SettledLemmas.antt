@@ -40,6 +40,7 @@ use Rattle.rc_dfa.specs.Runs.{idle_at, met_last, SearchEndsDown}
 use Rattle.rc_dfa.specs.declared.ended.Ended.{Ended}
 use Rattle.rc_dfa.specs.declared.ended.Ended.TheVariants.{Found as found_last, Idle, Quit, GaveUp}
 use Rattle.rc_dfa.specs.declared.ended.Met.{Met}
+use Rattle.rc_dfa_reach.specs.RunReach.{seen_to}
 use Rattle.rc_dfa_reach.proofs.RunReachLemmas.{run_reach_law}
 use Rattle.rc_dfa_reach.proofs.TableReachLemmas.{look_same, table_reach_law}
 use Rattle.rc_dfa_search.specs.declared.search.Aim.{Aim}
@@ -53,6 +54,7 @@ use Rattle.rc_dfa_search.specs.Legs.{GoesByNeedles, HasRun, IsGiven, leg_of}
 use Rattle.rc_dfa_search.specs.Machines.{IsCase}
 use Rattle.rc_dfa_search.specs.Reaches.{GivesBelow, HasRunBelow, IsAnswerBelow, IsGivenBelow, NoneBeginBelow, TellsReach}
 use Rattle.rc_dfa_search.specs.Rests.{GivesToo, HasNoWalkBetween}
+use Rattle.rc_dfa_search.proofs.CaseLemmas.{ahead_reads, back_reads}
 use Rattle.rc_dfa_search.proofs.BeginLemmas.{case_here, found_here, may as may_here, none_first as none_first_near}
 use Rattle.rc_dfa_search.proofs.LeftmostLemmas.{leftmost_law}
 use Rattle.rc_dfa_search.proofs.JumpLemmas.{not_early}
@@ -391,14 +393,17 @@ module _ (AreOf : Machine → Machine → Type 0) (aim : Aim) (hs : List Re) (te
     above_too : (x : ℕ) → low s ≤ x → t.lo ≤ x
     above_too x le = let lo = agrees.lo in omega (arith, lo, le)
 
+    agrees_seen : (q : ℕ) → AgreesBelow q Z t → AgreesBelow (seen_to of.ahead.alphabet q) Z t
+    agrees_seen q h = subst (λ a. AgreesBelow (seen_to a q) Z t) (sym (ahead_reads case)) h
+
     run_too : (from q : ℕ) (earliest : Bool) → from ≤ high s → q ≤ r → (leg : Leg) → HasRunBelow of.ahead Z.text Z.hi from earliest q leg →
         HasRun of.ahead t.text t.hi from earliest leg
     run_too from q earliest below le (legs.Ended None) h =
-        table_reach_law of.ahead Z t from No earliest (met_last None) q within in2 below h (agrees_less Z t q r le agrees)
+        table_reach_law of.ahead Z t from No earliest (met_last None) q within in2 below h (agrees_seen q (agrees_less Z t q r le agrees))
     run_too from q earliest below le (legs.Ended (Some met)) h =
-        (h.0, h.1, table_reach_law of.ahead Z t from No earliest (met_last (Some (h.0, met.at))) q within in2 below h.2 (agrees_less Z t q r le agrees))
+        (h.0, h.1, table_reach_law of.ahead Z t from No earliest (met_last (Some (h.0, met.at))) q within in2 below h.2 (agrees_seen q (agrees_less Z t q r le agrees)))
     run_too from q earliest below le (legs.Rested i) h =
-        table_reach_law of.ahead Z t from No earliest (idle_at i) q within in2 below h (agrees_less Z t q r le agrees)
+        table_reach_law of.ahead Z t from No earliest (idle_at i) q within in2 below h (agrees_seen q (agrees_less Z t q r le agrees))
 
     jumped_too : (at from : ℕ) → GivesToo aim.kind of.ahead t at t.lo → at ≤ from → from ≤ t.hi → HasNoWalkBetween t at from → GivesToo aim.kind of.ahead t from t.lo
     jumped_too at from carried le high none o g = carried o (rest_law.jumps hs aim.kind of.ahead of.back t at from goes.kind case_too le high none o g)
@@ -499,7 +504,7 @@ module _ (AreOf : Machine → Machine → Type 0) (aim : Aim) (hs : List Re) (te
         let g = given t in2 agrees in
         let back = subst (λ x. SearchEndsDown of.back t.text x met.at No false (met_last (Some (first.at, first.pattern)))) (sym agrees.lo)
         (run_reach_law.down of.back Z.text Z.hi Z.lo met.at No false (met_last (Some (first.at, first.pattern))) reach t.text t.hi past d
-        (look_same Z t reach within in2 agrees)) in
+        (look_same of.back.alphabet Z t reach within in2 (subst (λ a. AgreesBelow (seen_to a reach) Z t) (sym (back_reads case)) agrees))) in
         let w = given_law.starts hs aim.kind of.ahead of.back t t.lo g.0 met.at first.at first.pattern goes.kind c (raised t c) g.2
         (may t (agrees.passes_over ∙ goes.all) met.at) back in
         let a = w.0 in

@@ -17,13 +17,14 @@ use Rattle.rc_utf8.specs.Bytes.{block, byte_place, byte_places, blocks, bytes_of
 use Rattle.rc_utf8.proofs.SizeLemmas.{IsBranching, blocks_branching}
 use Rattle.rc_determinize.specs.declared.sides.Asked.{Asked}
 use Rattle.rc_determinize.specs.Sides.{HasLook, is_unicode, Covers, AreAsked, byte_of}
-use Rattle.rc_determinize.specs.States.{State}
+use Rattle.rc_determinize.specs.States.{State, IsInside}
 use Rattle.rc_determinize.proofs.TextLemmas.{get_some, byte_ahead, byte_behind}
-use Rattle.rc_dfa.specs.Machine.{Machine}
-use Rattle.rc_dfa.specs.Runs.{RunEnd, met_last, stopped_at, idle_at, ahead_at, behind_at, MayRead, Runs, EndsSo, SearchEnds, RunsDown, EndsDown, SearchEndsDown}
+use Rattle.rc_dfa.specs.Machine.{Alphabet, bytes, symbols, Machine}
+use Rattle.rc_dfa.specs.Runs.{RunEnd, met_last, stopped_at, idle_at, ahead_at, behind_at, MayRead}
 use Rattle.rc_dfa.specs.Runs as runs
 use Rattle.rc_dfa.proofs.StartLemmas.{stop_no_met}
 use Rattle.rc_dfa.proofs.MetLemmas.{end_met}
+use Rattle.rc_dfa.proofs.StopLemmas.{reads_all_down}
 use Rattle.rc_dfa_search.specs.Machines.{IsCase}
 use Rattle.rc_dfa_search.specs.Faults.{SpeaksOfUnicode, speaks_at, speaks_of_unicode}
 use Rattle.rc_dfa_search.specs.Laws.{UnreadLaw}
@@ -238,7 +239,7 @@ behind_read m t p below bounded may =
 -- FORWARDS
 
 -- each byte on the way was read
-ahead_read : (m : Machine) (t : Text) (hi from : ℕ) (first : State) {i : ℕ} {s : State} {met : Option (ℕ × ℕ)} → Runs m t hi from first i s met →
+ahead_read : (m : Machine) (t : Text) (hi from : ℕ) (first : State) {i : ℕ} {s : State} {met : Option (ℕ × ℕ)} → runs.RunsOver bytes m t hi from first i s met →
     (y : ℕ) → from ≤ y → y < i → MayRead m (ahead_at t y)
 ahead_read m t hi from first runs.begun y low lt = absurd (omega (arith, low, lt))
 ahead_read m t hi from first (runs.goes_on i s next r below may step) y low lt =
@@ -251,7 +252,7 @@ record AreRead (m : Machine) (t : Text) (hi from e : ℕ) : Type 0 where
   behind : (y : ℕ) → from ≤ y + 1 → y < e → MayRead m (behind_at t (y + 1))
 
 are_read : (m : Machine) (t : Text) (hi from q e : ℕ) (anchored : Anchored) (earliest : Bool) (o : RunEnd) → hi ≤ t.slice_end → t.slice_end ≤ length t.content →
-    SearchEnds m t hi from anchored earliest o → o ≡ met_last (Some (q, e)) → AreRead m t hi from e
+    runs.SearchEndsOver bytes m t hi from anchored earliest o → o ≡ met_last (Some (q, e)) → AreRead m t hi from e
 are_read m t hi from q e anchored earliest o high bounded (runs.unread p one h) is = absurd (stop_no_met is)
 are_read m t hi from q e anchored earliest o high bounded (runs.ran first may begins ends) is =
     let w = end_met m t hi from first earliest o (q, e) ends is in
@@ -275,7 +276,7 @@ has_stopped (idle_at i) = false
 no_stop : {p : ℕ} {x : Option (ℕ × ℕ)} → met_last x ≡ stopped_at p → ⊥
 no_stop e = true≢false (sym (ap has_stopped e))
 
-below_end : (m : Machine) (t : Text) (lo end : ℕ) (first : State) {i : ℕ} {s : State} {least : Option (ℕ × ℕ)} → RunsDown m t lo end first i s least → i ≤ end
+below_end : (m : Machine) (t : Text) (lo end : ℕ) (first : State) {i : ℕ} {s : State} {least : Option (ℕ × ℕ)} → runs.RunsDownOver bytes m t lo end first i s least → i ≤ end
 below_end m t lo end first runs.begun = omega arith
 below_end m t lo end first (runs.goes_down i s next r le may step) = let below = below_end m t lo end first r in omega (arith, below)
 
@@ -284,22 +285,32 @@ module _ (m n : Machine) (same : n.setting ≡ m.setting) (t : Text) (hi from en
   may_so : (o : Option ℕ) → MayRead m o → MayRead n o
   may_so o may = subst (λ g. MayRead (record n { setting = g }) o) (sym same) may
 
-  no_end_stop : (first : State) (early : Bool) (o : RunEnd) (p : ℕ) → EndsDown n t from end first early o → o ≡ stopped_at p → ⊥
+  no_end_stop : (first : State) (early : Bool) (o : RunEnd) (p : ℕ) → runs.EndsDownOver bytes n t from end first early o → o ≡ stopped_at p → ⊥
   no_end_stop first early o p (runs.at_bound s next r may step) is = no_stop is
   no_end_stop first early o p (runs.dead i s r d) is = no_stop is
   no_end_stop first early o p (runs.early i s t2 r) is = no_stop is
   no_end_stop first early o p (runs.quit k s r le h) is =
       let below = below_end n t from end first r in h (may_so (behind_at t (k + 1)) (read.behind k le (omega (arith, below))))
 
-  no_search_stop : (back : Anchored) (early : Bool) (o : RunEnd) (p : ℕ) → SearchEndsDown n t from end back early o → o ≡ stopped_at p → ⊥
+  no_search_stop : (back : Anchored) (early : Bool) (o : RunEnd) (p : ℕ) → runs.SearchEndsDownOver bytes n t from end back early o → o ≡ stopped_at p → ⊥
   no_search_stop back early o p (runs.ran first may begins ends) is = no_end_stop first early o p ends is
   no_search_stop back early o p (runs.unread h) is = h (may_so (ahead_at t end) read.ahead)
+
+-- nor does one over symbols
+never_stops : (a : Alphabet) (m n : Machine) (s : Search) (from q e p : ℕ) (anchored back : Anchored) (earliest early : Bool) → n.setting ≡ m.setting →
+    IsInside s.text s.lo s.hi → runs.SearchEndsOver a m s.text s.hi from anchored earliest (met_last (Some (q, e))) →
+    ¬ runs.SearchEndsDownOver a n s.text from e back early (stopped_at p)
+never_stops bytes m n s from q e p anchored back earliest early same inside ahead down =
+    no_search_stop m n same s.text s.hi from e
+    (are_read m s.text s.hi from q e anchored earliest (met_last (Some (q, e))) inside.high inside.bounded ahead refl) back early (stopped_at p) p down refl
+never_stops symbols m n s from q e p anchored back earliest early same inside ahead down =
+    reads_all_down n s.text from e back early (stopped_at p) p down refl
 
 pub unread_law : UnreadLaw
 unread_law = record {
   unicode = patterns_speak;
   placed = places_speak;
-  read = λ m n s from q e p anchored back earliest early same inside ahead down.
-      no_search_stop m n same s.text s.hi from e
-      (are_read m s.text s.hi from q e anchored earliest (met_last (Some (q, e))) inside.high inside.bounded ahead refl) back early (stopped_at p) p down refl;
+  read = λ m n s from q e p anchored back earliest early same alike inside ahead down.
+      never_stops m.alphabet m n s from q e p anchored back earliest early same inside ahead
+      (subst (λ a. runs.SearchEndsDownOver a n s.text from e back early (stopped_at p)) alike down);
 }

@@ -111,5 +111,5 @@ pub record UnreadLaw : Type 0 where
   pub placed : (hs : List Re) (kind : MatchKind) (m n : Machine) (anchored : Anchored) (s : Search) → IsCase hs kind m n anchored s →
       m.setting.needs.unicode ≡ true → IsTrue (speaks_of_unicode s.places)
   -- What was read forwards up to an end may be read backwards.
-  pub read : (m n : Machine) (s : Search) (from q e p : ℕ) (anchored back : Anchored) (earliest early : Bool) → n.setting ≡ m.setting → IsInside s.text s.lo s.hi →
-      SearchEnds m s.text s.hi from anchored earliest (met_last (Some (q, e))) → ¬ SearchEndsDown n s.text from e back early (stopped_at p)
+  pub read : (m n : Machine) (s : Search) (from q e p : ℕ) (anchored back : Anchored) (earliest early : Bool) → n.setting ≡ m.setting → n.alphabet ≡ m.alphabet →
+      IsInside s.text s.lo s.hi → SearchEnds m s.text s.hi from anchored earliest (met_last (Some (q, e))) → ¬ SearchEndsDown n s.text from e back early (stopped_at p)

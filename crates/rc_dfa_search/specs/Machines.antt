@@ -10,7 +10,7 @@ use Rattle.rc_utf8.specs.Bytes.{bytes_of}
 use Rattle.rc_determinize.specs.declared.sides.Asked.{Asked}
 use Rattle.rc_determinize.specs.Sides.{AreAsked}
 use Rattle.rc_determinize.specs.States.{IsInside}
-use Rattle.rc_dfa.specs.Machine.{Direction, forwards, backwards, Machine, IsAsked}
+use Rattle.rc_dfa.specs.Machine.{Direction, forwards, backwards, Machine, bytes, IsAsked}
 
 -- The entries of the patterns of the choice at `start`, in their order.
 abbrev pub entries_from : ℕ → List Re → List ℕ
@@ -20,12 +20,13 @@ entries_from start (h ∷ hs) = (start + 1) ∷ entries_from (start + 1 + ((part
 abbrev pub entries_of : List Re → List ℕ
 entries_of = entries_from 0
 
--- The machine of the byte program of some patterns.
+-- The machine of the byte program of some patterns, which reads bytes.
 abbrev pub machine_by : List Re → Asked → ℕ → Direction → Machine
 machine_by hs needs terminator direction = record {
   setting = record { places = bytes_of (program hs); needs = needs; terminator = terminator };
   entries = entries_of hs;
   direction = direction;
+  alphabet = bytes;
 }
 
 -- The machines of some patterns: their byte program forwards, for matches of the kind, and

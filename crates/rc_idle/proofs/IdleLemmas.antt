@@ -18,8 +18,8 @@ use Rattle.rc_determinize.proofs.BackwardLemmas.{each_way, same_position, next_p
 use Rattle.rc_determinize.proofs.LawLemmas.{forward_law, gather_law}
 use Rattle.rc_determinize.proofs.MachineLemmas.{has_left, has_right}
 use Rattle.rc_determinize.proofs.TextLemmas.{out_here, same_below, near}
-use Rattle.rc_dfa.specs.Machine.{Machine, forwards, is_root_alone, IsMachine}
-use Rattle.rc_dfa.specs.Runs.{Alphabet, bytes, RunEnd, met_last, stopped_at, idle_at, EndsOver, SearchEndsOver, ran}
+use Rattle.rc_dfa.specs.Machine.{Alphabet, Machine, forwards, is_root_alone, IsMachine}
+use Rattle.rc_dfa.specs.Runs.{RunEnd, met_last, stopped_at, idle_at, EndsOver, SearchEndsOver, SearchEnds, ran}
 use Rattle.rc_dfa.proofs.AlphabetLemmas.{across_ahead, begins_ahead}
 use Rattle.rc_dfa.specs.Runs as runs
 use Rattle.rc_idle.specs.Idle.{LeadOn, IdleLaw}
@@ -238,19 +238,19 @@ module _ (g : Setting) (ok : IsSetting g) (t : Text) (terminator : g.terminator 
 
 -- RUNS
 
-abbrev ahead_by : Setting → List ℕ → Machine
-ahead_by g entries = record { setting = g; entries = entries; direction = forwards leftmost_first }
+abbrev ahead_by : Alphabet → Setting → List ℕ → Machine
+ahead_by a g entries = record { setting = g; entries = entries; direction = forwards leftmost_first; alphabet = a }
 
 module _ (a : Alphabet) (g : Setting) (entries : List ℕ) (ok : IsSetting g) (on : LeadOn g.places) (t : Text) (terminator : g.terminator ≡ t.terminator) (hi from : ℕ)
     (inside : IsInside t from hi) where
   covered : {first : State} {i : ℕ} {s : State} {met : Option Pair} → met ≡ None → IsCovered g ok t terminator hi from inside from first →
-      runs.RunsOver a (ahead_by g entries) t hi from first i s met → IsCovered g ok t terminator hi from inside i s
+      runs.RunsOver a (ahead_by a g entries) t hi from first i s met → IsCovered g ok t terminator hi from inside i s
   covered none c runs.begun = c
   covered none c (runs.goes_on {met} i s next run lt may leads) =
       let b = best_none i next.matched met none in
       let d = covered b.1 c run in
       let here : IsInside t i hi = let low = inside.low in let above = d.above in record { low = omega (arith, low, above); high = inside.high; bounded = inside.bounded } in
-      goes_so g ok t terminator hi from inside i lt s next d (across_ahead a (ahead_by g entries) t hi i lt here may s next leads) b.0
+      goes_so g ok t terminator hi from inside i lt s next d (across_ahead a (ahead_by a g entries) t hi i lt here may s next leads) b.0
 
   -- from a place before that of rest no walk leads on to it
   module _ (i : ℕ) (s : State) (c : IsCovered g ok t terminator hi from inside i s) (rests : s.list ≡ 0 ∷ []) where
@@ -297,7 +297,7 @@ module _ (a : Alphabet) (g : Setting) (entries : List ℕ) (ok : IsSetting g) (o
   rest_of (idle_at i) = Some i
 
   none_ends : (earliest : Bool) (first : State) (e : RunEnd) (i : ℕ) → IsCovered g ok t terminator hi from inside from first →
-      EndsOver a (ahead_by g entries) t hi from first earliest e → rest_of e ≡ Some i → (z : ℕ) → from ≤ z → z < i →
+      EndsOver a (ahead_by a g entries) t hi from first earliest e → rest_of e ≡ Some i → (z : ℕ) → from ≤ z → z < i →
       HasNoWalk (ways g.places t hi) (Stops g.places) [] ((0, z) ∷ [])
   none_ends earliest first e i c (runs.at_bound s next run may leads) is = absurd (none-some i is)
   none_ends earliest first e i c (runs.dead k s run dead) is = absurd (none-some i is)
@@ -312,25 +312,24 @@ module _ (a : Alphabet) (g : Setting) (entries : List ℕ) (ok : IsSetting g) (o
       (omega (arith, lt, at), begins (0, z) (a_start g ok t terminator hi from inside z low (omega (arith, lt, at, le)))))
       (λ never. absurd never) here) walk
 
-  none_in : (earliest : Bool) (i : ℕ) → SearchEndsOver a (ahead_by g entries) t hi from No earliest (idle_at i) → (z : ℕ) → from ≤ z → z < i →
+  none_in : (earliest : Bool) (i : ℕ) → SearchEndsOver a (ahead_by a g entries) t hi from No earliest (idle_at i) → (z : ℕ) → from ≤ z → z < i →
       HasNoWalk (ways g.places t hi) (Stops g.places) [] ((0, z) ∷ [])
   none_in earliest i (ran first may begin so) =
       none_ends earliest first (idle_at i) i (begun_so g ok t terminator hi from inside first
-      (begins_ahead a (ahead_by g entries) No t from first may begin)) so refl
+      (begins_ahead a (ahead_by a g entries) No t from first may begin)) so refl
 
-turned : (m : Machine) → m.direction ≡ forwards leftmost_first → (P : Machine → Type 0) → P m → P (ahead_by m.setting m.entries)
+turned : (m : Machine) → m.direction ≡ forwards leftmost_first → (P : Machine → Type 0) → P m → P (ahead_by m.alphabet m.setting m.entries)
 turned m e P h = subst (λ d. P (record m { direction = d })) e h
 
-none_before : (a : Alphabet) (m : Machine) (t : Text) (hi from i : ℕ) (earliest : Bool) → IsMachine m → m.direction ≡ forwards leftmost_first →
-    m.setting.terminator ≡ t.terminator → IsInside t from hi → LeadOn m.setting.places → SearchEndsOver a m t hi from No earliest (idle_at i) →
+none_before : (m : Machine) (t : Text) (hi from i : ℕ) (earliest : Bool) → IsMachine m → m.direction ≡ forwards leftmost_first →
+    m.setting.terminator ≡ t.terminator → IsInside t from hi → LeadOn m.setting.places → SearchEnds m t hi from No earliest (idle_at i) →
     (z : ℕ) → from ≤ z → z < i → HasNoWalk (ways m.setting.places t hi) (Stops m.setting.places) [] ((0, z) ∷ [])
-none_before a m t hi from i earliest k d terminator inside on h =
-    none_in a m.setting m.entries k.setting on t terminator hi from inside earliest i
-    (turned m d (λ x. SearchEndsOver a x t hi from No earliest (idle_at i)) h)
+none_before m t hi from i earliest k d terminator inside on h =
+    none_in m.alphabet m.setting m.entries k.setting on t terminator hi from inside earliest i
+    (turned m d (λ x. SearchEnds x t hi from No earliest (idle_at i)) h)
 
 pub idle_law : IdleLaw
 idle_law = record {
   leads_on = λ hs. bytes_lead_on (program hs) (program_some hs) (program_leads_on hs);
-  none_before_over = none_before;
-  none_before = none_before bytes;
+  none_before = none_before;
 }

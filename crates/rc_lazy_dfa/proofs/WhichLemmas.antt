@@ -4,10 +4,12 @@ use Rattle.std.proofs.Math.Nat.{mul-le-mul_right}
 use Rattle.std.proofs.lemmas.Bool.{cases_eq, cases_lt}
 use Rattle.std.proofs.lemmas.Option.{slice_get_within, slice_get_past, same_Some, slice_get-get_or, get_or_from_slice_get}
 use Rattle.rc_pattern_set.specs.Sets.{Has}
-use Rattle.rc_program.specs.Text.{Text}
-use Rattle.rc_program.specs.Program.{is_match_place}
+use Rattle.rc_program.specs.Looks.{Side}
+use Rattle.rc_program.specs.Text.{Text, before_at, after_at}
+use Rattle.rc_program.specs.Program.{is_match_place, ways}
 use Rattle.rc_program.specs.Sought.{text_of}
-use Rattle.rc_determinize.specs.Sets.{ComesHere, EndsHere}
+use Rattle.rc_determinize.specs.Sets.{Comes, ComesHere, EndsHere}
+use Rattle.rc_determinize.specs.Sides.{byte_of}
 use Rattle.rc_determinize.specs.States.{State, best_at}
 use Rattle.rc_determinize.specs.Steps.{HasPlace}
 use Rattle.rc_determinize.proofs.LawLemmas.{gather_law}
@@ -15,7 +17,8 @@ use Rattle.rc_dfa.specs.Automata.{machine_of, classes_of}
 use Rattle.rc_dfa.specs.declared.automaton.Automaton.{Automaton}
 use Rattle.rc_dfa.specs.declared.automaton.Direction.TheVariants.{Overlapping}
 use Rattle.rc_dfa.specs.Machine.{Machine, IsMachine, Leads, Begins, is_dead}
-use Rattle.rc_dfa.specs.Runs.{MayRead, RunsOver, ahead_at, behind_at}
+use Rattle.rc_dfa.specs.Laws.{ComesOn, starts_of}
+use Rattle.rc_dfa.specs.Runs.{MayRead, MayReadSide, LeadsAcross, BeginsBy, RunsOver, ahead_at, behind_at}
 use Rattle.rc_dfa.proofs.OverlapLemmas.{overlap_law}
 use Rattle.rc_table_search.specs.Ways.{IsNext}
 use Rattle.rc_lazy_dfa.specs.Cells.{unknown, met, quit, row_of, has_died, column_of}
@@ -42,19 +45,34 @@ module _ (o : Overlap) (k : IsOverlap o) (machine : IsMachine o.frame.machine) w
   abbrev t : Text
   t = text_over o
 
+  -- what is known alone is read
+  may_so : (side : Side) → MayRead m (byte_of side) → MayReadSide m.alphabet m side
+  may_so side h = subst (λ a. MayReadSide a m side) (sym k.reads) h
+
+  begins_so : (side : Side) (first : State) → Begins m o.anchored (byte_of side) first → BeginsBy m.alphabet m o.anchored side first
+  begins_so side first h = subst (λ a. BeginsBy a m o.anchored side first) (sym k.reads) h
+
   module _ (i : ℕ) (s : State) (c : ComesTo o i s) where
+    -- walks come to the places to which the state leads
+    comes_here : MayRead m (ahead_at t i) → (q : ℕ) →
+        ComesHere m.setting s (ahead_at t i) q ↔ Comes (ways m.setting.places t o.bound) (starts_of m o.anchored o.from o.bound) (q, i)
+    comes_here read q =
+        subst (λ a. ComesOn a m (after_at t i) s q ↔ Comes (ways m.setting.places t o.bound) (starts_of m o.anchored o.from o.bound) (q, i)) k.reads
+        (overlap_law.comes m t o.bound o.from o.anchored c.first s i c.found machine k.overlaps refl k.inside (may_so (before_at t o.from) c.read)
+        (begins_so (before_at t o.from) c.first c.begins) c.runs c.within (may_so (after_at t i) read) q)
+
     -- what ends at the state is met there
     pub met_here : MayRead m (ahead_at t i) → (p : ℕ) → EndsAt m s (ahead_at t i) p → MeetsAt o p i
     met_here read p x =
         let e = x.1 in
-        (x.0, (overlap_law.comes m t o.bound o.from o.anchored c.first s i c.found machine k.overlaps refl k.inside c.read c.begins c.runs c.within read x.0).0 e.0, x.2)
+        (x.0, (comes_here read x.0).0 e.0, x.2)
 
     -- and nothing else is
     pub ends_here : MayRead m (ahead_at t i) → (p : ℕ) → MeetsAt o p i → EndsAt m s (ahead_at t i) p
     ends_here read p x = (
       x.0,
       (
-        (overlap_law.comes m t o.bound o.from o.anchored c.first s i c.found machine k.overlaps refl k.inside c.read c.begins c.runs c.within read x.0).1 x.1,
+        (comes_here read x.0).1 x.1,
         subst (λ z. IsTrue (is_match_place None z)) (sym x.2) refl,
       ),
       x.2,
@@ -76,7 +94,8 @@ module _ (o : Overlap) (k : IsOverlap o) (machine : IsMachine o.frame.machine) w
       read = c.read;
       begins = c.begins;
       found = best_at i next.matched c.found;
-      runs = RunsOver.goes_on i s next c.runs lt read leads;
+      runs = RunsOver.goes_on i s next c.runs lt (may_so (after_at t i) read)
+          (subst (λ a. LeadsAcross a m (after_at t i) (before_at t (i + 1)) s next) (sym k.reads) leads);
     }
 
     -- where nothing goes on, nothing more is met
@@ -84,7 +103,8 @@ module _ (o : Overlap) (k : IsOverlap o) (machine : IsMachine o.frame.machine) w
     has_dead set dead has p lt x =
         ⊎_elim
         (λ below. has p lt (x.0, below, x.1))
-        (λ past. absurd (overlap_law.dies m t o.bound o.from o.anchored c.first s i c.found machine k.overlaps refl k.inside c.read c.begins c.runs dead x.1.0 x.0 past x.1.1))
+        (λ past. absurd (overlap_law.dies m t o.bound o.from o.anchored c.first s i c.found machine k.overlaps refl k.inside (may_so (before_at t o.from) c.read)
+        (begins_so (before_at t o.from) c.first c.begins) c.runs dead x.1.0 x.0 past x.1.1))
         (cases_lt x.0 i)
 
   -- nothing is met beyond the bound, or before the start

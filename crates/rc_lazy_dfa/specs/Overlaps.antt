@@ -11,7 +11,7 @@ use Rattle.rc_program.specs.Sought.{text_of}
 use Rattle.rc_determinize.specs.Sets.{Comes, EndsHere}
 use Rattle.rc_determinize.specs.States.{State, IsInside}
 use Rattle.rc_determinize.specs.Steps.{HasPlace}
-use Rattle.rc_dfa.specs.Machine.{Machine, Begins, IsAsked, forwards}
+use Rattle.rc_dfa.specs.Machine.{Machine, bytes, Begins, IsAsked, forwards}
 use Rattle.rc_dfa.specs.Laws.{starts_of}
 use Rattle.rc_dfa.specs.Runs.{MayRead, Runs, behind_at}
 use Rattle.rc_lazy_dfa.specs.Stores.{Frame, IsRow, IsColumn}
@@ -65,8 +65,9 @@ pub record Overlap : Type 0 where
 abbrev pub text_over : Overlap → Text
 text_over o = text_of o.frame.machine.setting.terminator o.seen
 
--- It searches for `MatchKind::All`, within what is seen.
+-- It reads bytes, and searches for `MatchKind::All`, within what is seen.
 pub record IsOverlap (o : Overlap) : Type 0 where
+  pub reads : o.frame.machine.alphabet ≡ bytes
   pub overlaps : o.frame.machine.direction ≡ forwards all_matches
   pub asked : IsAsked o.frame.machine o.anchored
   pub inside : IsInside (text_over o) o.from o.bound

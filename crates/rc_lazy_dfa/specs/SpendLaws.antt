@@ -5,6 +5,7 @@ use Rattle.std.proofs.lemmas.Option.{same_Some, slice_get_cases, slice_get_withi
 use Rattle.std.proofs.Math.Nat.{mul-le-mul_right, mul-div_cancel, add-mul}
 use Rattle.std.proofs.lemmas.Bool.{cases_lt}
 use Rattle.rc_determinize.specs.States.{State}
+use Rattle.rc_dfa.specs.Machine.{Machine}
 use Rattle.rc_lazy_dfa.specs.Stores.{Counts, Frame, Grows, IsRow, IsShort, Spends, minimum_of}
 use Rattle.rc_lazy_dfa.specs.Halves.{IsPlace}
 use Rattle.rc_table_search.specs.Views.{IsLawful}
@@ -117,6 +118,7 @@ rows_held f a b wide grown row p =
 -- what a direction spends
 pub lawful : (l : Lazy) (backwards : Bool) → IsLawful (view_of l backwards)
 lawful l backwards = record {
+  reads = λ m of. ap (λ (x : Machine). x.alphabet) (sym of);
   spends_nothing = λ a. spends_nothing (frame_in l backwards) a.store;
   spends_both = λ a b c. spends_both (frame_in l backwards) a.store b.store c.store;
   spends_within = λ a b. spends_within (frame_in l backwards) a.store b.store;

@@ -4,6 +4,7 @@ use Rattle.std.proofs.lemmas.Bool.{le-leb, lt-leb}
 use Rattle.std.proofs.lemmas.Option.{none-some, same_Some}
 use Rattle.rc_program.specs.Sought.{text_of}
 use Rattle.rc_determinize.specs.States.{State, best_at}
+use Rattle.rc_dfa.specs.Machine as machines
 use Rattle.rc_dfa.specs.Machine.{Machine, Leads, Begins, IsAsked, is_idle}
 use Rattle.rc_dfa.specs.Runs.{MayRead, RunEnd, met_last, stopped_at}
 use Rattle.rc_dfa.specs.Ended.{gave_up}
@@ -63,7 +64,7 @@ module _ (C : Type 0) (v : View C) (laws : IsLawful v) (backwards : Bool) (o : O
       in_row = subst (λ r. v.HasState c m r first) same_row (subst (λ k. v.HasState k m o.row first) same has);
       found = None;
       tells = subst (λ n. IsNoted v m n None) (sym unmet) refl;
-      standing = ways.begins m (text_in m o.seen) (course_of q) backwards first;
+      standing = ways.begins m (laws.reads m of) (text_in m o.seen) (course_of q) backwards first;
     };
   }
 
@@ -116,7 +117,7 @@ module _ (C : Type 0) (v : View C) (laws : IsLawful v) (backwards : Bool) (o : O
       let nothing = subst (λ n. IsNoted v m n x.found) (ways.none_of stand.noted none) x.tells in (
         forwards,
         may,
-        ways.rests m (text_in m o.seen) (course_of q) backwards forwards first i x.state x.found x.standing within (ap is_some nothing) (idle m x.state x.in_row),
+        ways.rests m (laws.reads m of) (text_in m o.seen) (course_of q) backwards forwards first i x.state x.found x.standing within (ap is_some nothing) (idle m x.state x.in_row),
       )) refl
 
   -- ONE STEP, WHATEVER ITS CELL
@@ -140,7 +141,7 @@ module _ (C : Type 0) (v : View C) (laws : IsLawful v) (backwards : Bool) (o : O
         let x = here.stands m of first has in
         subst (λ k. HasEndedFrom backwards m (text_in m o.seen) (course_of q) first q.extent.may_rest r (Quit b k)) (sym at) (
           ways.there_of backwards o.seen.content i b there,
-          ways.quits m (text_in m o.seen) (course_of q) backwards i r far first x.state x.found x.standing within (ways.some_before backwards o.seen.content i b there)
+          ways.quits m (laws.reads m of) (text_in m o.seen) (course_of q) backwards i r far first x.state x.found x.standing within (ways.some_before backwards o.seen.content i b there)
               (subst (λ k. ¬ MayRead m k) (sym (is m)) (unread C v c m (Some b) (Leads m x.state (Some b)) cell (step.leads m x.state x.in_row) e)),
         )) refl
 
@@ -150,6 +151,7 @@ module _ (C : Type 0) (v : View C) (laws : IsLawful v) (backwards : Bool) (o : O
         IsNoted v m noted (best_at i t.matched found)) where
       -- the next state, to which the byte leads
       record IsNextState (m : Machine) (first : State) : Type 0 where
+        plain : m.alphabet ≡ machines.bytes
         state : State
         there : LeadsTo (v.HasState c m) v.leaps cell state
         before : State
@@ -163,6 +165,7 @@ module _ (C : Type 0) (v : View C) (laws : IsLawful v) (backwards : Bool) (o : O
       next_state m of first has =
           let x = here.stands m of first has in
           let l = leads_to C v c m (Some b) (Leads m x.state (Some b)) cell (step.leads m x.state x.in_row) ne in record {
+            plain = laws.reads m of;
             state = l.1.0;
             there = l.1.2;
             before = x.state;
@@ -183,13 +186,13 @@ module _ (C : Type 0) (v : View C) (laws : IsLawful v) (backwards : Bool) (o : O
           Leads m n.before (beside_at backwards (text_in m o.seen) k) n.state → Ends m first (q.end + 1) (met_last (best_at k n.state.matched n.found)) in (
             best_at i n.state.matched n.found,
             n.tells,
-            subst B (sym at) (ways.bounded m (text_in m o.seen) (course_of q) backwards first n.before n.state n.found) n.standing n.read n.leads,
+            subst B (sym at) (ways.bounded m (laws.reads m of) (text_in m o.seen) (course_of q) backwards first n.before n.state n.found) n.standing n.read n.leads,
           ))
 
       module _ (left : 0 < span backwards i q.end) where
         stands_on : (m : Machine) (first : State) (n : IsNextState m first) →
             RunsBy backwards m (text_in m o.seen) (course_of q) first (next_of backwards i) n.state (best_at i n.state.matched n.found)
-        stands_on m first n = ways.runs_on m (text_in m o.seen) (course_of q) backwards first i n.before n.state n.found n.standing left n.read n.leads
+        stands_on m first n = ways.runs_on m n.plain (text_in m o.seen) (course_of q) backwards first i n.before n.state n.found n.standing left n.read n.leads
 
         pub step_dies : (e : Ended) → has_died cell ≡ true → Says v backwards (λ m last. IsNoted v m noted last) e → HasRun v backwards o q c (next_of backwards i) e
         step_dies e died said =
@@ -198,7 +201,7 @@ module _ (C : Type 0) (v : View C) (laws : IsLawful v) (backwards : Bool) (o : O
             let n = next_state m of first has in (
               best_at i n.state.matched n.found,
               n.tells,
-              ways.dies m (text_in m o.seen) (course_of q) backwards first (next_of backwards i) n.state (best_at i n.state.matched n.found) (stands_on m first n)
+              ways.dies m (laws.reads m of) (text_in m o.seen) (course_of q) backwards first (next_of backwards i) n.state (best_at i n.state.matched n.found) (stands_on m first n)
                   (sym n.there.died ∙ died),
             ))
 
@@ -210,7 +213,7 @@ module _ (C : Type 0) (v : View C) (laws : IsLawful v) (backwards : Bool) (o : O
             let n = next_state m of first has in (
               best_at i n.state.matched n.found,
               n.tells,
-              ways.stops_early m (text_in m o.seen) (course_of q) backwards first (next_of backwards i) n.state (best_at i n.state.matched n.found) (stands_on m first n) early
+              ways.stops_early m (laws.reads m of) (text_in m o.seen) (course_of q) backwards first (next_of backwards i) n.state (best_at i n.state.matched n.found) (stands_on m first n) early
                   (some_noted m noted (best_at i n.state.matched n.found) n.tells some),
             ))
           where
@@ -254,7 +257,7 @@ module _ (C : Type 0) (v : View C) (laws : IsLawful v) (backwards : Bool) (o : O
           best_at q.end last x.found,
           is m x.found x.tells,
           subst (λ k. Ends m first (q.end + 1) (met_last (best_at q.end k x.found))) (sym l.2)
-              (ways.bounded m (text_in m o.seen) (course_of q) backwards first x.state l.0 x.found x.standing (subst (λ k. MayRead m k) (sym none) tt)
+              (ways.bounded m (laws.reads m of) (text_in m o.seen) (course_of q) backwards first x.state l.0 x.found x.standing (subst (λ k. MayRead m k) (sym none) tt)
               (subst (λ k. Leads m x.state k l.0) (sym none) l.1)),
         ))
 
@@ -271,7 +274,7 @@ module _ (C : Type 0) (v : View C) (laws : IsLawful v) (backwards : Bool) (o : O
   -- the cells and classes of a walk over a piece of what is searched
   module _ (c : C) (w : Walk) (way : w.backwards ≡ backwards) (leaping : w.leaps ≡ v.leaps) (inside : IsBounded backwards o.seen q.end)
       (piece : w.piece ≡ slice_range o.seen.content w.start (w.start + length w.piece)) (lies : LiesWithin backwards w.start (length w.piece) q.end)
-      (bytes : (k : ℕ) → slice_index_or w.piece k 0 < 256) (m : Machine)
+      (bytes : (k : ℕ) → slice_index_or w.piece k 0 < 256) (m : Machine) (of : v.IsOf m)
       (told : (r b : ℕ) (s : State) → v.HasState c m r s → b < 256 → (v.leaps ≡ false → cell_by w.cells w.classes r b ≢ skip) →
       Knows v c m (Some b) (Leads m s (Some b)) (cell_by w.cells w.classes r b)) (before : Option (ℕ × ℕ)) (first : State) where
     -- the run came to the state of the row
@@ -304,7 +307,7 @@ module _ (C : Type 0) (v : View C) (laws : IsLawful v) (backwards : Bool) (o : O
             t,
             l.1.2,
             subst (λ i. RunsBy backwards m (text_in m o.seen) (course_of q) first i t (best_at (w.start + place) t.matched x.found)) to
-                (ways.runs_on m (text_in m o.seen) (course_of q) backwards first (w.start + place) x.state t x.found x.standing next.left
+                (ways.runs_on m (laws.reads m of) (text_in m o.seen) (course_of q) backwards first (w.start + place) x.state t x.found x.standing next.left
                 (subst (λ k. MayRead m k) (sym beside) l.0) (subst (λ k. Leads m x.state k t) (sym beside) l.1.1)),
           )
 
@@ -377,7 +380,7 @@ module _ (C : Type 0) (v : View C) (laws : IsLawful v) (backwards : Bool) (o : O
               first = stand.row;
               before = None;
             } in
-            let y = over c0 w refl refl inside is lies bytes m (run.told m) x.found first
+            let y = over c0 w refl refl inside is lies bytes m of (run.told m) x.found first
             (record { state = x.state; in_row = x.in_row; found = x.found; tells = refl; standing = x.standing }) place to last (run.reaches m x.state x.in_row) in record {
               state = y.state;
               in_row = same.has_state m to y.state y.in_row;
@@ -405,7 +408,7 @@ module _ (C : Type 0) (v : View C) (laws : IsLawful v) (backwards : Bool) (o : O
   begin_refused c memory cache spends refused on = record {
     cache = cache;
     spends = laws.spends_within o.begun c 1 (all_spent backwards q) (omega arith) spends;
-    ended = λ m of asked. ways.gave_so m (text_in m o.seen) (course_of q) backwards q.extent.may_rest q.from q.from memory (on_here backwards q.from) on;
+    ended = λ m of asked. ways.gave_so m (laws.reads m of) (text_in m o.seen) (course_of q) backwards q.extent.may_rest q.from q.from memory (on_here backwards q.from) on;
     gives_up = λ k e.
         laws.gives_up_within o.begun c 1 (all_spent backwards q) k (omega arith) (subst (λ x. v.GivesUp o.begun c 1 x) (same_Some memory k e) refused);
   }
@@ -423,9 +426,9 @@ module _ (C : Type 0) (v : View C) (laws : IsLawful v) (backwards : Bool) (o : O
     begin_quits b p e is there at =
         begin_over c (Quit b p) cache spends
         (λ m of asked. subst (λ k. HasEndedBy backwards m (text_in m o.seen) (course_of q) q.extent.may_rest q.from (Quit b k)) (sym at)
-        (ways.quit_so m (text_in m o.seen) (course_of q) backwards q.extent.may_rest b (offset_of (not backwards) q.from) q.from
+        (ways.quit_so m (laws.reads m of) (text_in m o.seen) (course_of q) backwards q.extent.may_rest b (offset_of (not backwards) q.from) q.from
         (ways.there_of (not backwards) o.seen.content q.from b there)
-        (ways.never_begins m (text_in m o.seen) (course_of q) backwards (λ k. ways.some_before (not backwards) o.seen.content q.from b there (ap not k))
+        (ways.never_begins m (laws.reads m of) (text_in m o.seen) (course_of q) backwards (λ k. ways.some_before (not backwards) o.seen.content q.from b there (ap not k))
         (subst (λ k. ¬ MayRead m k) (begin_is m) (unread_here e m of asked))))) refl
 
     -- the end is always read
@@ -445,7 +448,7 @@ module _ (C : Type 0) (v : View C) (laws : IsLawful v) (backwards : Bool) (o : O
           begin_over c (Found None) cache spends
           (λ m of asked.
           let s = first_state m of asked in
-          ways.dies_first m (text_in m o.seen) (course_of q) backwards q.extent.may_rest s.0 s.2 s.3 (sym s.1.died ∙ e)) refl
+          ways.dies_first m (laws.reads m of) (text_in m o.seen) (course_of q) backwards q.extent.may_rest s.0 s.2 s.3 (sym s.1.died ∙ e)) refl
 
       pub begin_goes : has_died cell ≡ false → HasBegun v backwards o q c (record { row = row_of cell; noted = None })
       begin_goes alive = record {
@@ -465,7 +468,7 @@ module _ (C : Type 0) (v : View C) (laws : IsLawful v) (backwards : Bool) (o : O
         spends = laws.spends_within o.begun c (1 + run_spent backwards q) (all_spent backwards q) le (laws.spends_both o.begun b c 1 (run_spent backwards q) there.spends run.spends);
         ended = λ m of asked.
             let s = there.begins m of asked in
-            ways.whole m (text_in m o.seen) (course_of q) backwards q.extent.may_rest s.0 s.2 s.3 r e (run.ended m of s.0 s.1);
+            ways.whole m (laws.reads m of) (text_in m o.seen) (course_of q) backwards q.extent.may_rest s.0 s.2 s.3 r e (run.ended m of s.0 s.1);
         gives_up = λ memory k.
             laws.gives_up_within o.begun c (1 + run_spent backwards q) (all_spent backwards q) memory le
             (laws.gives_up_later o.begun b c 1 (run_spent backwards q) memory there.spends (run.gives_up memory k));

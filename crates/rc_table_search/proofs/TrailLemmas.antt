@@ -8,7 +8,7 @@ use Rattle.rc_program.specs.Sought.{text_of}
 use Rattle.rc_determinize.specs.States.{State, best_at}
 use Rattle.rc_dfa.specs.Machine.{Machine}
 use Rattle.rc_dfa.specs.Runs.{RunsOver, Runs, RunEnd, met_last, stopped_at, idle_at, begun, goes_on}
-use Rattle.rc_dfa.specs.Reads.{EndsBelow, at_bound, dead, early, quit, rests}
+use Rattle.rc_dfa.specs.Reads.{EndsBelowOver, EndsBelow, at_bound, dead, early, quit, rests}
 use Rattle.rc_dfa.specs.Trails.{Has}
 use Rattle.rc_dfa.specs.declared.ended.Ended.{Ended}
 use Rattle.rc_dfa.specs.declared.ended.Ended.TheVariants.{Found, Idle, Quit, GaveUp}
@@ -55,10 +55,10 @@ module _ (m : Machine) (t : Text) (hi from : ℕ) (first : State) (mid : ℕ) (s
   pub ends_both : (enough : Bool) (e : RunEnd) (r : ℕ) → IsNoRest e → EndsBelow m t hi mid s enough e r → EndsBelow m t hi from first enough (with_found e) r
   ends_both enough e r some (at_bound {met = last} u next x read leads) =
       subst (λ o. EndsBelow m t hi from first enough (met_last o) (hi + 1)) (sym (best_or hi next.matched last found))
-      (EndsBelow.at_bound u next (runs_both hi u last x) read leads)
-  ends_both enough e r some (dead {met = last} i u x is) = EndsBelow.dead i u (runs_both i u last x) is
-  ends_both enough e r some (early {met = last} i u is x) = EndsBelow.early i u is (runs_both i u (Some last) x)
-  ends_both enough e r some (quit {met = last} i u x le unread) = EndsBelow.quit i u (runs_both i u last x) le unread
+      (EndsBelowOver.at_bound u next (runs_both hi u last x) read leads)
+  ends_both enough e r some (dead {met = last} i u x is) = EndsBelowOver.dead i u (runs_both i u last x) is
+  ends_both enough e r some (early {met = last} i u is x) = EndsBelowOver.early i u is (runs_both i u (Some last) x)
+  ends_both enough e r some (quit {met = last} i u x le unread) = EndsBelowOver.quit i u (runs_both i u last x) le unread
   ends_both enough e r never (rests i u x le idle) = absurd never
 
 module _ (C : Type 0) (v : View C) (noted : Option (ℕ × ℕ)) (rest : Reading) where

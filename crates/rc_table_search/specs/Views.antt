@@ -4,7 +4,7 @@ use Rattle.rc_text.specs.declared.types.Anchored.{Anchored}
 use Rattle.rc_program.specs.Program.{place_at}
 use Rattle.rc_program.specs.Answer.{pattern_at}
 use Rattle.rc_determinize.specs.States.{State}
-use Rattle.rc_dfa.specs.Machine.{Machine, Leads, Begins, IsAsked, is_dead}
+use Rattle.rc_dfa.specs.Machine.{Machine, bytes, Leads, Begins, IsAsked, is_dead}
 use Rattle.rc_dfa.specs.Runs.{MayRead}
 use Rattle.rc_table_search.specs.Walks.{Reaches, cell_by, dead, first_of, has_died, met, quit, row_of, skip}
 
@@ -35,8 +35,10 @@ pub record Holds {C : Type 0} (v : View C) (old new : C) : Type 0 where
   pub is_row : (row : ℕ) → v.IsRow old row → v.IsRow new row
   pub has_state : (m : Machine) (row : ℕ) (s : State) → v.IsRow old row → v.HasState new m row s → v.HasState old m row s
 
--- What is spent adds up, and rows are held while the era lasts.
+-- It is a table of machines that read bytes. What is spent adds up, and rows are held while the era
+-- lasts.
 pub record IsLawful {C : Type 0} (v : View C) : Type 0 where
+  pub reads : (m : Machine) → v.IsOf m → m.alphabet ≡ bytes
   pub spends_nothing : (a : C) (n : ℕ) → v.Spends a a n
   pub spends_both : (a b c : C) (n k : ℕ) → v.Spends a b n → v.Spends b c k → v.Spends a c (n + k)
   pub spends_within : (a b : C) (n k : ℕ) → n ≤ k → v.Spends a b n → v.Spends a b k
