@@ -4,6 +4,7 @@ pub mod Samples
 pub mod Props
 pub mod Automata
 pub mod Columns
+pub mod Tables
 pub mod Laws
 pub mod Ended
 pub mod Keys

@@ -1,6 +1,7 @@
 //! Laws of determinizers and of their runs. The functions do nothing: their contracts are the laws.
 ghost use Rattle.rc_dfa.specs.Columns.{ColumnLaw};
 ghost use Rattle.rc_dfa.specs.Laws.{MachineLaw, OverlapLaw, RunLaw, SymbolRunLaw};
+ghost use Rattle.rc_dfa.specs.Tables.{TableLaw};
 
 /// The states of a determinizer list places of its program, each once.
 pub fn machines_keep_places()
@@ -23,6 +24,12 @@ pub fn runs_read_symbols()
 /// alike with each symbol, and what ends with the byte is left to one turn.
 pub fn symbols_have_columns()
     ensures { ColumnLaw }
+{}
+
+/// A table needs one cell for a byte that may be read if it is known alone, whether it reads bytes
+/// or symbols, and one for each symbol of any other byte.
+pub fn tables_serve_alphabets()
+    ensures { TableLaw }
 {}
 
 /// For `MatchKind::All`, each state of a DFA search tells to which places walks come.
