@@ -1,7 +1,6 @@
 -- What caches of a regex serve.
-use Rattle.std.proofs.Common.{◌≡◌, ◌∙◌, ℕ, ◌≤◌, List, length, sym, subst, ap, arith}
+use Rattle.std.proofs.Common.{◌≡◌, ℕ, ◌≤◌, List, sym, subst, ap, arith}
 use Rattle.std.specs.Prelude.{is_some}
-use Rattle.std.proofs.lemmas.List.{length-map}
 use Rattle.rc_captures.specs.Groups.{names_of}
 use Rattle.rc_captures.specs.Names.{slot_len}
 use Rattle.rc_program.specs.Columns.{row_width}
@@ -30,25 +29,13 @@ module _ (r : Regex) where
   own_places = places_of r.engines.engine.program.places.items
 
   abbrev IsMade : ℕ → Cache → Type 0
-  IsMade slots c = IsCacheBy (length places) (row_width places slots) plan c
+  IsMade slots c = IsCacheBy places (row_width places slots) plan c
 
-  as_many : length r.engines.engine.program.places.items ≡ length places
-  as_many = sym (length-map r.engines.engine.program.places.items _) ∙ ap length r.fits.placed
+  own : (slots : ℕ) (c : Cache) → IsMade slots c → IsCacheBy own_places (row_width own_places slots) plan c
+  own slots c i = subst (λ ps. IsCacheBy ps (row_width ps slots) plan c) (sym r.fits.placed) i
 
-  as_wide : (slots : ℕ) → row_width own_places slots ≡ row_width places slots
-  as_wide slots = ap (λ ps. row_width ps slots) r.fits.placed
-
-  own : (slots : ℕ) (c : Cache) → IsMade slots c →
-      IsCacheBy (length r.engines.engine.program.places.items) (row_width own_places slots) plan c
-  own slots c i =
-      subst (λ p. IsCacheBy p (row_width own_places slots) plan c) (sym as_many)
-      (subst (λ w. IsCacheBy (length places) w plan c) (sym (as_wide slots)) i)
-
-  made : (slots : ℕ) (c : Cache) →
-      IsCacheBy (length r.engines.engine.program.places.items) (row_width own_places slots) plan c → IsMade slots c
-  made slots c i =
-      subst (λ w. IsCacheBy (length places) w plan c) (as_wide slots)
-      (subst (λ p. IsCacheBy p (row_width own_places slots) plan c) as_many i)
+  made : (slots : ℕ) (c : Cache) → IsCacheBy own_places (row_width own_places slots) plan c → IsMade slots c
+  made slots c i = subst (λ ps. IsCacheBy ps (row_width ps slots) plan c) r.fits.placed i
 
   -- a cache that its engines make was made for its patterns and settings,
   pub made_for : (c : Cache) → IsCacheIn r.engines (slot_len (names_of r.info)) c → is_some c.lazy ≡ is_some r.engines.lazy → IsMade (slot_len (regex_names r)) c
@@ -59,8 +46,8 @@ module _ (r : Regex) where
   -- serves its engines with no more slots than it has,
   pub serves_for : (slots : ℕ) (c : Cache) → slots ≤ slot_len (regex_names r) → IsMade (slot_len (regex_names r)) c → IsCacheIn r.engines slots c
   serves_for slots c few i =
-      let fewer : row_width places slots ≤ c.pass.columns = omega (arith, few, i.pass.1) in
-      serves_in r.engines slots plan r.planned c (own slots c (record { pass = (i.pass.0, fewer); lazy = i.lazy }))
+      let fewer : row_width places slots ≤ c.pass.columns = omega (arith, few, i.pass.2) in
+      serves_in r.engines slots plan r.planned c (own slots c (record { pass = (i.pass.0, i.pass.1, fewer); lazy = i.lazy }))
 
   -- and stays so
   pub stays_for : (c d : Cache) → IsMade (slot_len (regex_names r)) c → IsSameCacheIn r.engines c d → IsMade (slot_len (regex_names r)) d

@@ -1,5 +1,5 @@
 -- What caches are made for.
-use Rattle.std.specs.Prelude.{◌≡◌, ℕ, List, length}
+use Rattle.std.specs.Prelude.{◌≡◌, ℕ, List}
 use Rattle.rc_pattern.specs.Re.{Re}
 use Rattle.rc_captures.specs.Names.{slot_len}
 use Rattle.rc_program.specs.Columns.{row_width}
@@ -17,7 +17,7 @@ use Rattle.api_meta.specs.declared.regex.Regex.{Regex}
 -- groups that are kept; and the states that it holds are those of their tables.
 abbrev pub IsCacheFor : List Re → Settings → Cache → Type 0
 IsCacheFor hs s cache =
-    engines.IsCacheBy (length (program (shown (is_grouped (which_captures_of s)) hs)))
+    engines.IsCacheBy (program (shown (is_grouped (which_captures_of s)) hs))
     (row_width (program (shown (is_grouped (which_captures_of s)) hs)) (slot_len (names_shown (is_grouped (which_captures_of s)) hs)))
     (plan_by hs s) cache.inner
 

@@ -52,7 +52,7 @@ impl PikeVM {
     ghost use Rattle.rc_build.specs.Refusals.{IsBuildable};
     ghost use Rattle.rc_build.specs.TextRefusals.{AllRead, IsTextRefusal, texts_of};
     ghost use Rattle.rc_parser.specs.Settings.{default_settings};
-    ghost use Rattle.api_pikevm.specs.Caches.{IsCacheFor, columns_of, insertions_of};
+    ghost use Rattle.api_pikevm.specs.Caches.{IsCacheFor, columns_of, insertions_of, program_of};
     ghost use Rattle.rc_settings.specs.SearchSettings.{none_set};
     ghost use Rattle.rc_settings.specs.Thompson.{unset};
     ghost use Rattle.api_pikevm.specs.Views.{builder_settings, builder_program, builder_syntax, sought, states_of, vm_names, vm_patterns, vm_program, vm_settings};
@@ -135,12 +135,12 @@ impl PikeVM {
 
     /// A cache for searches over the program, with all slots.
     pub(crate) fn inner_cache(&self, alloc: Global) -> Result<cache::Cache, AllocError>
-        ensures made { IfOk result (pikevm.IsCacheFor (states_of (sought self.now))
+        ensures made { IfOk result (pikevm.IsCacheFor (program_of (sought self.now))
             (columns_of (sought self.now))) }
         ensures unused { IfOk result (λ c. c.insertions ≡ 0) }
     {
-        let columns = self.built.engine.program.width(self.built.info.slot_len());
-        cache::Cache::new(alloc, self.states_len(), columns)
+        let slots = self.built.info.slot_len();
+        cache::Cache::new(alloc, &self.built.engine.program, slots)
     }
 }
 

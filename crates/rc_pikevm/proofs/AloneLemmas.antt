@@ -19,6 +19,7 @@ use Rattle.rc_pikevm.specs.Sights.{Sight, ends, ends_to, next_of, next_to, HasNo
 use Rattle.rc_pikevm.specs.Moves.{IsMove}
 use Rattle.rc_pikevm.specs.Threads.{Thread, ThreadList, thread_of}
 use Rattle.rc_pikevm.specs.Entrances.{IsOnWay}
+use Rattle.rc_pikevm.proofs.LineLemmas.{no_line, one_in_line}
 use Rattle.rc_pikevm.proofs.EntranceLemmas.{choice_on, stops_shut, carries_on}
 use Rattle.rc_pikevm.specs.Trace.{Trace, note, note_at, trace, done, sets_out}
 use Rattle.rc_pikevm.specs.Passing.{IsMoveInside, pending, pairs, Carries, CarriesTo, waiting_starts, AllIn, AllFrom, count_from, Pending, best_of, IsCounted, IsLined, IsPassing}
@@ -264,23 +265,14 @@ pub counted_more : (insertions more : ℕ) (best : Option Ending) → insertions
 counted_more insertions more None h c = tt
 counted_more insertions more (Some r) h c = omega (arith, h, c)
 
-module _ (n hi width at insertions insertions2 : ℕ) (curr next : ThreadList) (t : Thread) (r : BareThread) (one : curr.items ≡ t ∷ [])
+module _ (s : Sight) (n hi width at insertions insertions2 : ℕ) (curr next : ThreadList) (t : Thread) (r : BareThread) (one : curr.items ≡ t ∷ [])
     (moved : next ≡ record curr { items = thread_of r t.slots ∷ [] }) (later : at ≤ r.at) (count : insertions2 ≡ insertions + (r.at - at)) where
   -- the only thread has gone on
-  pub lined_moved : IsLined n hi width at insertions curr → r.start ≡ t.start → r.place < n → r.at ≤ hi → IsLined n hi width r.at insertions2 next
-  lined_moved lined start place within = record {
-    inside = subst (λ (l : ThreadList). AllIn n r.at (min hi (r.at + 3)) l.items) (sym moved)
-        ((place, omega arith, omega (arith, within)), tt);
-    width_is = ap (λ (l : ThreadList). l.width) moved ∙ lined.width_is;
-    room = ap (λ (l : ThreadList). l.room) moved ∙ lined.room;
-    counts = λ k h. subst (λ (l : ThreadList). count_from (r.at + k) l.items + k * n ≤ 4 * n) (sym moved)
-        (let m : k * n ≤ 3 * n = mul-le-mul_right n h in
-        let l = one_at_most (nat_le (r.at + k) r.at) in
-        omega (arith, m, l, place));
-    begun = subst (λ (l : ThreadList). AllFrom (r.at - insertions2) l.items) (sym moved)
-        (let b = subst (AllFrom (at - insertions)) one lined.begun in
-        (omega (arith, b.0, start, count, later), tt));
-  }
+  pub lined_moved : IsLined s n hi width at insertions curr → r.start ≡ t.start → r.place < n → r.at ≤ hi → IsLined s n hi width r.at insertions2 next
+  lined_moved lined start place within =
+      let b = subst (AllFrom (at - insertions)) one lined.begun in
+      rw moved (one_in_line s n hi width insertions2 (record curr { items = thread_of r t.slots ∷ [] }) lined.width_is lined.room r t.slots refl place within
+      (omega (arith, b.0, start, count, later)))
 
   pub few_moved : (from : ℕ) → insertions ≤ n * (at - from) → from ≤ at → r.place < n → insertions2 ≤ n * (r.at - from)
   few_moved from few reached place =
@@ -308,14 +300,14 @@ module _ (s : Sight) (n hi width from last at insertions : ℕ) (curr : ThreadLi
         (run t.slots width (best_of best found) o
         (subst (λ b. Carries s r.at [] [] ((trace r.start t.slots, (r.place, r.at)) ∷ waiting_starts b width r.at last) (best_of best found) o) (sym open_is)
         (subst (λ (l : ThreadList). Pending s width last r.at l.items best found o) moved x))))));
-    lined = lined_moved n hi width at insertions insertions2 curr next t r one moved later count p.lined start place within;
+    lined = lined_moved s n hi width at insertions insertions2 curr next t r one moved later count p.lined start place within;
     ended = counted_more insertions insertions2 best (omega (arith, count)) p.ended;
-    few = few_moved n hi width at insertions insertions2 curr next t r one moved later count from p.few p.reached place;
+    few = few_moved s n hi width at insertions insertions2 curr next t r one moved later count from p.few p.reached place;
     reached = omega (arith, later, p.reached);
     within = omega (arith, within);
   }
 
-module _ (s : Sight) (n hi width last at insertions : ℕ) (curr : ThreadList) (lined : IsLined n hi width at insertions curr) where
+module _ (s : Sight) (n hi width last at insertions : ℕ) (curr : ThreadList) (lined : IsLined s n hi width at insertions curr) where
   -- The walk of the only thread ends.
   pub ends_alone : (pattern : ℕ) (best : Option Ending) (found : List (Option ℕ)) (o : Option Trace) (slots : List (Option ℕ)) (t : Thread) (next : List Thread) →
       EndsAlone s at curr.items pattern → curr.items ≡ t ∷ [] → t.slots ≡ slots → next ≡ [] →
@@ -357,29 +349,18 @@ module _ (s : Sight) (n hi width last at insertions : ℕ) (curr : ThreadList) (
 
   -- no thread is left
   pub lined_none : (x insertions2 width2 : ℕ) (next : ThreadList) → next ≡ record curr { items = []; width = width2 } → width2 ≡ width →
-      IsLined n hi width x insertions2 next
-  lined_none x insertions2 width2 next e wide = record {
-    inside = subst (λ (l : ThreadList). AllIn n x (min hi (x + 3)) l.items) (sym e) tt;
-    width_is = ap (λ (l : ThreadList). l.width) e ∙ wide;
-    room = ap (λ (l : ThreadList). l.room) e ∙ lined.room;
-    counts = λ k h. subst (λ (l : ThreadList). count_from (x + k) l.items + k * n ≤ 4 * n) (sym e)
-        (let m : k * n ≤ 3 * n = mul-le-mul_right n h in omega (arith, m));
-    begun = subst (λ (l : ThreadList). AllFrom (x - insertions2) l.items) (sym e) tt;
-  }
+      IsLined s n hi width x insertions2 next
+  lined_none x insertions2 width2 next e wide =
+      rw e (no_line s n hi width insertions2 (record curr { items = []; width = width2 }) wide lined.room x refl)
 
   -- one thread waits for the next position
   pub lined_one : (r : BareThread) (slots : List (Option ℕ)) (next : ThreadList) → next ≡ record curr { items = thread_of r slots ∷ [] } →
-      r.at ≡ at + 1 → r.start ≡ at → r.place < n → at + 1 ≤ hi → IsLined n hi width (at + 1) (insertions + 1) next
-  lined_one r slots next e here start place within = record {
-    inside = subst (λ (l : ThreadList). AllIn n (at + 1) (min hi (at + 1 + 3)) l.items) (sym e) ((place, omega (arith, here), omega (arith, here, within)), tt);
-    width_is = ap (λ (l : ThreadList). l.width) e ∙ lined.width_is;
-    room = ap (λ (l : ThreadList). l.room) e ∙ lined.room;
-    counts = λ k h. subst (λ (l : ThreadList). count_from (at + 1 + k) l.items + k * n ≤ 4 * n) (sym e)
-        (let m : k * n ≤ 3 * n = mul-le-mul_right n h in
-        let l = one_at_most (nat_le (at + 1 + k) r.at) in
-        omega (arith, m, l, place));
-    begun = subst (λ (l : ThreadList). AllFrom (at + 1 - (insertions + 1)) l.items) (sym e) (omega (arith, start), tt);
-  }
+      r.at ≡ at + 1 → r.start ≡ at → r.place < n → at + 1 ≤ hi → IsLined s n hi width (at + 1) (insertions + 1) next
+  lined_one r slots next e here start place within =
+      let high : r.at ≤ hi = omega (arith, here, within) in
+      rw e (subst (λ x. IsLined s n hi width x (insertions + 1) (record curr { items = thread_of r slots ∷ [] })) here
+      (one_in_line s n hi width (insertions + 1) (record curr { items = thread_of r slots ∷ [] }) lined.width_is lined.room r slots refl place high
+      (omega (arith, here, start))))
 
 module _ (s : Sight) (n hi width from last at insertions : ℕ) (curr : ThreadList) (best : Option Ending) (found : List (Option ℕ)) where
   -- A pass for the longest walk whose only thread has gone on to x.
@@ -394,9 +375,9 @@ module _ (s : Sight) (n hi width from last at insertions : ℕ) (curr : ThreadLi
         (run (starts_to width from last)
         (subst (λ y. Races s (starts_to width from last) y [] [] ((trace t.start t.slots, (t.place, t.at)) ∷ starts_to width y last) best found) (sym here)
         (subst (λ ts. Races s (starts_to width from last) at [] [] (map pending ts ++ starts_to width at last) best found) one p.law)));
-    lined = lined_moved n hi width at insertions insertions2 curr next t r one moved later count p.lined start place within;
+    lined = lined_moved s n hi width at insertions insertions2 curr next t r one moved later count p.lined start place within;
     ended = counted_more insertions insertions2 best (omega (arith, count)) p.ended;
-    few = few_moved n hi width at insertions insertions2 curr next t r one moved later count from p.few p.reached place;
+    few = few_moved s n hi width at insertions insertions2 curr next t r one moved later count from p.few p.reached place;
     reached = omega (arith, later, p.reached);
     within = omega (arith, within);
   }

@@ -15,7 +15,7 @@ use Rattle.rc_pikevm.proofs.MarkMoveLemmas.{low_in, owed_forks, owed_idle, same_
 
 module _ (s : Sight) (n hi at : ℕ) (threads0 : ThreadList) (entered0 : Members) (set0 : List Bool) where
   -- at first none has
-  pub none_set_out : HasRoom n hi at threads0 entered0 → IsSettingOut s n hi at 0 threads0 entered0 set0 threads0 entered0 set0
+  pub none_set_out : HasRoom s n hi at threads0 entered0 → IsSettingOut s n hi at 0 threads0 entered0 set0 threads0 entered0 set0
   none_set_out sound = record {
     same = λ below p low. (λ h. h, λ h. h);
     long = refl;
@@ -30,7 +30,7 @@ module _ (s : Sight) (n hi at : ℕ) (threads0 : ThreadList) (entered0 : Members
     pub way_set_out : (threads2 : ThreadList) (entered2 : Members) (set2 : List Bool) →
         ((below : List Pair) → AreSame (length set) (Owed s at threads.items entered.items ((a, at) ∷ below) set)
         (Owed s at threads2.items entered2.items below set2)) →
-        length set2 ≡ length set → KeepsMarks set set2 → IsGrown n hi at at threads entered threads2 entered2 →
+        length set2 ≡ length set → KeepsMarks set set2 → IsGrown s n hi at at threads entered threads2 entered2 →
         IsSettingOut s n hi at b threads0 entered0 set0 threads2 entered2 set2
     way_set_out threads2 entered2 set2 closing long more grown = record {
       same = λ below p low.

@@ -1,14 +1,15 @@
 -- How the list of threads grows.
-use Rattle.std.proofs.Common.{◌≡◌, ℕ, ◌+◌, ◌<◌, ◌≤◌, List, [], ◌∷◌, ◌++◌, length, map, min, inl, inr, ⊎_elim, sym, subst, ◌∙◌, refl, arith, Bool, true, false, Option, if◌then◌else◌, nat_le}
+use Rattle.std.proofs.Common.{◌≡◌, ℕ, ◌+◌, ◌<◌, ◌≤◌, List, [], ◌∷◌, ◌++◌, length, map, min, inl, inr, ⊎_elim, sym, subst, ap, ◌∙◌, refl, arith, Bool, true, false, Option, if◌then◌else◌, nat_le}
 use Rattle.std.proofs.lemmas.Bool.{cases_lt, le-leb, lt-leb, lt-ltb, le-ltb}
 use Rattle.std.proofs.lemmas.List.{length_push, append-nil}
 use Rattle.rc_walks.specs.Walks.{Pair, IsIn}
-use Rattle.rc_program.specs.Program.{ways_out, pair_at}
+use Rattle.rc_program.specs.Program.{ways_out, pair_at, place_at}
 use Rattle.rc_program.specs.Text.{holds, ahead}
 use Rattle.rc_pikevm.specs.Sights.{Sight}
 use Rattle.rc_program.specs.Laws.{IsClosed}
 use Rattle.rc_program.proofs.PlaceLemmas.{ways_closed}
-use Rattle.rc_pikevm.specs.Sparse.{Members}
+use Rattle.rc_pikevm.specs.Sparse.{Has, Members}
+use Rattle.rc_pikevm.specs.Waiting.{given, reaches}
 use Rattle.rc_pikevm.specs.Threads.{Thread, ThreadList}
 use Rattle.rc_pikevm.specs.Entered.{Goes}
 use Rattle.rc_pikevm.specs.Moves.{IsMove}
@@ -16,6 +17,7 @@ use Rattle.rc_pikevm.specs.Passing.{resting_of, frames_of, AllInside, IsMoveInsi
 use Rattle.rc_pikevm.specs.declared.moves.Move.{Move}
 use Rattle.rc_pikevm.specs.declared.moves.Move.TheVariants.{Fork, Save, Matches, Stays, Reads, DeadEnd}
 use Rattle.rc_pikevm.specs.declared.growth.Frame.{Frame}
+use Rattle.rc_pikevm.proofs.WaitingLemmas.{still_entered}
 
 -- the places that a move names are places of the program
 pub move_inside : (s : Sight) (p at : ℕ) (move : Move) → IsClosed s.places → IsMove s (p, at) move → IsMoveInside (length s.places) move
@@ -68,6 +70,14 @@ count_push q (u ∷ ts) t = let e = count_push q ts t in omega (arith, e)
 pub count_one_more : (q : ℕ) (ts : List Thread) (t : Thread) → count_from q (ts ++ t ∷ []) ≤ count_from q ts + 1
 count_one_more q ts t = let e = count_push q ts t in let o = one_at_most (nat_le q t.at) in omega (arith, e, o)
 
+-- fewer wait for a later position
+pub count_later : (q r : ℕ) (ts : List Thread) → q ≤ r → count_from r ts ≤ count_from q ts
+count_later q r [] h = omega arith
+count_later q r (t ∷ ts) h =
+    let e = count_later q r ts h in
+    ⊎_elim (λ past. rw (lt-leb r t.at past) (omega (arith, e)))
+    (λ ge. rw (le-leb r t.at ge, le-leb q t.at (omega (arith, ge, h))) (omega (arith, e))) (cases_lt t.at r)
+
 pub count_all : (n lo hi q : ℕ) (ts : List Thread) → AllIn n lo hi ts → q ≤ lo → count_from q ts ≡ length ts
 count_all n lo hi q [] all h = refl
 count_all n lo hi q (t ∷ ts) all h =
@@ -87,8 +97,8 @@ from_push x [] t all h = (h, tt)
 from_push x (u ∷ ts) t all h = (all.0, from_push x ts t all.1 h)
 
 -- nothing happens
-pub grown_same : {n hi start at : ℕ} {threads : ThreadList} {entered : Members} → HasRoom n hi at threads entered →
-    IsGrown n hi start at threads entered threads entered
+pub grown_same : {s : Sight} {n hi start at : ℕ} {threads : ThreadList} {entered : Members} → HasRoom s n hi at threads entered →
+    IsGrown s n hi start at threads entered threads entered
 grown_same sound = record {
   sound = sound;
   same_room = refl;
@@ -99,9 +109,9 @@ grown_same sound = record {
   begun = λ x h all. all;
 }
 
-pub grown_then : {n hi start at : ℕ} {threads0 threads1 threads2 : ThreadList} {entered0 entered1 entered2 : Members} →
-    IsGrown n hi start at threads0 entered0 threads1 entered1 → IsGrown n hi start at threads1 entered1 threads2 entered2 →
-    IsGrown n hi start at threads0 entered0 threads2 entered2
+pub grown_then : {s : Sight} {n hi start at : ℕ} {threads0 threads1 threads2 : ThreadList} {entered0 entered1 entered2 : Members} →
+    IsGrown s n hi start at threads0 entered0 threads1 entered1 → IsGrown s n hi start at threads1 entered1 threads2 entered2 →
+    IsGrown s n hi start at threads0 entered0 threads2 entered2
 grown_then a b = record {
   sound = b.sound;
   same_room = b.same_room ∙ a.same_room;
@@ -114,39 +124,47 @@ grown_then a b = record {
 
 -- a place is entered, and its move may put a thread behind the others
 pub grown_by : (n hi start at p : ℕ) (slots : List (Option ℕ)) (move : Move) (threads : ThreadList) (entered : Members) (s : Sight) → s.hi ≡ hi →
-    HasRoom n hi at threads entered → length entered.items + 1 ≤ n → Goes s (p, at) move → IsMoveInside n move →
-    IsGrown n hi start at threads entered (record threads { items = threads.items ++ resting_of start slots move })
+    HasRoom s n hi at threads entered → ¬ Has entered.items p → length entered.items + 1 ≤ n → Goes s (p, at) move → IsMoveInside n move →
+    IsGrown s n hi start at threads entered (record threads { items = threads.items ++ resting_of start slots move })
     (record entered { items = entered.items ++ p ∷ [] })
-grown_by n hi start at p slots move threads entered s bound sound few m inside = record {
+grown_by n hi start at p slots move threads entered s bound sound fresh few m inside = record {
   sound = record {
     capacity = sound.capacity;
     few = rw length_push few;
-    room = rw length_push (omega (arith, sound.room, pushed move));
+    room = let e = still_entered s at (at + 1) entered.items p fresh in let g = pushed move m in omega (arith, sound.room, e, g);
     inside = within move m inside;
   };
   same_room = refl;
   same_most = refl;
   same_width = refl;
   more = rw length_push (omega arith);
-  counts = λ q. rw length_push (let c = counted move q in omega (arith, c));
+  counts = λ q. let e = still_entered s at q entered.items p fresh in let c = counted move q m in omega (arith, e, c);
   begun = λ x h all. begun move x h all;
 }
   where
-    pushed : (move : Move) → length (threads.items ++ resting_of start slots move) ≤ length threads.items + 1
-    pushed (Fork a b) = rw append-nil (omega arith)
-    pushed (Save k m) = rw append-nil (omega arith)
-    pushed (Matches q) = rw append-nil (omega arith)
-    pushed (Stays m) = rw append-nil (omega arith)
-    pushed DeadEnd = rw append-nil (omega arith)
-    pushed (Reads m to) = rw length_push (omega arith)
+    -- a move that reads gives one thread
+    gives : (k to q : ℕ) → Goes s (p, at) (Reads k to) → given s at q (place_at s.places p) ≡ (if nat_le q to then 1 else 0)
+    gives k to q g = ap (reaches q) (acts_on s (p, at) (Reads k to) tt g).0
 
-    counted : (move : Move) (q : ℕ) → count_from q (threads.items ++ resting_of start slots move) ≤ count_from q threads.items + 1
-    counted (Fork a b) q = rw append-nil (omega arith)
-    counted (Save k m) q = rw append-nil (omega arith)
-    counted (Matches r) q = rw append-nil (omega arith)
-    counted (Stays m) q = rw append-nil (omega arith)
-    counted DeadEnd q = rw append-nil (omega arith)
-    counted (Reads m to) q = count_one_more q threads.items (record { place = m; at = to; start = start; slots = slots })
+    pushed : (move : Move) → Goes s (p, at) move → length (threads.items ++ resting_of start slots move) ≤ length threads.items + given s at (at + 1) (place_at s.places p)
+    pushed (Fork a b) g = rw append-nil (omega arith)
+    pushed (Save k m) g = rw append-nil (omega arith)
+    pushed (Matches q) g = rw append-nil (omega arith)
+    pushed (Stays m) g = rw append-nil (omega arith)
+    pushed DeadEnd g = rw append-nil (omega arith)
+    pushed (Reads m to) g =
+        let later : at + 1 ≤ to = omega (arith, (acts_on s (p, at) (Reads m to) tt g).2) in
+        rw (length_push, gives m to (at + 1) g, le-leb (at + 1) to later) (omega arith)
+
+    counted : (move : Move) (q : ℕ) → Goes s (p, at) move → count_from q (threads.items ++ resting_of start slots move) ≤ count_from q threads.items + given s at q (place_at s.places p)
+    counted (Fork a b) q g = rw append-nil (omega arith)
+    counted (Save k m) q g = rw append-nil (omega arith)
+    counted (Matches r) q g = rw append-nil (omega arith)
+    counted (Stays m) q g = rw append-nil (omega arith)
+    counted DeadEnd q g = rw append-nil (omega arith)
+    counted (Reads m to) q g =
+        let c = count_push q threads.items (record { place = m; at = to; start = start; slots = slots }) in
+        rw (gives m to q g) (omega (arith, c))
 
     begun : (move : Move) (x : ℕ) → x ≤ start → AllFrom x threads.items → AllFrom x (threads.items ++ resting_of start slots move)
     begun (Fork a b) x h all = rw append-nil all

@@ -19,6 +19,9 @@ use Rattle.rc_pikevm.specs.Sights as sights
 use Rattle.rc_pikevm.specs.Sights.{HasNoWalkFrom, Sight, sight_of}
 use Rattle.rc_pikevm.specs.Sparse.{Members}
 use Rattle.rc_pikevm.specs.Threads.{Thread, ThreadList}
+use Rattle.rc_pikevm.specs.Waiting.{still}
+use Rattle.rc_pikevm.specs.Readers.{reader_count}
+use Rattle.rc_pikevm.proofs.LineLemmas.{no_line}
 use Rattle.rc_pikevm.proofs.MarkLemmas.{AllLater}
 use Rattle.rc_pikevm.proofs.MarkMoveLemmas.{same_then, later_waits, low_in, middle}
 use Rattle.rc_pikevm.proofs.StepLemmas.{gone_begins, gone_closes, gone_waits, next_left, waits_here}
@@ -69,7 +72,7 @@ starts_skipped s p (suc count) at last none =
     (cases_lt last at)
 
 module _ (s : Sight) (n hi at : ℕ) (all : List Thread) (threads0 : ThreadList) (set0 : List Bool) where
-  pub marking_begins : (entered : Members) → threads0.items ≡ [] → entered.items ≡ [] → entered.capacity ≡ n → n ≤ threads0.room →
+  pub marking_begins : (entered : Members) → threads0.items ≡ [] → entered.items ≡ [] → entered.capacity ≡ n → still s at (at + 1) [] < threads0.room →
       IsMarkingOn s n hi at all all threads0 set0 threads0 entered set0
   marking_begins entered no_threads no_places capacity room = record {
     same = λ below p low. rw (no_threads, no_places) (λ h. h, λ h. h);
@@ -81,7 +84,7 @@ module _ (s : Sight) (n hi at : ℕ) (all : List Thread) (threads0 : ThreadList)
   module _ (threads : ThreadList) (entered : Members) (set : List Bool) (index : ℕ) (t : Thread) (item : slice_get all index ≡ Some t)
       (inside : AllIn n at (min hi (at + 3)) all) (so_far : IsMarkingOn s n hi at all (drop index all) threads0 set0 threads entered set) where
     -- a thread that goes on later waits
-    pub marking_waits : (threads2 : ThreadList) → at < t.at → count_from (at + 1) all + n ≤ threads0.room →
+    pub marking_waits : (threads2 : ThreadList) → at < t.at → count_from (at + 1) all + still s at (at + 1) [] < threads0.room →
         threads2 ≡ record threads { items = threads.items ++ t ∷ [] } →
         IsMarkingOn s n hi at all (drop (index + 1) all) threads0 set0 threads2 entered set
     marking_waits threads2 later room e = rw e (record {
@@ -99,7 +102,7 @@ module _ (s : Sight) (n hi at : ℕ) (all : List Thread) (threads0 : ThreadList)
     pub marking_closes : (threads2 : ThreadList) (entered2 : Members) (set2 : List Bool) → t.at ≤ at →
         ((below : List Pair) → AreSame (length set) (Owed s at threads.items entered.items ((t.place, at) ∷ below) set)
         (Owed s at threads2.items entered2.items below set2)) →
-        length set2 ≡ length set → KeepsMarks set set2 → IsGrown n hi t.start at threads entered threads2 entered2 →
+        length set2 ≡ length set → KeepsMarks set set2 → IsGrown s n hi t.start at threads entered threads2 entered2 →
         IsMarkingOn s n hi at all (drop (index + 1) all) threads0 set0 threads2 entered2 set2
     marking_closes threads2 entered2 set2 now closing long more grown = record {
       same = λ below p low.
@@ -124,19 +127,13 @@ no_threads [] e = refl
 no_threads (t ∷ ts) e = absurd (omega (arith, e))
 
 module _ (s : Sight) (n hi from last first end : ℕ) (set0 : List Bool) where
-  pub marking_from : (curr : ThreadList) → curr.items ≡ [] → curr.width ≡ 0 → curr.room ≡ 4 * n → from ≤ last → last ≤ hi →
+  pub marking_from : (curr : ThreadList) → curr.items ≡ [] → curr.width ≡ 0 → reader_count s.places < curr.room → from ≤ last → last ≤ hi →
       IsMarkingFrom s n hi from last from 0 curr set0 set0
   marking_from curr no_items wide room low high = record {
     same = λ p l. rw no_items (λ h. h, λ h. h);
     long = refl;
     more = λ p h. h;
-    lined = record {
-      inside = rw no_items tt;
-      width_is = wide;
-      room = room;
-      counts = λ k h. rw no_items (let m = mul-le-mul_right n h in omega (arith, m));
-      begun = rw no_items tt;
-    };
+    lined = no_line s n hi 0 0 curr wide room from no_items;
     few = omega arith;
     reached = omega arith;
     within = omega (arith, low, high);
@@ -147,7 +144,7 @@ module _ (s : Sight) (n hi from last first end : ℕ) (set0 : List Bool) where
       AreSame (length set) (Owed s at [] [] (map going curr.items ++ entering at last) set)
       (Owed s (at + 1) [] [] (map going next.items ++ entering (at + 1) last) set2) →
       length set2 ≡ length set → KeepsMarks set set2 →
-      IsLined n hi 0 (at + 1) insertions2 next → insertions2 ≤ insertions + n →
+      IsLined s n hi 0 (at + 1) insertions2 next → insertions2 ≤ insertions + n →
       IsMarkingFrom s n hi from last (at + 1) insertions2 next set0 set2
   marking_turns at insertions insertions2 curr next set set2 p within turn long more lined few = record {
     same = λ q low. same_then (p.same q low) (turn q (low_in q set0 set p.long low));
@@ -173,13 +170,7 @@ module _ (s : Sight) (n hi from last first end : ℕ) (set0 : List Bool) where
         same = λ p l. same_then (m.same p l) (skipped p no_items i.1);
         long = m.long;
         more = m.more;
-        lined = record {
-          inside = rw no_items tt;
-          width_is = m.lined.width_is;
-          room = m.lined.room;
-          counts = λ k h. rw no_items (let c = mul-le-mul_right n h in omega (arith, c));
-          begun = rw no_items tt;
-        };
+        lined = no_line s n hi 0 insertions curr m.lined.width_is m.lined.room x no_items;
         few = let c : n * (at - from) ≤ n * (x - from) = mul-le-mul_left n (omega (arith, low)) in omega (arith, c, m.few);
         reached = omega (arith, low, m.reached);
         within = omega (arith, most);

@@ -7,6 +7,8 @@ use Rattle.rc_pikevm.specs.Threads.{Thread, ThreadList}
 use Rattle.rc_pikevm.specs.Trace.{Trace, note, starts}
 use Rattle.rc_pikevm.specs.Passing.{pending, Carries, CarriesTo, AllIn, IsLined, IsPassing, IsCounted, waiting_starts, Pending, PendingTo, GivesTrace, GivesTraceTo, best_of}
 use Rattle.rc_pikevm.specs.declared.pass.Ending.{Ending}
+use Rattle.rc_pikevm.specs.Readers.{reader_count}
+use Rattle.rc_pikevm.proofs.LineLemmas.{no_line}
 use Rattle.rc_pikevm.proofs.MoveLemmas.{Ends, EndsTo}
 use Rattle.rc_pikevm.proofs.StartLemmas.{starts_give, waiting_over, starts_skipped}
 
@@ -17,17 +19,6 @@ none_in n lo hi (t ∷ ts) all h = absurd (omega (arith, h, all.0))
 pub no_threads : (ts : List Thread) → length ts ≡ 0 → ts ≡ []
 no_threads [] e = refl
 no_threads (t ∷ ts) e = absurd (omega arith)
-
--- no threads are in line at any position
-pub lined_without : (n hi width at x insertions : ℕ) (curr : ThreadList) → curr.items ≡ [] → IsLined n hi width at insertions curr →
-    IsLined n hi width x insertions curr
-lined_without n hi width at x insertions curr none lined = record {
-  inside = rw none tt;
-  width_is = lined.width_is;
-  room = lined.room;
-  counts = λ k h. rw none (let m = mul-le-mul_right n h in omega (arith, m));
-  begun = rw none tt;
-}
 
 none_before : (x y : ℕ) → x ≤ y → y < x → ⊥
 none_before x y l h = omega arith
@@ -48,17 +39,11 @@ module _ (s : Sight) (n hi width from last : ℕ) where
           IsFirstOf (next_to limit s) (EndsTo limit s) Trace (note s.places) [] (λ q. q ≡ None) (starts width from (last + 1 - from)) o
       all_starts o (over x) = x
 
-  pub passing_begins : (curr : ThreadList) (found : List (Option ℕ)) → curr.items ≡ [] → curr.width ≡ width → curr.room ≡ 4 * n →
+  pub passing_begins : (curr : ThreadList) (found : List (Option ℕ)) → curr.items ≡ [] → curr.width ≡ width → reader_count s.places < curr.room →
       from ≤ last → last ≤ hi → IsPassing s n hi width from last from 0 curr None found
   passing_begins curr found no_items wide room low high = record {
     law = λ o x. begins_to None curr.items found no_items low o x;
-    lined = record {
-      inside = rw no_items tt;
-      width_is = wide;
-      room = room;
-      counts = λ k h. rw no_items (let m = mul-le-mul_right n h in omega (arith, m));
-      begun = rw no_items tt;
-    };
+    lined = no_line s n hi width 0 curr wide room from no_items;
     ended = tt;
     few = omega arith;
     reached = omega arith;
@@ -68,7 +53,7 @@ module _ (s : Sight) (n hi width from last : ℕ) where
   pub passing_turns : (at insertions insertions2 : ℕ) (curr next : ThreadList) (best best2 : Option Ending) (found found2 : List (Option ℕ)) →
       IsPassing s n hi width from last at insertions curr best found → at ≤ hi →
       ((o : Option Trace) → Pending s width last (at + 1) next.items best2 found2 o → Pending s width last at curr.items best found o) →
-      IsLined n hi width (at + 1) insertions2 next → IsCounted insertions2 best2 → insertions2 ≤ insertions + n →
+      IsLined s n hi width (at + 1) insertions2 next → IsCounted insertions2 best2 → insertions2 ≤ insertions + n →
       IsPassing s n hi width from last (at + 1) insertions2 next best2 found2
   passing_turns at insertions insertions2 curr next best best2 found found2 p within turn lined ended few = record {
     law = λ o x. p.law o (turn o x);
@@ -136,7 +121,7 @@ module _ (s : Sight) (n hi width from last : ℕ) where
       let no_items = no_threads curr.items none in
       record {
         law = λ o y. p.law o (skips_carries at x curr best found o none unmatched low no_walk y);
-        lined = lined_without n hi width at x insertions curr no_items p.lined;
+        lined = no_line s n hi width insertions curr p.lined.width_is p.lined.room x no_items;
         ended = p.ended;
         few = let m : n * (at - from) ≤ n * (x - from) = mul-le-mul_left n (omega (arith, low)) in omega (arith, m, p.few);
         reached = omega (arith, low, p.reached);

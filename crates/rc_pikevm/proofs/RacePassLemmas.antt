@@ -13,9 +13,11 @@ use Rattle.rc_pikevm.specs.Trace.{Trace, note, starts, sets_out}
 use Rattle.rc_pikevm.specs.Passing.{pending, IsLined, IsCounted, best_of}
 use Rattle.rc_pikevm.specs.Races.{EndsThere, IsLongestOf, ended, longest, next, upto, Each, AreApart, AreReady, IsRacing, began, leading, kept, Races, IsCutOff, starts_to, GivesLongest, IsRunFrom}
 use Rattle.rc_pikevm.specs.declared.pass.Ending.{Ending}
+use Rattle.rc_pikevm.specs.Readers.{reader_count}
+use Rattle.rc_pikevm.proofs.LineLemmas.{no_line}
 use Rattle.rc_pikevm.proofs.SightLemmas.{last_pair}
 use Rattle.rc_pikevm.proofs.MoveLemmas.{Ends, onward}
-use Rattle.rc_pikevm.proofs.PassingLemmas.{GoesOn, lined_without, none_in, no_threads}
+use Rattle.rc_pikevm.proofs.PassingLemmas.{GoesOn, none_in, no_threads}
 use Rattle.rc_pikevm.proofs.StartLemmas.{waiting_next, waiting_over, waiting_past}
 use Rattle.rc_pikevm.proofs.RaceListLemmas.{upto_in, upto_out, upto_none, upto_append, upto_all, past_upto}
 use Rattle.rc_pikevm.proofs.RaceLemmas.{race_begins, race_turns, race_ends, apart_rising}
@@ -140,7 +142,7 @@ leads_to None found = refl
 leads_to (Some r) found = refl
 
 module _ (s : Sight) (n hi width from last : ℕ) where
-  pub runs_begin : (curr : ThreadList) (found : List (Option ℕ)) → curr.items ≡ [] → curr.width ≡ width → curr.room ≡ 4 * n →
+  pub runs_begin : (curr : ThreadList) (found : List (Option ℕ)) → curr.items ≡ [] → curr.width ≡ width → reader_count s.places < curr.room →
       from ≤ last → last ≤ hi → IsRunFrom s n hi width from last from 0 curr None found
   runs_begin curr found no_items wide room low high = record {
     law = subst (λ ts. Races s (starts_to width from last) from [] [] (map pending ts ++ starts_to width from last) None found) (sym no_items)
@@ -148,13 +150,7 @@ module _ (s : Sight) (n hi width from last : ℕ) where
         (starts_ready width from from (last + 1 - from) (omega arith))
         (apart_rising (next_of s) (Ends s) Trace (note s.places) began (note_keeps s.places) same_pair (last_pair s) (onward s) (starts_to width from last)
         (starts_apart width from (last + 1 - from))));
-    lined = record {
-      inside = rw no_items tt;
-      width_is = wide;
-      room = room;
-      counts = λ k h. rw no_items (let m = mul-le-mul_right n h in omega (arith, m));
-      begun = rw no_items tt;
-    };
+    lined = no_line s n hi width 0 curr wide room from no_items;
     ended = tt;
     few = omega arith;
     reached = omega arith;
@@ -165,7 +161,7 @@ module _ (s : Sight) (n hi width from last : ℕ) where
       IsRunFrom s n hi width from last at insertions curr best found → at ≤ hi →
       ((all : List (Trace × Pair)) → Races s all at [] [] (map pending curr.items ++ starts_to width at last) best found →
       Races s all (at + 1) [] [] (map pending threads.items ++ starts_to width (at + 1) last) best2 found2) →
-      IsLined n hi width (at + 1) insertions2 threads → IsCounted insertions2 best2 → insertions2 ≤ insertions + n →
+      IsLined s n hi width (at + 1) insertions2 threads → IsCounted insertions2 best2 → insertions2 ≤ insertions + n →
       IsRunFrom s n hi width from last (at + 1) insertions2 threads best2 found2
   runs_turn at insertions insertions2 curr threads best best2 found found2 p within turn lined counted few = record {
     law = turn (starts_to width from last) p.law;
@@ -232,7 +228,7 @@ module _ (s : Sight) (n hi width from last : ℕ) where
   runs_skip at x insertions curr found p no_items low high none = record {
     law = subst (λ ts. Races s (starts_to width from last) x [] [] (map pending ts ++ starts_to width x last) None found) (sym no_items)
         (raced_jumps s (starts_to width from last) width last at x low none (alone at insertions curr None found p no_items));
-    lined = lined_without n hi width at x insertions curr no_items p.lined;
+    lined = no_line s n hi width insertions curr p.lined.width_is p.lined.room x no_items;
     ended = p.ended;
     few = let m : n * (at - from) ≤ n * (x - from) = mul-le-mul_left n (omega (arith, low)) in omega (arith, m, p.few);
     reached = omega (arith, low, p.reached);

@@ -10,6 +10,7 @@ use Rattle.rc_pikevm.specs.Spread.{StaysCounted}
 use Rattle.rc_pikevm.specs.Races.{Races, IsSought, IsCutOff, IsRunOn}
 use Rattle.rc_pikevm.specs.Entrances.{IsWayIn}
 use Rattle.rc_pikevm.specs.declared.pass.Ending.{Ending}
+use Rattle.rc_pikevm.specs.Waiting.{still}
 use Rattle.rc_pikevm.proofs.StepLemmas.{from_at, gone_closes, gone_drops, gone_waits, next_left, waits_here}
 use Rattle.rc_pikevm.proofs.RaceMoveLemmas.{raced_drops, raced_waits, raced_way_in}
 
@@ -34,7 +35,7 @@ module _ (s : Sight) (n hi at : ℕ) (all : List Thread) (threads0 : ThreadList)
     }
 
     -- a thread that goes on later waits
-    pub run_waits : (threads2 : ThreadList) → IsSought best t.start → at < t.at → count_from (at + 1) all + n ≤ threads0.room →
+    pub run_waits : (threads2 : ThreadList) → IsSought best t.start → at < t.at → count_from (at + 1) all + still s at (at + 1) [] < threads0.room →
         threads2 ≡ record threads { items = threads.items ++ t ∷ [] } →
         IsRunOn s n hi at all (drop (index + 1) all) threads0 best0 found0 threads2 entered best found
     run_waits threads2 sought later room e = rw e (record {
@@ -50,7 +51,7 @@ module _ (s : Sight) (n hi at : ℕ) (all : List Thread) (threads0 : ThreadList)
         (slots : List (Option ℕ)) → IsSought best t.start → t.at ≤ at → t.slots ≡ slots → IsWayIn s at entered.items t.place place →
         ((from below : List (Trace × Pair)) → Races s from at threads.items entered.items ((trace t.start slots, (place, at)) ∷ below) best found →
         Races s from at threads2.items entered2.items below best2 found2) →
-        IsGrown n hi t.start at threads entered threads2 entered2 → StaysCounted t.start at best best2 → 0 < length entered2.items →
+        IsGrown s n hi t.start at threads entered threads2 entered2 → StaysCounted t.start at best best2 → 0 < length entered2.items →
         IsRunOn s n hi at all (drop (index + 1) all) threads0 best0 found0 threads2 entered2 best2 found2
     run_closes threads2 entered2 best2 found2 place slots sought now same way closing grown stays some = record {
       races = λ from below x.

@@ -15,6 +15,8 @@ use Rattle.rc_pikevm.specs.Threads.{Thread, ThreadList}
 use Rattle.rc_pikevm.specs.Passing.{AllIn, AllFrom, IsLined, IsCounted}
 use Rattle.rc_pikevm.specs.Spread.{running, SomeSpells, IsTop, Seeks, Offers, span_of, setting_out, starting, IsOrdered, IsCovering}
 use Rattle.rc_pikevm.specs.declared.pass.Ending.{Ending}
+use Rattle.rc_pikevm.specs.Readers.{reader_count}
+use Rattle.rc_pikevm.proofs.LineLemmas.{no_line}
 use Rattle.rc_pikevm.proofs.SpreadLemmas.{top_back, no_greater_self}
 use Rattle.rc_pikevm.proofs.SpreadStepLemmas.{starting_over}
 
@@ -35,17 +37,11 @@ no_threads [] e = refl
 no_threads (t ∷ ts) e = absurd (omega (arith, e))
 
 module _ (s : Sight) (n hi from last : ℕ) where
-  pub covering_begins : (curr : ThreadList) → curr.items ≡ [] → curr.width ≡ 0 → curr.room ≡ 4 * n → from ≤ last → last ≤ hi →
+  pub covering_begins : (curr : ThreadList) → curr.items ≡ [] → curr.width ≡ 0 → reader_count s.places < curr.room → from ≤ last → last ≤ hi →
       IsCovering s n hi from last from 0 curr None
   covering_begins curr no_items wide room low high = record {
     seeks = λ o x. subst (λ ts. Seeks s from [] [] (map running ts ++ starting from last) None o) no_items x;
-    lined = record {
-      inside = rw no_items tt;
-      width_is = wide;
-      room = room;
-      counts = λ k h. rw no_items (let m = mul-le-mul_right n h in omega (arith, m));
-      begun = rw no_items tt;
-    };
+    lined = no_line s n hi 0 0 curr wide room from no_items;
     ordered = rw no_items (record { rising = tt; before = tt });
     ended = tt;
     few = omega arith;
@@ -57,7 +53,7 @@ module _ (s : Sight) (n hi from last : ℕ) where
       IsCovering s n hi from last at insertions curr best → at ≤ hi →
       ((o : Option Found) → Seeks s (at + 1) [] [] (map running next.items ++ starting (at + 1) last) best2 o →
       Seeks s at [] [] (map running curr.items ++ starting at last) best o) →
-      IsLined n hi 0 (at + 1) insertions2 next → IsOrdered (at + 1) next.items → IsCounted insertions2 best2 → insertions2 ≤ insertions + n →
+      IsLined s n hi 0 (at + 1) insertions2 next → IsOrdered (at + 1) next.items → IsCounted insertions2 best2 → insertions2 ≤ insertions + n →
       IsCovering s n hi from last (at + 1) insertions2 next best2
   covering_turns at insertions insertions2 curr next best best2 p within turn lined ordered ended few = record {
     seeks = λ o x. p.seeks o (turn o x);

@@ -8,6 +8,7 @@ use Rattle.rc_pikevm.specs.Threads.{Thread, ThreadList}
 use Rattle.rc_pikevm.specs.Passing.{AllIn, AllFrom, count_from, IsGrown}
 use Rattle.rc_pikevm.specs.Spread.{Runner, running, Seeks, BeginFrom, AllBefore, IsRising, IsOrdered, StaysCounted, IsSpreading, setting_out, starting}
 use Rattle.rc_pikevm.specs.declared.pass.Ending.{Ending}
+use Rattle.rc_pikevm.specs.Waiting.{still}
 use Rattle.rc_pikevm.proofs.StepLemmas.{from_at, gone_begins, gone_closes, gone_waits, next_left, waits_here}
 use Rattle.rc_pikevm.proofs.SpreadLemmas.{AllLater}
 use Rattle.rc_pikevm.proofs.SpreadMoveLemmas.{later_waits, ordered_push, ordered_wider}
@@ -40,7 +41,7 @@ all_from_zero [] = tt
 all_from_zero (t ∷ ts) = (omega arith, all_from_zero ts)
 
 module _ (s : Sight) (n hi at : ℕ) (all : List Thread) (threads0 : ThreadList) (best0 : Option Ending) where
-  pub spreading_begins : (entered : Members) → threads0.items ≡ [] → entered.items ≡ [] → entered.capacity ≡ n → n ≤ threads0.room → IsOrdered at all →
+  pub spreading_begins : (entered : Members) → threads0.items ≡ [] → entered.items ≡ [] → entered.capacity ≡ n → still s at (at + 1) [] < threads0.room → IsOrdered at all →
       IsSpreading s n hi at all all threads0 best0 threads0 entered best0
   spreading_begins entered no_threads no_places capacity room ordered = record {
     seeks = λ below o low x.
@@ -75,7 +76,7 @@ module _ (s : Sight) (n hi at : ℕ) (all : List Thread) (threads0 : ThreadList)
     ordered_here = ordered_wider so_far.reached t.start threads.items from_here.0 so_far.ordered
 
     -- a thread that goes on later waits
-    pub spreading_waits : (threads2 : ThreadList) → at < t.at → count_from (at + 1) all + n ≤ threads0.room →
+    pub spreading_waits : (threads2 : ThreadList) → at < t.at → count_from (at + 1) all + still s at (at + 1) [] < threads0.room →
         threads2 ≡ record threads { items = threads.items ++ t ∷ [] } →
         IsSpreading s n hi at all (drop (index + 1) all) threads0 best0 threads2 entered best
     spreading_waits threads2 later room e = rw e (record {
@@ -98,7 +99,7 @@ module _ (s : Sight) (n hi at : ℕ) (all : List Thread) (threads0 : ThreadList)
     pub spreading_closes : (threads2 : ThreadList) (entered2 : Members) (best2 : Option Ending) → t.at ≤ at →
         ((below : List Runner) (o : Option Found) → BeginFrom t.start below → Seeks s at threads2.items entered2.items below best2 o →
         Seeks s at threads.items entered.items ((t.start, (t.place, at)) ∷ below) best o) →
-        IsGrown n hi t.start at threads entered threads2 entered2 → IsOrdered t.start threads2.items → StaysCounted t.start at best best2 →
+        IsGrown s n hi t.start at threads entered threads2 entered2 → IsOrdered t.start threads2.items → StaysCounted t.start at best best2 →
         0 < length entered2.items →
         IsSpreading s n hi at all (drop (index + 1) all) threads0 best0 threads2 entered2 best2
     spreading_closes threads2 entered2 best2 now closing grown ordered stays some = record {

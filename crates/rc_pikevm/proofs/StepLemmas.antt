@@ -10,6 +10,7 @@ use Rattle.rc_pikevm.specs.Threads.{Thread, ThreadList}
 use Rattle.rc_pikevm.specs.Trace.{Trace, trace}
 use Rattle.rc_pikevm.specs.Passing.{pending, CarriesTo, AllIn, AllFrom, count_from, IsGrown}
 use Rattle.rc_pikevm.specs.Steps.{HasGone, IsStepping}
+use Rattle.rc_pikevm.specs.Waiting.{still}
 use Rattle.rc_pikevm.proofs.MoveLemmas.{waited}
 use Rattle.rc_pikevm.proofs.GrownLemmas.{count_push, count_all, in_push, from_push}
 
@@ -35,9 +36,9 @@ over [] (suc k) h = refl
 over (t ∷ ts) zero h = absurd (omega (arith, h))
 over (t ∷ ts) (suc k) h = over ts k (omega (arith, h))
 
-module _ {n hi at : ℕ} {all : List Thread} {threads0 : ThreadList} where
-  pub gone_begins : {entered : Members} → threads0.items ≡ [] → entered.items ≡ [] → entered.capacity ≡ n → n ≤ threads0.room →
-      HasGone n hi at all all threads0 threads0 entered
+module _ {s : Sight} {n hi at : ℕ} {all : List Thread} {threads0 : ThreadList} where
+  pub gone_begins : {entered : Members} → threads0.items ≡ [] → entered.items ≡ [] → entered.capacity ≡ n → still s at (at + 1) [] < threads0.room →
+      HasGone s n hi at all all threads0 threads0 entered
   gone_begins no_threads no_places capacity room = record {
     sound = record {
       capacity = capacity;
@@ -53,8 +54,8 @@ module _ {n hi at : ℕ} {all : List Thread} {threads0 : ThreadList} where
   }
 
   -- those that are left are dropped
-  pub gone_all : {left : List Thread} {threads : ThreadList} {entered : Members} → HasGone n hi at all left threads0 threads entered →
-      HasGone n hi at all [] threads0 threads entered
+  pub gone_all : {left : List Thread} {threads : ThreadList} {entered : Members} → HasGone s n hi at all left threads0 threads entered →
+      HasGone s n hi at all [] threads0 threads entered
   gone_all gone = record {
     sound = gone.sound;
     same_room = gone.same_room;
@@ -65,8 +66,8 @@ module _ {n hi at : ℕ} {all : List Thread} {threads0 : ThreadList} where
   }
 
   -- a thread that sets out at the position goes on
-  pub gone_then : {threads threads2 : ThreadList} {entered entered2 : Members} → HasGone n hi at all [] threads0 threads entered →
-      IsGrown n hi at at threads entered threads2 entered2 → HasGone n hi at all [] threads0 threads2 entered2
+  pub gone_then : {threads threads2 : ThreadList} {entered entered2 : Members} → HasGone s n hi at all [] threads0 threads entered →
+      IsGrown s n hi at at threads entered threads2 entered2 → HasGone s n hi at all [] threads0 threads2 entered2
   gone_then gone grown = record {
     sound = grown.sound;
     same_room = grown.same_room ∙ gone.same_room;
@@ -77,25 +78,25 @@ module _ {n hi at : ℕ} {all : List Thread} {threads0 : ThreadList} where
   }
 
   module _ {threads : ThreadList} {entered : Members} (index : ℕ) {t : Thread} (item : slice_get all index ≡ Some t)
-      (inside : AllIn n at (min hi (at + 3)) all) (gone : HasGone n hi at all (drop index all) threads0 threads entered) where
+      (inside : AllIn n at (min hi (at + 3)) all) (gone : HasGone s n hi at all (drop index all) threads0 threads entered) where
     pub next_left : drop index all ≡ t ∷ drop (index + 1) all
     next_left = drop_get all index t item ∙ ap (λ k. t ∷ drop k all) (sym (add-one index))
 
     pub waits_here : t.at ≤ at → t.at ≡ at
     waits_here now = let i = in_at n at (min hi (at + 3)) all index t inside item in omega (arith, i.1, now)
 
-    counted : (q : ℕ) → count_from q threads.items + ((if nat_le q t.at then 1 else 0) + count_from q (drop (index + 1) all)) ≤ count_from q all + length entered.items
-    counted q = subst (λ ts. count_from q threads.items + count_from q ts ≤ count_from q all + length entered.items) next_left (gone.counts q)
+    counted : (q : ℕ) → count_from q threads.items + ((if nat_le q t.at then 1 else 0) + count_from q (drop (index + 1) all)) + still s at q entered.items ≤ count_from q all + still s at q []
+    counted q = subst (λ ts. count_from q threads.items + count_from q ts + still s at q entered.items ≤ count_from q all + still s at q []) next_left (gone.counts q)
 
     -- there is room for a thread that waits
-    pub gone_fits : at < t.at → count_from (at + 1) all + n ≤ threads0.room → length threads.items < threads.room
+    pub gone_fits : at < t.at → count_from (at + 1) all + still s at (at + 1) [] < threads0.room → length threads.items < threads.room
     gone_fits later room =
         let c = rw (le-leb (at + 1) t.at (omega arith)) at (counted (at + 1)) in
         let l = count_all n (at + 1) (min hi (at + 4)) (at + 1) threads.items gone.sound.inside (omega arith) in
-        omega (arith, c, l, gone.same_room, gone.sound.few)
+        omega (arith, c, l, gone.same_room, room)
 
     -- the thread is dropped
-    pub gone_drops : HasGone n hi at all (drop (index + 1) all) threads0 threads entered
+    pub gone_drops : HasGone s n hi at all (drop (index + 1) all) threads0 threads entered
     gone_drops = record {
       sound = gone.sound;
       same_room = gone.same_room;
@@ -106,8 +107,8 @@ module _ {n hi at : ℕ} {all : List Thread} {threads0 : ThreadList} where
     }
 
     -- it goes on later, and waits
-    pub gone_waits : at < t.at → count_from (at + 1) all + n ≤ threads0.room →
-        HasGone n hi at all (drop (index + 1) all) threads0 (record threads { items = threads.items ++ t ∷ [] }) entered
+    pub gone_waits : at < t.at → count_from (at + 1) all + still s at (at + 1) [] < threads0.room →
+        HasGone s n hi at all (drop (index + 1) all) threads0 (record threads { items = threads.items ++ t ∷ [] }) entered
     gone_waits later room = record {
       sound = record {
         capacity = gone.sound.capacity;
@@ -115,7 +116,7 @@ module _ {n hi at : ℕ} {all : List Thread} {threads0 : ThreadList} where
         room = rw length_push (
             let c = rw (le-leb (at + 1) t.at (omega arith)) at (counted (at + 1)) in
             let l = count_all n (at + 1) (min hi (at + 4)) (at + 1) threads.items gone.sound.inside (omega arith) in
-            omega (arith, c, l, gone.same_room));
+            omega (arith, c, l, gone.same_room, room));
         inside = let i = in_at n at (min hi (at + 3)) all index t inside item in
             in_push n (at + 1) (min hi (at + 4)) threads.items t gone.sound.inside (i.0, omega (arith, later), omega (arith, i.2));
       };
@@ -127,8 +128,8 @@ module _ {n hi at : ℕ} {all : List Thread} {threads0 : ThreadList} where
     }
 
     -- it goes on here
-    pub gone_closes : {threads2 : ThreadList} {entered2 : Members} → IsGrown n hi t.start at threads entered threads2 entered2 →
-        HasGone n hi at all (drop (index + 1) all) threads0 threads2 entered2
+    pub gone_closes : {threads2 : ThreadList} {entered2 : Members} → IsGrown s n hi t.start at threads entered threads2 entered2 →
+        HasGone s n hi at all (drop (index + 1) all) threads0 threads2 entered2
     gone_closes grown = record {
       sound = grown.sound;
       same_room = grown.same_room ∙ gone.same_room;
@@ -139,7 +140,7 @@ module _ {n hi at : ℕ} {all : List Thread} {threads0 : ThreadList} where
     }
 
 module _ (s : Sight) (n hi at : ℕ) (all : List Thread) (threads0 : ThreadList) where
-  pub stepping_begins : (entered : Members) → threads0.items ≡ [] → entered.items ≡ [] → entered.capacity ≡ n → n ≤ threads0.room →
+  pub stepping_begins : (entered : Members) → threads0.items ≡ [] → entered.items ≡ [] → entered.capacity ≡ n → still s at (at + 1) [] < threads0.room →
       IsStepping s n hi at all all threads0 threads0 entered
   stepping_begins entered no_threads no_places capacity room = record {
     carries = λ limit le below best o x.
@@ -152,7 +153,7 @@ module _ (s : Sight) (n hi at : ℕ) (all : List Thread) (threads0 : ThreadList)
   module _ (threads : ThreadList) (entered : Members) (index : ℕ) (t : Thread) (item : slice_get all index ≡ Some t)
       (inside : AllIn n at (min hi (at + 3)) all) (stepping : IsStepping s n hi at all (drop index all) threads0 threads entered) where
     -- a thread that goes on later waits
-    pub stepping_waits : (threads2 : ThreadList) → at < t.at → count_from (at + 1) all + n ≤ threads0.room →
+    pub stepping_waits : (threads2 : ThreadList) → at < t.at → count_from (at + 1) all + still s at (at + 1) [] < threads0.room →
         threads2 ≡ record threads { items = threads.items ++ t ∷ [] } → IsStepping s n hi at all (drop (index + 1) all) threads0 threads2 entered
     stepping_waits threads2 later room e = rw e (record {
       carries = λ limit le below best o x.

@@ -9,6 +9,7 @@ use Rattle.rc_pikevm.specs.Rules.{GivesBy, IsUnderWay, MayEnter, TellsBy, Turns,
 use Rattle.rc_pikevm.specs.declared.pass.Ending.{Ending}
 use Rattle.rc_pikevm.specs.declared.rule.Rule.{Rule}
 use Rattle.rc_pikevm.specs.declared.rule.Rule.TheVariants.{First, Longest}
+use Rattle.rc_pikevm.specs.Readers.{reader_count}
 use Rattle.rc_pikevm.proofs.PassingLemmas.{GoesOn, passing_begins, passing_goes_on, passing_gives_up, passing_turns, passing_stops, passing_over, passing_ends}
 use Rattle.rc_pikevm.proofs.RacePassLemmas.{runs_begin, runs_turn, runs_spent, runs_stop, runs_end, runs_go_on, runs_give_up}
 use Rattle.rc_pikevm.proofs.EarlyLemmas.{early_tells_if, whole_tells}
@@ -25,7 +26,7 @@ cut_found (Some r) at cut = refl
 
 -- the pass begins
 pub begins_by : (rule : Rule) (s : Sight) (n hi width from last : ℕ) (curr : ThreadList) (found : List (Option ℕ)) →
-    curr.items ≡ [] → curr.width ≡ width → curr.room ≡ 4 * n → from ≤ last → last ≤ hi → IsUnderWay rule s n hi width from last from 0 curr None found
+    curr.items ≡ [] → curr.width ≡ width → reader_count s.places < curr.room → from ≤ last → last ≤ hi → IsUnderWay rule s n hi width from last from 0 curr None found
 begins_by (First root) s n hi width from last curr found a b c d e =
     passing_begins s n hi width from last curr found a b c d e
 begins_by Longest s n hi width from last curr found a b c d e =
@@ -43,7 +44,7 @@ goes_on_by Longest s n hi width from last at x insertions idle curr best found u
 -- all threads go on
 pub turns_by : (rule : Rule) (s : Sight) (n hi width from last : ℕ) (at insertions insertions2 : ℕ) (curr next : ThreadList) (best best2 : Option Ending) (found found2 : List (Option ℕ)) →
     IsUnderWay rule s n hi width from last at insertions curr best found → at ≤ hi →
-    Turns rule s width last at curr next best best2 found found2 → IsLined n hi width (at + 1) insertions2 next → IsCounted insertions2 best2 →
+    Turns rule s width last at curr next best best2 found found2 → IsLined s n hi width (at + 1) insertions2 next → IsCounted insertions2 best2 →
     insertions2 ≤ insertions + n → IsUnderWay rule s n hi width from last (at + 1) insertions2 next best2 found2
 turns_by (First root) s n hi width from last at insertions insertions2 curr next best best2 found found2 u a b c d e =
     passing_turns s n hi width from last at insertions insertions2 curr next best best2 found found2 u a b c d e

@@ -6,7 +6,8 @@ use Rattle.rc_pikevm.specs.Sparse.{Members}
 use Rattle.rc_pikevm.specs.Threads.{ThreadList}
 use Rattle.rc_pikevm.specs.Entered.{IsVisited}
 use Rattle.rc_pikevm.specs.Entrances.{IsWayIn}
-use Rattle.rc_pikevm.specs.Near.{size}
+use Rattle.rc_text.specs.Text.{Searched}
+use Rattle.rc_pikevm.specs.Near.{seen_from, size}
 use Rattle.rc_pikevm.specs.Passing.{AllInside, HasRoom, IsGrown}
 use Rattle.rc_pikevm.specs.declared.growth.Frame.{Frame}
 use Rattle.rc_pikevm.specs.declared.growth.Frame.TheVariants.{Explore, Restore}
@@ -45,12 +46,12 @@ pub record Closes (s : Sight) (at start : ℕ) (from : Closure) (told : Option �
   pub empty : told ≡ None → c.frames ≡ []
 
 -- The threads and places that a closure adds at the spot.
-abbrev pub Grows : Spot → ℕ → Growth → Growth → Type 0
-Grows spot start g0 g = IsGrown (size spot.course) spot.course.hi start spot.at g0.threads g0.entered g.threads g.entered
+abbrev pub Grows : Spot → Searched → ℕ → Growth → Growth → Type 0
+Grows spot text start g0 g = IsGrown (seen_from spot text) (size spot.course) spot.course.hi start spot.at g0.threads g0.entered g.threads g.entered
 
 -- There is room at the spot, and all frames are inside.
-pub record IsExploring (spot : Spot) (g : Growth) : Type 0 where
-  pub sound : HasRoom (size spot.course) spot.course.hi spot.at g.threads g.entered
+pub record IsExploring (spot : Spot) (text : Searched) (g : Growth) : Type 0 where
+  pub sound : HasRoom (seen_from spot text) (size spot.course) spot.course.hi spot.at g.threads g.entered
   pub some : 0 < length g.entered.items
   pub frames : AllInside (size spot.course) g.threads.width (reverse g.stack.items)
   pub deep : vec_len g.stack ≤ length g.entered.items + 1

@@ -25,3 +25,5 @@ pub mod Races
 pub mod Reach
 pub mod Rules
 pub mod Alone
+pub mod Readers
+pub mod Waiting

@@ -72,7 +72,7 @@ pub record IsSettingOut (s : Sight) (n hi at front : ℕ) (threads0 : ThreadList
       (Owed s at threads.items entered.items ((front, at) ∷ below) set)
   pub long : length set ≡ length set0
   pub more : KeepsMarks set0 set
-  pub grown : IsGrown n hi at at threads0 entered0 threads entered
+  pub grown : IsGrown s n hi at at threads0 entered0 threads entered
 
 -- The threads of a position have gone on so far: `left` are those still to go on.
 pub record IsMarkingOn (s : Sight) (n hi at : ℕ) (all left : List Thread) (threads0 : ThreadList) (set0 : List Bool)
@@ -81,14 +81,14 @@ pub record IsMarkingOn (s : Sight) (n hi at : ℕ) (all left : List Thread) (thr
       (Owed s at threads.items entered.items (map going left ++ below) set)
   pub long : length set ≡ length set0
   pub more : KeepsMarks set0 set
-  pub gone : HasGone n hi at all left threads0 threads entered
+  pub gone : HasGone s n hi at all left threads0 threads entered
 
 -- The pass from the start `from` has come to the position `at`.
 pub record IsMarkingFrom (s : Sight) (n hi from last at insertions : ℕ) (curr : ThreadList) (set0 set : List Bool) : Type 0 where
   pub same : AreSame (length set0) (Owed s from [] [] (entering from last) set0) (Owed s at [] [] (map going curr.items ++ entering at last) set)
   pub long : length set ≡ length set0
   pub more : KeepsMarks set0 set
-  pub lined : IsLined n hi 0 at insertions curr
+  pub lined : IsLined s n hi 0 at insertions curr
   pub few : insertions ≤ n * (at - from)
   pub reached : from ≤ at
   pub within : at ≤ hi + 1

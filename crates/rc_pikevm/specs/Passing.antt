@@ -1,9 +1,13 @@
 -- Only proofs use this file.
 -- The Pike VM: what one pass over a text keeps.
 use Rattle.std.specs.Prelude.{◌≡◌, ℕ, ◌+◌, ◌-◌, ◌<◌, ◌≤◌, ◌⊎◌, Bool, List, [], ◌∷◌, ◌++◌, length, map, reverse, Option, Some, None, IsTrue, slice_set, slice_index_or, if◌then◌else◌, is_none, option_map, nat_lt, nat_le, min, ◌*◌, MatchOption}
+use Rattle.rc_program.specs.Scalars.{scalar_at}
+use Rattle.rc_program.specs.Text.{ahead}
 use Rattle.rc_walks.specs.Walks.{Pair}
 use Rattle.rc_walks.specs.Threads.{Pends, noted}
 use Rattle.rc_pikevm.specs.Sights.{Sight, IsFirstFrom, IsFirstTo, HasNoWalkFrom, HasNoWalkTo, ends_to, next_to}
+use Rattle.rc_pikevm.specs.Readers.{count_of, reader_count}
+use Rattle.rc_pikevm.specs.Waiting.{reads_scalar, still}
 use Rattle.rc_pikevm.specs.Sparse.{Members}
 use Rattle.rc_pikevm.specs.Threads.{Thread, ThreadList}
 use Rattle.rc_pikevm.specs.Trace.{Trace, note, trace, done, starts, sets_out}
@@ -84,23 +88,24 @@ abbrev pub count_from : ℕ → List Thread → ℕ
 count_from q [] = 0
 count_from q (t ∷ ts) = (if nat_le q t.at then 1 else 0) + count_from q ts
 
--- There is room, and all places are among the n; no thread goes on past hi.
-pub record HasRoom (n hi at : ℕ) (threads : ThreadList) (entered : Members) : Type 0 where
+-- There is room for all threads that places may still give, and all places are among the n; no
+-- thread goes on past hi.
+pub record HasRoom (s : Sight) (n hi at : ℕ) (threads : ThreadList) (entered : Members) : Type 0 where
   pub capacity : entered.capacity ≡ n
   pub few : length entered.items ≤ n
-  pub room : length threads.items + n ≤ threads.room + length entered.items
+  pub room : length threads.items + still s at (at + 1) entered.items < threads.room
   pub inside : AllIn n (at + 1) (min hi (at + 4)) threads.items
 
 -- The threads and places that the closure of a thread that began at `start` adds at the position
 -- `at`.
-pub record IsGrown (n hi start at : ℕ) (threads0 : ThreadList) (entered0 : Members) (threads : ThreadList) (entered : Members) : Type 0 where
-  pub sound : HasRoom n hi at threads entered
+pub record IsGrown (s : Sight) (n hi start at : ℕ) (threads0 : ThreadList) (entered0 : Members) (threads : ThreadList) (entered : Members) : Type 0 where
+  pub sound : HasRoom s n hi at threads entered
   pub same_room : threads.room ≡ threads0.room
   pub same_most : threads.most ≡ threads0.most
   pub same_width : threads.width ≡ threads0.width
   pub more : length entered0.items ≤ length entered.items
   -- Each new thread comes from a place that was entered.
-  pub counts : (q : ℕ) → count_from q threads.items + length entered0.items ≤ count_from q threads0.items + length entered.items
+  pub counts : (q : ℕ) → count_from q threads.items + still s at q entered.items ≤ count_from q threads0.items + still s at q entered0.items
   pub begun : (x : ℕ) → x ≤ start → AllFrom x threads0.items → AllFrom x threads.items
 
 -- The starts from `at` to `last`, as long as none has given a match.
@@ -135,13 +140,14 @@ PendingTo limit s width last at curr best found o =
 abbrev pub Pending : Sight → ℕ → ℕ → ℕ → List Thread → Option Ending → List (Option ℕ) → Option Trace → Type 0
 Pending s width last at curr best found o = PendingTo None s width last at curr best found o
 
--- The threads wait for `at` or later, and are few enough for the next list. Each position since a
--- thread's walk began was counted.
-pub record IsLined (n hi width at insertions : ℕ) (curr : ThreadList) : Type 0 where
+-- The threads wait for `at` or later. Those that wait longer are within a scalar, so none begins
+-- before they go on. Each position since a thread's walk began was counted.
+pub record IsLined (s : Sight) (n hi width at insertions : ℕ) (curr : ThreadList) : Type 0 where
   pub inside : AllIn n at (min hi (at + 3)) curr.items
   pub width_is : curr.width ≡ width
-  pub room : curr.room ≡ 4 * n
-  pub counts : (k : ℕ) → k ≤ 3 → count_from (at + k) curr.items + k * n ≤ 4 * n
+  pub room : reader_count s.places < curr.room
+  pub waiting : count_from (at + 1) curr.items ≤ count_of reads_scalar s.places
+  pub within : (x : ℕ) → at ≤ x → 0 < count_from (x + 1) curr.items → scalar_at (ahead s.text s.hi x) ≡ None
   pub begun : AllFrom (at - insertions) curr.items
 
 -- Each position of the walk was counted.
@@ -149,9 +155,9 @@ abbrev pub IsCounted : ℕ → Option Ending → Type 0
 IsCounted insertions best = MatchOption best (Unit {0}) (λ (r : Ending). r.end + 1 ≤ insertions + r.start)
 
 -- A pass from the start `from` has come to the position `at`, where the law holds.
-pub record IsCome (Law : Type 0) (n hi width from at insertions : ℕ) (curr : ThreadList) (best : Option Ending) : Type 0 where
+pub record IsCome (Law : Type 0) (s : Sight) (n hi width from at insertions : ℕ) (curr : ThreadList) (best : Option Ending) : Type 0 where
   pub law : Law
-  pub lined : IsLined n hi width at insertions curr
+  pub lined : IsLined s n hi width at insertions curr
   pub ended : IsCounted insertions best
   pub few : insertions ≤ n * (at - from)
   pub reached : from ≤ at
@@ -160,4 +166,4 @@ pub record IsCome (Law : Type 0) (n hi width from at insertions : ℕ) (curr : T
 -- The pass for the first walk has come there.
 abbrev pub IsPassing : Sight → ℕ → ℕ → ℕ → ℕ → ℕ → ℕ → ℕ → ThreadList → Option Ending → List (Option ℕ) → Type 0
 IsPassing s n hi width from last at insertions curr best found =
-    IsCome ((o : Option Trace) → Pending s width last at curr.items best found o → GivesTrace s width from last o) n hi width from at insertions curr best
+    IsCome ((o : Option Trace) → Pending s width last at curr.items best found o → GivesTrace s width from last o) s n hi width from at insertions curr best

@@ -152,11 +152,11 @@ pub record IsRunOn (s : Sight) (n hi at : ℕ) (all left : List Thread) (threads
     (threads : ThreadList) (entered : Members) (best : Option Ending) (found : List (Option ℕ)) : Type 0 where
   pub races : (from below : List (Trace × Pair)) → Races s from at [] [] (map pending all ++ below) best0 found0 →
       Races s from at threads.items entered.items (map pending left ++ below) best found
-  pub gone : HasGone n hi at all left threads0 threads entered
+  pub gone : HasGone s n hi at all left threads0 threads entered
   pub counted : (k : ℕ) → AllFrom (at + 1 - k) all → IsCounted k best0 → IsCounted k best
   pub still : (best ≡ best0) ⊎ (0 < length entered.items)
 
 -- The pass for the longest walk, from the start `from`, has come to the position `at`.
 abbrev pub IsRunFrom : Sight → ℕ → ℕ → ℕ → ℕ → ℕ → ℕ → ℕ → ThreadList → Option Ending → List (Option ℕ) → Type 0
 IsRunFrom s n hi width from last at insertions curr best found =
-    IsCome (Races s (starts_to width from last) at [] [] (map pending curr.items ++ starts_to width at last) best found) n hi width from at insertions curr best
+    IsCome (Races s (starts_to width from last) at [] [] (map pending curr.items ++ starts_to width at last) best found) s n hi width from at insertions curr best

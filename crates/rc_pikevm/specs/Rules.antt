@@ -53,7 +53,7 @@ abbrev pub IsUnderWay : Rule → Sight → ℕ → ℕ → ℕ → ℕ → ℕ �
 IsUnderWay rule s n hi width from last at insertions curr best found =
     IsCome
     (Under rule ((o : Option Trace) → Pending s width last at curr.items best found o → GivesTrace s width from last o)
-    (Races s (starts_to width from last) at [] [] (map pending curr.items ++ starts_to width at last) best found)) n hi width from at insertions curr best
+    (Races s (starts_to width from last) at [] [] (map pending curr.items ++ starts_to width at last) best found)) s n hi width from at insertions curr best
 
 -- What is under way before the next position gives what is under way before `at`.
 abbrev pub Turns : Rule → Sight → ℕ → ℕ → ℕ → ThreadList → ThreadList → Option Ending → Option Ending → List (Option ℕ) → List (Option ℕ) → Type 0

@@ -103,7 +103,7 @@ pub record IsSpreading (s : Sight) (n hi at : ℕ) (all left : List Thread) (thr
     (threads : ThreadList) (entered : Members) (best : Option Ending) : Type 0 where
   pub seeks : (below : List Runner) (o : Option Found) → BeginFrom at below →
       Seeks s at threads.items entered.items (map running left ++ below) best o → Seeks s at [] [] (map running all ++ below) best0 o
-  pub gone : HasGone n hi at all left threads0 threads entered
+  pub gone : HasGone s n hi at all left threads0 threads entered
   pub some : (length all ≤ length left) ⊎ (0 < length threads.items + length entered.items)
   -- The starts so far are at most this one, and those to come at least.
   pub reached : ℕ
@@ -118,7 +118,7 @@ pub record IsSpreading (s : Sight) (n hi at : ℕ) (all left : List Thread) (thr
 pub record IsCovering (s : Sight) (n hi from last at insertions : ℕ) (curr : ThreadList) (best : Option Ending) : Type 0 where
   pub seeks : (o : Option Found) → Seeks s at [] [] (map running curr.items ++ starting at last) best o →
       Seeks s from [] [] (starting from last) None o
-  pub lined : IsLined n hi 0 at insertions curr
+  pub lined : IsLined s n hi 0 at insertions curr
   pub ordered : IsOrdered at curr.items
   pub ended : IsCounted insertions best
   pub few : insertions ≤ n * (at - from)

@@ -13,8 +13,8 @@ use Rattle.rc_pikevm.specs.declared.scratch.Scratch.{Scratch}
 use Rattle.rc_pikevm.specs.declared.spot.Course.{Course}
 
 -- The threads wait for `at` or later.
-abbrev pub IsInLine : Course → ℕ → ℕ → Scratch → Type 0
-IsInLine course width at scratch = IsLined (size course) course.hi width at scratch.insertions scratch.curr
+abbrev pub IsInLine : Course → Searched → ℕ → ℕ → Scratch → Type 0
+IsInLine course text width at scratch = IsLined (seen_by course text) (size course) course.hi width at scratch.insertions scratch.curr
 
 -- The pass by the rule has come there.
 abbrev pub HasCome : Rule → Course → Searched → ℕ → ℕ → ℕ → Scratch → Option Ending → Type 0

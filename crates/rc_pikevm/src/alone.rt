@@ -397,7 +397,7 @@ fn go_alone(
     requires around { IsAround text at window.now }
     requires within { at ≤ course.hi }
     requires small { scratch.old.insertions + 2 ^ 65 < 2 ^ 128 }
-    requires lined { IsInLine course scratch.old.next.threads.width at scratch.old }
+    requires lined { IsInLine course text scratch.old.next.threads.width at scratch.old }
     ensures come { (rule : Rule) (from : ℕ)
         → HasCome rule course.entry text scratch.old.next.threads.width from at scratch.old best.old
         → HasCome rule course.entry text scratch.old.next.threads.width from result scratch.new
@@ -461,12 +461,12 @@ fn begin(
     requires root { root < size course }
     requires stands { StandsFor (seen_by course text) root }
     requires small { scratch.old.insertions + 2 ^ 66 < 2 ^ 128 }
-    requires lined { IsInLine course scratch.old.next.threads.width at scratch.old }
+    requires lined { IsInLine course text scratch.old.next.threads.width at scratch.old }
     ensures come { (rule : Rule) (from : ℕ) → root_of rule ≡ root
         → HasCome rule course.entry text scratch.old.next.threads.width from at scratch.old best
         → HasCome rule course.entry text scratch.old.next.threads.width from result.0 scratch.new
         best }
-    ensures lined { IsInLine course.entry scratch.old.next.threads.width result.0 scratch.new }
+    ensures lined { IsInLine course.entry text scratch.old.next.threads.width result.0 scratch.new }
     ensures same { IsSame scratch.old scratch.new }
     ensures few { scratch.new.insertions ≤ scratch.old.insertions + 1 }
     ensures later { at ≤ result.0 }
@@ -510,7 +510,7 @@ fn run_fast_path(
     requires root { root < size course }
     requires stands { StandsFor (seen_by course text) root }
     requires small { scratch.old.insertions + 2 ^ 66 < 2 ^ 128 }
-    requires lined { IsInLine course scratch.old.next.threads.width at scratch.old }
+    requires lined { IsInLine course text scratch.old.next.threads.width at scratch.old }
     ensures come { (rule : Rule) (from : ℕ) → root_of rule ≡ root
         → HasCome rule course.entry text scratch.old.next.threads.width from at scratch.old best.old
         → HasCome rule course.entry text scratch.old.next.threads.width from result scratch.new
@@ -558,7 +558,7 @@ pub fn try_fast_path(
     requires root { root < size course }
     requires stands { StandsFor (seen_by course text) root }
     requires small { scratch.old.insertions + 2 ^ 66 < 2 ^ 128 }
-    requires lined { IsInLine course scratch.old.next.threads.width at scratch.old }
+    requires lined { IsInLine course text scratch.old.next.threads.width at scratch.old }
     ensures come { (rule : Rule) (from : ℕ) → root_of rule ≡ root
         → HasCome rule course.entry text scratch.old.next.threads.width from at scratch.old best.old
         → HasCome rule course.entry text scratch.old.next.threads.width from result scratch.new

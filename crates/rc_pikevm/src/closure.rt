@@ -160,15 +160,16 @@ fn enter(spot: &Spot, place: usize, start: usize, growth: &mut Growth) -> Option
     ghost text: { Searched }
     requires here { IsHere spot.now text }
     requires place_in { place < size spot.now.course }
-    requires sound { HasRoom (size spot.now.course) spot.now.course.hi spot.now.at
+    requires sound { HasRoom (seen_from spot.now text) (size spot.now.course) spot.now.course.hi
+        spot.now.at
         growth.old.threads growth.old.entered }
     requires frames { AllInside (size spot.now.course) growth.old.threads.width
         (reverse growth.old.stack.items) }
     requires deep { vec_len growth.old.stack ≤ length growth.old.entered.items }
     ensures visited { IsVisited (seen_from spot.now text) spot.now.at place start result growth.old
         growth.new }
-    ensures grown { Grows spot.now start growth.old growth.new }
-    ensures exploring { IsExploring spot.now growth.new }
+    ensures grown { Grows spot.now text start growth.old growth.new }
+    ensures exploring { IsExploring spot.now text growth.new }
     ensures falls { vec_len growth.new.stack + 3 * length growth.old.entered.items
         ≤ vec_len growth.old.stack + 3 * length growth.new.entered.items }
 {
@@ -184,11 +185,11 @@ fn enter(spot: &Spot, place: usize, start: usize, growth: &mut Growth) -> Option
 pub fn drain(spot: &Spot, start: usize, growth: &mut Growth) -> Option<usize>
     ghost text: { Searched }
     requires here { IsHere spot.now text }
-    requires exploring { IsExploring spot.now growth.old }
+    requires exploring { IsExploring spot.now text growth.old }
     ensures closes { Closes (seen_from spot.now text) spot.now.at start (closure_of growth.old)
         result (closure_of growth.new) }
-    ensures grown { Grows spot.now start growth.old growth.new }
-    ensures exploring { IsExploring spot.now growth.new }
+    ensures grown { Grows spot.now text start growth.old growth.new }
+    ensures exploring { IsExploring spot.now text growth.new }
     ensures falls { count_ended result + vec_len growth.new.stack
         + 3 * length growth.old.entered.items
         ≤ vec_len growth.old.stack + 3 * length growth.new.entered.items }
@@ -217,12 +218,13 @@ pub fn close(spot: &Spot, root: usize, start: usize, growth: &mut Growth) -> Opt
     ghost text: { Searched }
     requires here { IsHere spot.now text }
     requires root_in { root < size spot.now.course }
-    requires sound { HasRoom (size spot.now.course) spot.now.course.hi spot.now.at
+    requires sound { HasRoom (seen_from spot.now text) (size spot.now.course) spot.now.course.hi
+        spot.now.at
         growth.old.threads growth.old.entered }
     ensures closes { Closes (seen_from spot.now text) spot.now.at start
         (closure_at root growth.old) result (closure_of growth.new) }
-    ensures grown { Grows spot.now start growth.old growth.new }
-    ensures exploring { IsExploring spot.now growth.new }
+    ensures grown { Grows spot.now text start growth.old growth.new }
+    ensures exploring { IsExploring spot.now text growth.new }
 {
     growth.stack.clear();
     if let Some(number) = enter(spot, root, start, growth) {

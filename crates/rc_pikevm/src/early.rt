@@ -29,7 +29,7 @@ pub fn first_end<C: Cursor>(
     requires guarded { MatchOption prefilter ⊤
         (λ p. Guards (places_of program.now.places.items) program.now.terminator
         (needles_of p.now)) }
-    requires made { IsCacheFor (length program.now.places.items) 0 cache.old }
+    requires made { IsCacheFor (places_of program.now.places.items) 0 cache.old }
     ensures keeps { Keeps input.old input.new }
     ensures found { is_some result ≡ is_some (greatest (search_of program.now input.old)) }
     ensures within { IfSome result (λ end. (low input.old ≤ end) × (end ≤ high input.old)) }

@@ -6,13 +6,14 @@ ghost use Rattle.rc_text.specs.Bounds.{IsWithinBounds};
 ghost use Rattle.rc_text.specs.Text.{Searched, Keeps, low, high};
 ghost use Rattle.rc_program.specs.Greatest.{greatest, IsNoGreater};
 ghost use Rattle.rc_program.specs.Programs.{search_of};
+ghost use Rattle.rc_program.specs.Places.{places_of};
 ghost use Rattle.rc_pikevm.specs.Near.{IsHere, seen_from, size};
 ghost use Rattle.rc_pikevm.specs.Moves.{IsSetting, seen, seen_by};
 ghost use Rattle.rc_pikevm.specs.Passing.{AllFrom, IsCounted, HasRoom};
 ghost use Rattle.rc_pikevm.specs.Spread.{Runner, running, SomeSpells, IsTop, Seeks, BeginFrom, IsOrdered, span_of, starting, IsGreater, StaysCounted};
 ghost use Rattle.rc_pikevm.specs.Steps.{HasStepped, MayStep};
 ghost use Rattle.rc_pikevm.specs.Caches.{IsCacheFor};
-ghost use Rattle.rc_pikevm.specs.Scratches.{IsSame};
+ghost use Rattle.rc_pikevm.specs.Scratches.{IsSame, IsScratchFor};
 ghost use Rattle.rc_pikevm.specs.Underway.{IsInLine};
 ghost use Rattle.rc_pikevm.specs.Explored.{Grows};
 
@@ -64,7 +65,8 @@ fn spread(spot: &Spot, root: usize, start: usize, best: &mut Option<Ending>, gro
     ghost text: { Searched }
     requires here { IsHere spot.now text }
     requires root_in { root < size spot.now.course }
-    requires sound { HasRoom (size spot.now.course) spot.now.course.hi spot.now.at
+    requires sound { HasRoom (seen_from spot.now text) (size spot.now.course) spot.now.course.hi
+        spot.now.at
         growth.old.threads growth.old.entered }
     requires ordered { IsOrdered start growth.old.threads.items }
     requires width { growth.old.threads.width ≡ 0 }
@@ -74,7 +76,7 @@ fn spread(spot: &Spot, root: usize, start: usize, best: &mut Option<Ending>, gro
         → Seeks (seen_from spot.now text) spot.now.at growth.old.threads.items
         growth.old.entered.items
         ((start, (root, spot.now.at)) ∷ below) best.old o }
-    ensures grown { Grows spot.now start growth.old growth.new }
+    ensures grown { Grows spot.now text start growth.old growth.new }
     ensures ordered { IsOrdered start growth.new.threads.items }
     ensures counted { StaysCounted start spot.now.at best.old best.new }
     ensures some { 0 < length growth.new.entered.items }
@@ -96,7 +98,7 @@ fn spread(spot: &Spot, root: usize, start: usize, best: &mut Option<Ending>, gro
 fn step(spot: &Spot, curr: &Threads, best: &mut Option<Ending>, growth: &mut Growth)
     ghost text: { Searched }
     requires here { IsHere spot.now text }
-    requires ready { MayStep spot.now curr.now.items growth.old }
+    requires ready { MayStep spot.now text curr.now.items growth.old }
     requires ordered { IsOrdered spot.now.at curr.now.items }
     requires widths { (curr.now.width ≡ 0) × (growth.old.threads.width ≡ 0) }
     ensures seeks { (below : List Runner) (o : Option Found) → BeginFrom spot.now.at below
@@ -104,7 +106,7 @@ fn step(spot: &Spot, curr: &Threads, best: &mut Option<Ending>, growth: &mut Gro
         growth.new.entered.items below best.new o
         → Seeks (seen_from spot.now text) spot.now.at [] []
         (map running curr.now.items ++ below) best.old o }
-    ensures stepped { HasStepped spot.now curr.now.items growth.old growth.new }
+    ensures stepped { HasStepped spot.now text curr.now.items growth.old growth.new }
     ensures ordered { IsOrdered spot.now.at growth.new.threads.items }
     ensures some { (length curr.now.items ≡ 0)
         ⊎ (0 < length growth.new.threads.items + length growth.new.entered.items) }
@@ -126,7 +128,7 @@ fn step(spot: &Spot, curr: &Threads, best: &mut Option<Ending>, growth: &mut Gro
 fn advance(spot: &Spot, curr: &Threads, best: &mut Option<Ending>, growth: &mut Growth)
     ghost text: { Searched }
     requires here { IsHere spot.now text }
-    requires ready { MayStep spot.now curr.now.items growth.old }
+    requires ready { MayStep spot.now text curr.now.items growth.old }
     requires ordered { IsOrdered spot.now.at curr.now.items }
     requires widths { (curr.now.width ≡ 0) × (growth.old.threads.width ≡ 0) }
     ensures seeks { (o : Option Found)
@@ -136,7 +138,7 @@ fn advance(spot: &Spot, curr: &Threads, best: &mut Option<Ending>, growth: &mut 
         → Seeks (seen_from spot.now text) spot.now.at [] []
         (map running curr.now.items ++ starting spot.now.at spot.now.course.last)
         best.old o }
-    ensures stepped { HasStepped spot.now curr.now.items growth.old growth.new }
+    ensures stepped { HasStepped spot.now text curr.now.items growth.old growth.new }
     ensures ordered { IsOrdered spot.now.at growth.new.threads.items }
     ensures some { (length curr.now.items ≡ 0)
         ⊎ (0 < length growth.new.threads.items + length growth.new.entered.items) }
@@ -155,7 +157,7 @@ fn turn(spot: &Spot, best: &mut Option<Ending>, scratch: &mut Scratch)
     ghost text: { Searched }
     requires here { IsHere spot.now text }
     requires made { scratch.old.next.entered.capacity ≡ size spot.now.course }
-    requires lined { IsInLine spot.now.course 0 spot.now.at scratch.old }
+    requires lined { IsInLine spot.now.course text 0 spot.now.at scratch.old }
     requires ordered { IsOrdered spot.now.at scratch.old.curr.items }
     requires counted { IsCounted scratch.old.insertions best.old }
     requires small { scratch.old.insertions + size spot.now.course < 2 ^ 128 }
@@ -166,7 +168,7 @@ fn turn(spot: &Spot, best: &mut Option<Ending>, scratch: &mut Scratch)
         → Seeks (seen_from spot.now text) spot.now.at [] []
         (map running scratch.old.curr.items
         ++ starting spot.now.at spot.now.course.last) best.old o }
-    ensures lined { IsInLine spot.now.course 0 (spot.now.at + 1) scratch.new }
+    ensures lined { IsInLine spot.now.course text 0 (spot.now.at + 1) scratch.new }
     ensures ordered { IsOrdered (spot.now.at + 1) scratch.new.curr.items }
     ensures same { IsSame scratch.old scratch.new }
     ensures counted { IsCounted scratch.new.insertions best.new }
@@ -191,7 +193,7 @@ pub(crate) fn reach_end<C: Cursor>(
     requires same { Keeps text input.old }
     requires setting { IsSetting course text }
     requires bounds { (low text ≤ from) × (from ≤ course.last) }
-    requires made { scratch.old.next.entered.capacity ≡ size course }
+    requires made { IsScratchFor course.program.now scratch.old }
     requires width { scratch.old.next.threads.width ≡ 0 }
     ensures keeps { Keeps input.old input.new }
     ensures top { IsTop (SomeSpells (seen_by course.entry text) []
@@ -220,7 +222,7 @@ fn choose<C: Cursor>(
     program: &Program,
     scratch: &mut Scratch,
 ) -> Option<Ending>
-    requires made { scratch.old.next.entered.capacity ≡ length program.now.places.items }
+    requires made { IsScratchFor program.now scratch.old }
     requires width { scratch.old.next.threads.width ≡ 0 }
     ensures keeps { Keeps input.old input.new }
     ensures chosen { option_map span_of result ≡ greatest (seen program.now input.old) }
@@ -256,7 +258,7 @@ pub fn find_greatest<C: Cursor>(
     input: &mut Input<C>,
     program: &Program,
 ) -> Option<Match>
-    requires made { IsCacheFor (length program.now.places.items) 0 cache.old }
+    requires made { IsCacheFor (places_of program.now.places.items) 0 cache.old }
     ensures keeps { Keeps input.old input.new }
     ensures found { result ≡ greatest (search_of program.now input.old) }
     ensures within { MatchOption result ⊤ (IsWithinBounds input.old) }

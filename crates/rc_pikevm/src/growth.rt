@@ -25,8 +25,7 @@ pub struct Growth {
     pub stack: Vec<Frame>,
     /// The slots of the thread that the closure is for.
     pub slots: Vec<Option<usize>>,
-    ghost fits: { (threads.room ≡ 4 * entered.capacity)
-        × (vec_capacity stack ≡ entered.capacity + 1) },
+    ghost fits: { vec_capacity stack ≡ entered.capacity + 1 },
     ghost wide: { (length slots.items ≡ threads.width) × (threads.width ≤ threads.most)
         × (vec_capacity slots ≡ threads.most) },
     ghost exact: { (threads.cells ≡ threads.room * threads.most)

@@ -40,7 +40,7 @@ pub fn find_by_kind<C: Cursor>(
     requires guarded { MatchOption prefilter ⊤
         (λ p. Guards (places_of program.now.places.items) program.now.terminator
         (needles_of p.now)) }
-    requires made { IsCacheFor (length program.now.places.items) 0 cache.old }
+    requires made { IsCacheFor (places_of program.now.places.items) 0 cache.old }
     ensures keeps { Keeps input.old input.new }
     ensures found { result ≡ answer_by kind (search_of program.now input.old) }
     ensures bounds { MatchOption result ⊤ (IsWithinBounds input.old) }
@@ -72,7 +72,7 @@ pub fn is_match_by_kind<C: Cursor>(
     requires guarded { MatchOption prefilter ⊤
         (λ p. Guards (places_of program.now.places.items) program.now.terminator
         (needles_of p.now)) }
-    requires made { IsCacheFor (length program.now.places.items) 0 cache.old }
+    requires made { IsCacheFor (places_of program.now.places.items) 0 cache.old }
     ensures keeps { Keeps input.old input.new }
     ensures found { result ≡ is_some (answer_by kind (search_of program.now input.old)) }
     ensures cache { cache.new ≡ record cache.old { insertions = cache.new.insertions } }
@@ -118,7 +118,7 @@ fn search_span<C: Cursor>(
     program: &Program,
     slots: &mut [Option<usize>],
 ) -> Option<Match>
-    requires made { IsCacheFor (length program.now.places.items) 0 cache.old }
+    requires made { IsCacheFor (places_of program.now.places.items) 0 cache.old }
     ensures keeps { Keeps input.old input.new }
     ensures found { result ≡ greatest (search_of program.now input.old) }
     ensures slots { MatchOption result (slots.new ≡ slots.old)
@@ -153,7 +153,7 @@ pub fn search_slots_by_kind<C: Cursor>(
     requires guarded { MatchOption prefilter ⊤
         (λ p. Guards (places_of program.now.places.items) program.now.terminator
         (needles_of p.now)) }
-    requires made { IsCacheFor (length program.now.places.items)
+    requires made { IsCacheFor (places_of program.now.places.items)
         (row_width (places_of program.now.places.items) (length slots.old)) cache.old }
     ensures keeps { Keeps input.old input.new }
     ensures pattern { result ≡ option_map (λ (m : Found). m.pattern)

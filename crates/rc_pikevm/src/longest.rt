@@ -69,7 +69,8 @@ fn spread(
     ghost text: { Searched }
     requires here { IsHere spot.now text }
     requires root_in { root < size spot.now.course }
-    requires sound { HasRoom (size spot.now.course) spot.now.course.hi spot.now.at
+    requires sound { HasRoom (seen_from spot.now text) (size spot.now.course) spot.now.course.hi
+        spot.now.at
         growth.old.threads growth.old.entered }
     requires sought { IsSought best.old start }
     requires wide { length found.old ≡ growth.old.threads.width }
@@ -80,7 +81,7 @@ fn spread(
         → Races (seen_from spot.now text) all spot.now.at growth.new.threads.items
         growth.new.entered.items below best.new found.new }
     ensures counted { StaysCounted start spot.now.at best.old best.new }
-    ensures grown { Grows spot.now start growth.old growth.new }
+    ensures grown { Grows spot.now text start growth.old growth.new }
     ensures some { 0 < length growth.new.entered.items }
 {
     let mut ended = close(spot, root, start, growth);
@@ -107,7 +108,7 @@ fn step(
 )
     ghost text: { Searched }
     requires here { IsHere spot.now text }
-    requires ready { MayStep spot.now curr.now.items growth.old }
+    requires ready { MayStep spot.now text curr.now.items growth.old }
     requires widths { (curr.now.width ≡ growth.old.threads.width)
         × (length found.old ≡ growth.old.threads.width) }
     ensures races { (all below : List (Trace × Pair))
@@ -115,7 +116,7 @@ fn step(
         (map pending curr.now.items ++ below) best.old found.old
         → Races (seen_from spot.now text) all spot.now.at growth.new.threads.items
         growth.new.entered.items below best.new found.new }
-    ensures stepped { HasStepped spot.now curr.now.items growth.old growth.new }
+    ensures stepped { HasStepped spot.now text curr.now.items growth.old growth.new }
     ensures counted { (k : ℕ) → AllFrom (spot.now.at + 1 - k) curr.now.items → IsCounted k best.old
         → IsCounted k best.new }
     ensures still { (best.new ≡ best.old) ⊎ (0 < length growth.new.entered.items) }
@@ -147,7 +148,7 @@ fn advance(
 )
     ghost text: { Searched }
     requires here { IsHere spot.now text }
-    requires ready { MayStep spot.now curr.now.items growth.old }
+    requires ready { MayStep spot.now text curr.now.items growth.old }
     requires widths { (curr.now.width ≡ growth.old.threads.width)
         × (length found.old ≡ growth.old.threads.width) }
     ensures races { (all : List (Trace × Pair))
@@ -158,7 +159,7 @@ fn advance(
         growth.new.entered.items
         (starts_to growth.old.threads.width
         (spot.now.at + 1) spot.now.course.last) best.new found.new }
-    ensures stepped { HasStepped spot.now curr.now.items growth.old growth.new }
+    ensures stepped { HasStepped spot.now text curr.now.items growth.old growth.new }
     ensures counted { (k : ℕ) → length growth.new.entered.items ≤ k
         → AllFrom (spot.now.at + 1 - k) curr.now.items
         → IsCounted k best.old → IsCounted k best.new }
@@ -184,7 +185,7 @@ pub(crate) fn turn(spot: &Spot, best: &mut Option<Ending>, scratch: &mut Scratch
     ghost text: { Searched }
     requires here { IsHere spot.now text }
     requires made { scratch.old.next.entered.capacity ≡ size spot.now.course }
-    requires lined { IsInLine spot.now.course scratch.old.next.threads.width spot.now.at scratch.old }
+    requires lined { IsInLine spot.now.course text scratch.old.next.threads.width spot.now.at scratch.old }
     requires counted { IsCounted scratch.old.insertions best.old }
     requires small { scratch.old.insertions + size spot.now.course < 2 ^ 128 }
     ensures races { (all : List (Trace × Pair))
@@ -196,7 +197,7 @@ pub(crate) fn turn(spot: &Spot, best: &mut Option<Ending>, scratch: &mut Scratch
         (map pending scratch.new.curr.items
         ++ starts_to scratch.old.next.threads.width (spot.now.at + 1) spot.now.course.last)
         best.new scratch.new.found.items }
-    ensures lined { IsInLine spot.now.course scratch.old.next.threads.width (spot.now.at + 1)
+    ensures lined { IsInLine spot.now.course text scratch.old.next.threads.width (spot.now.at + 1)
         scratch.new }
     ensures same { IsSame scratch.old scratch.new }
     ensures counted { IsCounted scratch.new.insertions best.new }

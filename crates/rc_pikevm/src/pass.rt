@@ -23,7 +23,7 @@ ghost use Rattle.rc_pikevm.specs.Moves.{IsSetting, seen_by};
 ghost use Rattle.rc_pikevm.specs.Roots.{StandsFor};
 ghost use Rattle.rc_pikevm.specs.Trace.{Trace, done};
 ghost use Rattle.rc_pikevm.specs.Passing.{CarriesTo, pending, AllFrom, waiting_starts, PendingTo, IsCounted, best_of};
-ghost use Rattle.rc_pikevm.specs.Scratches.{IsSame};
+ghost use Rattle.rc_pikevm.specs.Scratches.{IsSame, IsScratchFor};
 ghost use Rattle.rc_pikevm.specs.Steps.{HasStepped, MayStep};
 ghost use Rattle.rc_pikevm.specs.Rules.{GivesBy, MayEnter, TellsBy, Turns, root_of};
 ghost use Rattle.rc_pikevm.specs.Underway.{IsInLine};
@@ -67,7 +67,7 @@ pub struct Ending {
 fn step(spot: &Spot, curr: &Threads, growth: &mut Growth) -> Option<(usize, usize)>
     ghost text: { Searched }
     requires here { IsHere spot.now text }
-    requires ready { MayStep spot.now curr.now.items growth.old }
+    requires ready { MayStep spot.now text curr.now.items growth.old }
     requires widths { curr.now.width ≡ growth.old.threads.width }
     ensures carries { (limit : Option ℕ) → IsUpTo spot.now.at limit
         → (below : List (Trace × Pair)) (best o : Option Trace) → MatchOption result
@@ -78,7 +78,7 @@ fn step(spot: &Spot, curr: &Threads, growth: &mut Growth) -> Option<(usize, usiz
         (Some (done r.0 r.1 spot.now.at growth.new.slots.items)) o)
         → CarriesTo limit (seen_from spot.now text) spot.now.at [] []
         (map pending curr.now.items ++ below) best o }
-    ensures stepped { HasStepped spot.now curr.now.items growth.old growth.new }
+    ensures stepped { HasStepped spot.now text curr.now.items growth.old growth.new }
     ensures ended { MatchOption result
         ((length curr.now.items ≡ 0) ⊎ (0 < length growth.new.threads.items
         + length growth.new.entered.items))
@@ -106,7 +106,7 @@ fn step(spot: &Spot, curr: &Threads, growth: &mut Growth) -> Option<(usize, usiz
 fn set_out(spot: &Spot, root: usize, is_open: bool, growth: &mut Growth) -> Option<(usize, usize)>
     ghost text: { Searched }
     requires here { IsHere spot.now text }
-    requires ready { MayStep spot.now [] growth.old }
+    requires ready { MayStep spot.now text [] growth.old }
     requires root { root < size spot.now.course }
     requires stands { StandsFor (seen_from spot.now text) root }
     ensures carries { (limit : Option ℕ) → IsUpTo spot.now.at limit → (limit ≡ None) ⊎ (root ≡ 0)
@@ -121,7 +121,7 @@ fn set_out(spot: &Spot, root: usize, is_open: bool, growth: &mut Growth) -> Opti
         → CarriesTo limit (seen_from spot.now text) spot.now.at [] []
         (waiting_starts is_open growth.old.threads.width spot.now.at spot.now.course.last) best
         o }
-    ensures stepped { HasStepped spot.now [] growth.old growth.new }
+    ensures stepped { HasStepped spot.now text [] growth.old growth.new }
     ensures ended { MatchOption result ⊤
         (λ r. (0 < length growth.new.entered.items) × ((x : ℕ) → x ≤ spot.now.at → x ≤ r.1)) }
 {
@@ -149,7 +149,7 @@ fn advance(
 ) -> Option<(usize, usize)>
     ghost text: { Searched }
     requires here { IsHere spot.now text }
-    requires ready { MayStep spot.now curr.now.items growth.old }
+    requires ready { MayStep spot.now text curr.now.items growth.old }
     requires widths { curr.now.width ≡ growth.old.threads.width }
     requires root { root < size spot.now.course }
     requires stands { StandsFor (seen_from spot.now text) root }
@@ -165,7 +165,7 @@ fn advance(
         → CarriesTo limit (seen_from spot.now text) spot.now.at [] []
         (map pending curr.now.items ++ waiting_starts is_open growth.old.threads.width
         spot.now.at spot.now.course.last) best o }
-    ensures stepped { HasStepped spot.now curr.now.items growth.old growth.new }
+    ensures stepped { HasStepped spot.now text curr.now.items growth.old growth.new }
     ensures ended { MatchOption result ⊤
         (λ r. (0 < length growth.new.entered.items)
         × ((x : ℕ) → x ≤ spot.now.at → AllFrom x curr.now.items → x ≤ r.1)) }
@@ -210,7 +210,7 @@ pub(crate) fn turn(
     ghost text: { Searched }
     requires here { IsHere spot.now text }
     requires made { scratch.old.next.entered.capacity ≡ size spot.now.course }
-    requires lined { IsInLine spot.now.course scratch.old.next.threads.width spot.now.at scratch.old }
+    requires lined { IsInLine spot.now.course text scratch.old.next.threads.width spot.now.at scratch.old }
     requires counted { IsCounted scratch.old.insertions best }
     requires small { scratch.old.insertions + size spot.now.course < 2 ^ 128 }
     requires root { root < size spot.now.course }
@@ -222,7 +222,7 @@ pub(crate) fn turn(
         → PendingTo limit (seen_from spot.now text) scratch.old.next.threads.width spot.now.course.last
         spot.now.at scratch.old.curr.items
         best scratch.old.found.items o }
-    ensures lined { IsInLine spot.now.course scratch.old.next.threads.width (spot.now.at + 1)
+    ensures lined { IsInLine spot.now.course text scratch.old.next.threads.width (spot.now.at + 1)
         scratch.new }
     ensures same { IsSame scratch.old scratch.new }
     ensures counted { IsCounted scratch.new.insertions result }
@@ -250,14 +250,14 @@ fn turn_by(spot: &Spot, rule: Rule, best: &mut Option<Ending>, scratch: &mut Scr
     ghost text: { Searched }
     requires here { IsHere spot.now text }
     requires made { scratch.old.next.entered.capacity ≡ size spot.now.course }
-    requires lined { IsInLine spot.now.course scratch.old.next.threads.width spot.now.at scratch.old }
+    requires lined { IsInLine spot.now.course text scratch.old.next.threads.width spot.now.at scratch.old }
     requires counted { IsCounted scratch.old.insertions best.old }
     requires small { scratch.old.insertions + size spot.now.course < 2 ^ 128 }
     requires enters { MayEnter (size spot.now.course) (StandsFor (seen_from spot.now text)) rule }
     ensures turns { Turns rule (seen_from spot.now text) scratch.old.next.threads.width
         spot.now.course.last spot.now.at scratch.old.curr scratch.new.curr best.old best.new
         scratch.old.found.items scratch.new.found.items }
-    ensures lined { IsInLine spot.now.course scratch.old.next.threads.width (spot.now.at + 1)
+    ensures lined { IsInLine spot.now.course text scratch.old.next.threads.width (spot.now.at + 1)
         scratch.new }
     ensures same { IsSame scratch.old scratch.new }
     ensures counted { IsCounted scratch.new.insertions best.new }
@@ -274,7 +274,7 @@ fn turn_by(spot: &Spot, rule: Rule, best: &mut Option<Ending>, scratch: &mut Scr
 #[inline(always)]
 pub fn end_walk(course: Course, at: usize, number: usize, scratch: &mut Scratch) -> Ending
     ghost text: { Searched }
-    requires lined { IsInLine course scratch.old.next.threads.width at scratch.old }
+    requires lined { IsInLine course text scratch.old.next.threads.width at scratch.old }
     requires small { scratch.old.insertions + 1 < 2 ^ 128 }
     requires ends { EndsAlone (seen_by course text) at scratch.old.curr.items number }
     ensures turns { (rule : Rule) (best : Option Ending) → IsAhead best result.start at
@@ -282,7 +282,7 @@ pub fn end_walk(course: Course, at: usize, number: usize, scratch: &mut Scratch)
         scratch.old.curr scratch.new.curr best (Some result) scratch.old.found.items
         scratch.new.found.items }
     ensures start { (t : Thread) → scratch.old.curr.items ≡ t ∷ [] → result.start ≡ t.start }
-    ensures lined { IsInLine course.entry scratch.old.next.threads.width (at + 1) scratch.new }
+    ensures lined { IsInLine course.entry text scratch.old.next.threads.width (at + 1) scratch.new }
     ensures same { IsSame scratch.old scratch.new }
     ensures counted { IsCounted scratch.new.insertions (Some result) }
     ensures few { scratch.new.insertions ≤ scratch.old.insertions + 1 }
@@ -305,7 +305,7 @@ pub fn end_walk(course: Course, at: usize, number: usize, scratch: &mut Scratch)
 pub fn set_out_alone(course: Course, at: usize, root: usize, next: usize, scratch: &mut Scratch)
     ghost text: { Searched }
     requires setting { IsSetting course text }
-    requires lined { IsInLine course scratch.old.next.threads.width at scratch.old }
+    requires lined { IsInLine course text scratch.old.next.threads.width at scratch.old }
     requires small { scratch.old.insertions + 1 < 2 ^ 128 }
     requires none { length scratch.old.curr.items ≡ 0 }
     requires within { at ≤ course.last }
@@ -315,7 +315,7 @@ pub fn set_out_alone(course: Course, at: usize, root: usize, next: usize, scratc
         → Turns rule (seen_by course.entry text) scratch.old.next.threads.width course.entry.last at
         scratch.old.curr scratch.new.curr None None scratch.old.found.items
         scratch.new.found.items }
-    ensures lined { IsInLine course.entry scratch.old.next.threads.width (at + 1) scratch.new }
+    ensures lined { IsInLine course.entry text scratch.old.next.threads.width (at + 1) scratch.new }
     ensures same { IsSame scratch.old scratch.new }
     ensures few { scratch.new.insertions ≤ scratch.old.insertions + 1 }
 {
@@ -419,7 +419,7 @@ pub(crate) fn pass<C: Cursor>(
         (λ p. Guards (places_of course.program.now.places.items) course.program.now.terminator
         (needles_of p.now)) }
     requires bounds { (low text ≤ from) × (from ≤ course.last) }
-    requires made { scratch.old.next.entered.capacity ≡ size course }
+    requires made { IsScratchFor course.program.now scratch.old }
     requires enters { MayEnter (size course) (StandsFor (seen_by course text)) rule }
     ensures keeps { Keeps input.old input.new }
     ensures gives { earliest ≡ false → GivesBy rule

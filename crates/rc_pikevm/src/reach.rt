@@ -12,13 +12,14 @@ ghost use Rattle.rc_program.specs.Kinds.{answer_by};
 ghost use Rattle.rc_program.specs.Programs.{search_of};
 ghost use Rattle.rc_reach.specs.Reads.{ReadsBelow};
 ghost use Rattle.rc_reach.specs.Settled.{IsSettled};
+ghost use Rattle.rc_program.specs.Places.{places_of};
 ghost use Rattle.rc_pikevm.specs.Caches.{IsCacheFor};
 ghost use Rattle.rc_pikevm.specs.Found.{IsPickedBy, last_filled};
 ghost use Rattle.rc_pikevm.specs.Moves.{IsSetting, seen_by};
 ghost use Rattle.rc_pikevm.specs.Near.{size};
 ghost use Rattle.rc_pikevm.specs.Passing.{GivesTraceTo, best_of};
 ghost use Rattle.rc_pikevm.specs.Reach.{IsStillOn};
-ghost use Rattle.rc_pikevm.specs.Scratches.{IsSame};
+ghost use Rattle.rc_pikevm.specs.Scratches.{IsSame, IsScratchFor};
 ghost use Rattle.rc_pikevm.specs.Sights.{IsUpTo};
 
 use crate::cache::Cache;
@@ -71,7 +72,7 @@ fn pass_far<C: Cursor>(
     requires same { Keeps text input.old }
     requires setting { IsSetting course text }
     requires bounds { (low text ≤ from) × (from ≤ course.last) }
-    requires made { scratch.old.next.entered.capacity ≡ size course }
+    requires made { IsScratchFor course.program.now scratch.old }
     ensures keeps { Keeps input.old input.new }
     ensures gives { (limit : Option ℕ) → IsUpTo result.1 limit
         → GivesTraceTo limit (seen_by course.entry text) scratch.old.next.threads.width from
@@ -125,7 +126,7 @@ fn choose_far<C: Cursor>(
     scratch: &mut Scratch,
 ) -> (Option<Ending>, usize)
     requires none_passed { program.now.passes_over ≡ false }
-    requires made { scratch.old.next.entered.capacity ≡ length program.now.places.items }
+    requires made { IsScratchFor program.now scratch.old }
     ensures keeps { Keeps input.old input.new }
     ensures chosen { IsPickedBy last_filled (search_of program.now input.old)
         (chosen (search_of program.now input.old)) result.0 scratch.new.found.items }
@@ -156,7 +157,7 @@ fn choose_far<C: Cursor>(
 /// passed over.
 fn find_far<C: Cursor>(cache: &mut Cache, input: &mut Input<C>, program: &Program) -> Reached
     requires none_passed { program.now.passes_over ≡ false }
-    requires made { IsCacheFor (length program.now.places.items) 0 cache.old }
+    requires made { IsCacheFor (places_of program.now.places.items) 0 cache.old }
     ensures keeps { Keeps input.old input.new }
     ensures found { result.found ≡ answer_by LeftmostFirst (search_of program.now input.old) }
     ensures bounds { MatchOption result.found ⊤ (IsWithinBounds input.old) }
@@ -190,7 +191,7 @@ fn find_whole<C: Cursor>(
     program: &Program,
     kind: MatchKind,
 ) -> Reached
-    requires made { IsCacheFor (length program.now.places.items) 0 cache.old }
+    requires made { IsCacheFor (places_of program.now.places.items) 0 cache.old }
     ensures keeps { Keeps input.old input.new }
     ensures found { result.found ≡ answer_by kind (search_of program.now input.old) }
     ensures bounds { MatchOption result.found ⊤ (IsWithinBounds input.old) }
@@ -215,7 +216,7 @@ pub fn find_reach<C: Cursor>(
     program: &Program,
     kind: MatchKind,
 ) -> Reached
-    requires made { IsCacheFor (length program.now.places.items) 0 cache.old }
+    requires made { IsCacheFor (places_of program.now.places.items) 0 cache.old }
     ensures keeps { Keeps input.old input.new }
     ensures found { result.found ≡ answer_by kind (search_of program.now input.old) }
     ensures bounds { MatchOption result.found ⊤ (IsWithinBounds input.old) }

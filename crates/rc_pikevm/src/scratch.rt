@@ -49,15 +49,19 @@ impl Scratch {
     ghost use Rattle.rc_pikevm.specs.Passing.{AllIn};
     ghost use Rattle.rc_pikevm.specs.Scratches.{IsSame};
 
-    /// Allocates for programs of `places` places, and for searches with at most `slots` slots.
-    pub fn new(alloc: Global, places: usize, slots: usize) -> Result<Scratch, AllocError>
+    /// Allocates for programs of `places` places, for `room` threads at each of two positions, and
+    /// for searches with at most `slots` slots.
+    pub fn new(
+        alloc: Global,
+        places: usize,
+        room: usize,
+        slots: usize,
+    ) -> Result<Scratch, AllocError>
         ensures places { IfOk result (λ s. s.next.entered.capacity ≡ places) }
+        ensures room { IfOk result (λ s. s.next.threads.room ≡ room) }
         ensures slots { IfOk result (λ s. s.next.threads.most ≡ slots) }
         ensures unused { IfOk result (λ s. s.insertions ≡ 0) }
     {
-        let Some(room) = places.checked_mul(4) else {
-            return Err(AllocError);
-        };
         let Some(depth) = places.checked_add(1) else {
             return Err(AllocError);
         };
@@ -80,6 +84,7 @@ impl Scratch {
         requires { width ≤ self.old.next.threads.most }
         ensures width { self.new.next.threads.width ≡ width }
         ensures capacity { self.new.next.entered.capacity ≡ self.old.next.entered.capacity }
+        ensures room { self.new.next.threads.room ≡ self.old.next.threads.room }
         ensures most { self.new.next.threads.most ≡ self.old.next.threads.most }
     {
         self.next.widen(width);

@@ -21,7 +21,7 @@ ghost use Rattle.rc_pikevm.specs.Roots.{StandsIn};
 ghost use Rattle.rc_pikevm.specs.Rules.{MayEnter, kind_of, picked_by};
 ghost use Rattle.rc_pikevm.specs.KindSlots.{slots_by};
 ghost use Rattle.rc_pikevm.specs.Caches.{IsCacheFor};
-ghost use Rattle.rc_pikevm.specs.Scratches.{IsSame};
+ghost use Rattle.rc_pikevm.specs.Scratches.{IsSame, IsScratchFor};
 
 use crate::cache::Cache;
 use crate::pass::{Ending, pass};
@@ -123,7 +123,7 @@ fn choose<C: Cursor>(
     requires guarded { MatchOption prefilter ⊤
         (λ p. Guards (places_of program.now.places.items) program.now.terminator
         (needles_of p.now)) }
-    requires made { scratch.old.next.entered.capacity ≡ length program.now.places.items }
+    requires made { IsScratchFor program.now scratch.old }
     requires enters { MayEnter (length program.now.places.items)
         (StandsIn (search_of program.now input.old)) rule }
     ensures keeps { Keeps input.old input.new }
@@ -176,7 +176,7 @@ fn choose_in<C: Cursor>(
     requires guarded { MatchOption prefilter ⊤
         (λ p. Guards (places_of program.now.places.items) program.now.terminator
         (needles_of p.now)) }
-    requires made { IsCacheFor (length program.now.places.items)
+    requires made { IsCacheFor (places_of program.now.places.items)
         (row_width (places_of program.now.places.items) (length slots.old)) cache.old }
     requires enters { MayEnter (length program.now.places.items)
         (StandsIn (search_of program.now input.old)) rule }
@@ -216,7 +216,7 @@ pub fn search_slots<C: Cursor>(
     requires guarded { MatchOption prefilter ⊤
         (λ p. Guards (places_of program.now.places.items) program.now.terminator
         (needles_of p.now)) }
-    requires made { IsCacheFor (length program.now.places.items)
+    requires made { IsCacheFor (places_of program.now.places.items)
         (row_width (places_of program.now.places.items) (length slots.old)) cache.old }
     requires enters { MayEnter (length program.now.places.items)
         (StandsIn (search_of program.now input.old)) rule }
@@ -261,7 +261,7 @@ pub fn find<C: Cursor>(
     requires guarded { MatchOption prefilter ⊤
         (λ p. Guards (places_of program.now.places.items) program.now.terminator
         (needles_of p.now)) }
-    requires made { IsCacheFor (length program.now.places.items) 0 cache.old }
+    requires made { IsCacheFor (places_of program.now.places.items) 0 cache.old }
     requires enters { MayEnter (length program.now.places.items)
         (StandsIn (search_of program.now input.old)) rule }
     ensures keeps { Keeps input.old input.new }
@@ -297,7 +297,7 @@ pub(crate) fn meets<C: Cursor>(
     requires guarded { MatchOption prefilter ⊤
         (λ p. Guards (places_of program.now.places.items) program.now.terminator
         (needles_of p.now)) }
-    requires made { scratch.old.next.entered.capacity ≡ length program.now.places.items }
+    requires made { IsScratchFor program.now scratch.old }
     ensures keeps { Keeps input.old input.new }
     ensures found { is_some result ≡ is_some (greatest (search_of program.now input.old)) }
     ensures bounded { MatchOption result ⊤ (λ _. low input.old ≤ high input.old) }
@@ -332,7 +332,7 @@ pub fn meets_any<C: Cursor>(
     requires guarded { MatchOption prefilter ⊤
         (λ p. Guards (places_of program.now.places.items) program.now.terminator
         (needles_of p.now)) }
-    requires made { IsCacheFor (length program.now.places.items) 0 cache.old }
+    requires made { IsCacheFor (places_of program.now.places.items) 0 cache.old }
     ensures keeps { Keeps input.old input.new }
     ensures found { result ≡ is_some (greatest (search_of program.now input.old)) }
     ensures cache { cache.new ≡ record cache.old { insertions = cache.new.insertions } }

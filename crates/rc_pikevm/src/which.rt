@@ -19,7 +19,7 @@ ghost use Rattle.rc_pikevm.specs.Moves.{IsSetting, seen, seen_by};
 ghost use Rattle.rc_pikevm.specs.Near.{IsHere, seen_from, size};
 ghost use Rattle.rc_pikevm.specs.Passing.{HasRoom};
 ghost use Rattle.rc_pikevm.specs.PatternSpans.{AddsSpelled, AreOfFirst};
-ghost use Rattle.rc_pikevm.specs.Scratches.{IsSame};
+ghost use Rattle.rc_pikevm.specs.Scratches.{IsSame, IsScratchFor};
 ghost use Rattle.rc_pikevm.specs.Steps.{HasStepped, MayStep};
 ghost use Rattle.rc_pikevm.specs.Sparse.{Has as IsEntered};
 ghost use Rattle.rc_pikevm.specs.Underway.{IsInLine};
@@ -58,7 +58,8 @@ fn spread(spot: &Spot, root: usize, start: usize, set: &mut PatternSet, growth: 
     ghost text: { Searched }
     requires here { IsHere spot.now text }
     requires root_in { root < size spot.now.course }
-    requires sound { HasRoom (size spot.now.course) spot.now.course.hi spot.now.at
+    requires sound { HasRoom (seen_from spot.now text) (size spot.now.course) spot.now.course.hi
+        spot.now.at
         growth.old.threads growth.old.entered }
     requires width { growth.old.threads.width ≡ 0 }
     ensures same { (below : List Pair) → AreSame (length set.old)
@@ -68,7 +69,7 @@ fn spread(spot: &Spot, root: usize, start: usize, set: &mut PatternSet, growth: 
         growth.new.entered.items below set.new) }
     ensures long { length set.new ≡ length set.old }
     ensures more { KeepsMarks set.old set.new }
-    ensures grown { Grows spot.now start growth.old growth.new }
+    ensures grown { Grows spot.now text start growth.old growth.new }
 {
     let mut ended = close(spot, root, start, growth);
     'ends: while let Some(number) = ended {
@@ -122,7 +123,8 @@ fn enter_each(spot: &Spot, end: usize, set: &mut PatternSet, growth: &mut Growth
     requires here { IsHere spot.now text }
     requires root { 0 < size spot.now.course }
     requires own { HasOwnWays (places_of spot.now.course.program.now.places.items) }
-    requires sound { HasRoom (size spot.now.course) spot.now.course.hi spot.now.at
+    requires sound { HasRoom (seen_from spot.now text) (size spot.now.course) spot.now.course.hi
+        spot.now.at
         growth.old.threads growth.old.entered }
     requires width { growth.old.threads.width ≡ 0 }
     ensures inside { result < size spot.now.course }
@@ -153,7 +155,8 @@ fn set_out(spot: &Spot, end: usize, set: &mut PatternSet, growth: &mut Growth)
     requires here { IsHere spot.now text }
     requires root { 0 < size spot.now.course }
     requires own { HasOwnWays (places_of spot.now.course.program.now.places.items) }
-    requires sound { HasRoom (size spot.now.course) spot.now.course.hi spot.now.at
+    requires sound { HasRoom (seen_from spot.now text) (size spot.now.course) spot.now.course.hi
+        spot.now.at
         growth.old.threads growth.old.entered }
     requires width { growth.old.threads.width ≡ 0 }
     ensures same { (below : List Pair) → AreSame (length set.old)
@@ -163,7 +166,7 @@ fn set_out(spot: &Spot, end: usize, set: &mut PatternSet, growth: &mut Growth)
         growth.new.entered.items below set.new) }
     ensures long { length set.new ≡ length set.old }
     ensures more { KeepsMarks set.old set.new }
-    ensures grown { Grows spot.now spot.now.at growth.old growth.new }
+    ensures grown { Grows spot.now text spot.now.at growth.old growth.new }
 {
     let rest = enter_each(spot, end, set, growth);
     spread(spot, rest, spot.at, set, growth);
@@ -174,7 +177,7 @@ fn set_out(spot: &Spot, end: usize, set: &mut PatternSet, growth: &mut Growth)
 fn step(spot: &Spot, curr: &Threads, set: &mut PatternSet, growth: &mut Growth)
     ghost text: { Searched }
     requires here { IsHere spot.now text }
-    requires ready { MayStep spot.now curr.now.items growth.old }
+    requires ready { MayStep spot.now text curr.now.items growth.old }
     requires widths { (curr.now.width ≡ 0) × (growth.old.threads.width ≡ 0) }
     ensures same { (below : List Pair) → AreSame (length set.old)
         (Owed (seen_from spot.now text) spot.now.at [] []
@@ -183,7 +186,7 @@ fn step(spot: &Spot, curr: &Threads, set: &mut PatternSet, growth: &mut Growth)
         growth.new.entered.items below set.new) }
     ensures long { length set.new ≡ length set.old }
     ensures more { KeepsMarks set.old set.new }
-    ensures stepped { HasStepped spot.now curr.now.items growth.old growth.new }
+    ensures stepped { HasStepped spot.now text curr.now.items growth.old growth.new }
 {
     'threads: for index in 0..curr.len() {
         let (head, row) = curr.get(index);
@@ -208,7 +211,7 @@ fn advance(
 )
     ghost text: { Searched }
     requires here { IsHere spot.now text }
-    requires ready { MayStep spot.now curr.now.items growth.old }
+    requires ready { MayStep spot.now text curr.now.items growth.old }
     requires widths { (curr.now.width ≡ 0) × (growth.old.threads.width ≡ 0) }
     requires begins { MayBegin (seen_from spot.now text) spot.now.at may_begin }
     requires own { HasOwnWays (places_of spot.now.course.program.now.places.items) }
@@ -220,7 +223,7 @@ fn advance(
         (entering (spot.now.at + 1) spot.now.course.last) set.new) }
     ensures long { length set.new ≡ length set.old }
     ensures more { KeepsMarks set.old set.new }
-    ensures stepped { HasStepped spot.now curr.now.items growth.old growth.new }
+    ensures stepped { HasStepped spot.now text curr.now.items growth.old growth.new }
 {
     step(spot, curr, set, growth);
     if !may_begin {
@@ -238,7 +241,7 @@ fn turn(spot: &Spot, may_begin: bool, end: usize, set: &mut PatternSet, scratch:
     ghost text: { Searched }
     requires here { IsHere spot.now text }
     requires made { scratch.old.next.entered.capacity ≡ size spot.now.course }
-    requires lined { IsInLine spot.now.course 0 spot.now.at scratch.old }
+    requires lined { IsInLine spot.now.course text 0 spot.now.at scratch.old }
     requires small { scratch.old.insertions + size spot.now.course < 2 ^ 128 }
     requires begins { MayBegin (seen_from spot.now text) spot.now.at may_begin }
     requires own { HasOwnWays (places_of spot.now.course.program.now.places.items) }
@@ -250,7 +253,7 @@ fn turn(spot: &Spot, may_begin: bool, end: usize, set: &mut PatternSet, scratch:
         ++ entering (spot.now.at + 1) spot.now.course.last) set.new) }
     ensures long { length set.new ≡ length set.old }
     ensures more { KeepsMarks set.old set.new }
-    ensures lined { IsInLine spot.now.course 0 (spot.now.at + 1) scratch.new }
+    ensures lined { IsInLine spot.now.course text 0 (spot.now.at + 1) scratch.new }
     ensures kept { IsSame scratch.old scratch.new }
     ensures few { scratch.new.insertions ≤ scratch.old.insertions + size spot.now.course }
 {
@@ -355,7 +358,7 @@ fn pass<C: Cursor>(
     requires same { Keeps text input.old }
     requires setting { IsSetting course text }
     requires bounds { (low text ≤ from) × (from ≤ course.last) }
-    requires made { scratch.old.next.entered.capacity ≡ size course }
+    requires made { IsScratchFor course.program.now scratch.old }
     requires width { scratch.old.next.threads.width ≡ 0 }
     requires guarded { MatchOption prefilter ⊤
         (λ p. Guards (places_of course.program.now.places.items) course.program.now.terminator
@@ -407,7 +410,7 @@ fn choose<C: Cursor>(
     scratch: &mut Scratch,
 )
     requires first { AreOfFirst patterns (places_of program.now.places.items) }
-    requires made { scratch.old.next.entered.capacity ≡ length program.now.places.items }
+    requires made { IsScratchFor program.now scratch.old }
     requires width { scratch.old.next.threads.width ≡ 0 }
     requires guarded { MatchOption prefilter ⊤
         (λ p. Guards (places_of program.now.places.items) program.now.terminator
@@ -451,7 +454,7 @@ pub fn which_patterns<C: Cursor>(
     set: &mut PatternSet,
 )
     requires first { AreOfFirst patterns (places_of program.now.places.items) }
-    requires made { IsCacheFor (length program.now.places.items) 0 cache.old }
+    requires made { IsCacheFor (places_of program.now.places.items) 0 cache.old }
     requires guarded { MatchOption prefilter ⊤
         (λ p. Guards (places_of program.now.places.items) program.now.terminator
         (needles_of p.now)) }

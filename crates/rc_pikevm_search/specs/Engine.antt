@@ -16,7 +16,7 @@ engine_search e = search_of e.program
 
 -- The cache is made for searches by this engine with so many slots.
 abbrev pub IsEngineCache : Engine → ℕ → Made → Type 0
-IsEngineCache e slots cache = IsCacheFor (length e.program.places.items) (row_width (places_of e.program.places.items) slots) cache
+IsEngineCache e slots cache = IsCacheFor (places_of e.program.places.items) (row_width (places_of e.program.places.items) slots) cache
 
 -- The second cache is made for what the first is made for, and its lists have the same room.
 abbrev pub IsSameCache : Made → Made → Type 0

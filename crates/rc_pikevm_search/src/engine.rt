@@ -48,8 +48,7 @@ impl Engine {
     pub fn create_cache(&self, alloc: Global, slots: usize) -> Result<Cache, AllocError>
         ensures { IfOk result (IsEngineCache self.now slots) }
     {
-        let columns = self.program.width(slots);
-        Cache::new(alloc, self.program.places.len(), columns)
+        Cache::new(alloc, &self.program, slots)
     }
 
     /// Returns the match that a search finds. It allocates nothing. The cache counts the places

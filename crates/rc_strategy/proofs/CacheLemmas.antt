@@ -1,5 +1,5 @@
 -- What a cache serves.
-use Rattle.std.proofs.Common.{◌≡◌, ◌∙◌, ℕ, ◌+◌, ◌≤◌, List, length, Option, Some, None, IfSome, true≢false, refl, sym, subst, ap}
+use Rattle.std.proofs.Common.{◌≡◌, ◌∙◌, ℕ, ◌+◌, ◌<◌, ◌≤◌, List, length, Option, Some, None, IfSome, true≢false, refl, sym, subst, ap}
 use Rattle.std.specs.Prelude.{is_some}
 use Rattle.std.proofs.Math.Logic.{∥∥₁_elim}
 use denote.Struct.Props.{props}
@@ -12,6 +12,7 @@ use Rattle.rc_text.specs.declared.types.MatchKind.TheVariants.{All as all_matche
 use Rattle.rc_program.specs.Columns.{row_width}
 use Rattle.rc_program.specs.Places.{places_of}
 use Rattle.rc_pikevm.specs.Caches.{Made}
+use Rattle.rc_pikevm.specs.Readers.{reader_count}
 use Rattle.rc_lazy_dfa.specs.Caches.{IsCacheOf}
 use Rattle.rc_lazy_dfa.specs.Halves.{IsHalf}
 use Rattle.rc_lazy_dfa.specs.Stores.{Frame, frame_of}
@@ -93,7 +94,8 @@ pub still_in : (e : Engines) (slots : ℕ) (c d : Cache) → IsCacheIn e slots c
 still_in e slots c d h s = record {
   pass = (
     ap (λ (p : Made). p.places) s.pass ∙ h.pass.0,
-    subst (λ n. row_width (places_of e.engine.program.places.items) slots ≤ n) (sym (ap (λ (p : Made). p.columns) s.pass)) h.pass.1,
+    subst (λ n. reader_count (places_of e.engine.program.places.items) < n) (sym (ap (λ (p : Made). p.threads) s.pass)) h.pass.1,
+    subst (λ n. row_width (places_of e.engine.program.places.items) slots ≤ n) (sym (ap (λ (p : Made). p.columns) s.pass)) h.pass.2,
   );
   lazy = states_kept e.lazy c.lazy d.lazy h.lazy s.lazy;
 }
@@ -121,16 +123,16 @@ states_still plan (Some l) (Some c) (Some d) h i k = serves plan l d h k
 
 module _ (e : Engines) (slots : ℕ) (plan : LazyPlan) (h : ∥ IfSome e.lazy (IsLazyFor plan) ∥₁) where
   -- a cache that engines make by the plan was made by it,
-  pub made_by : (c : Cache) → is_some c.lazy ≡ is_some e.lazy → IsCacheIn e slots c → IsCacheBy (length e.engine.program.places.items) (row_width (places_of e.engine.program.places.items) slots) plan c
+  pub made_by : (c : Cache) → is_some c.lazy ≡ is_some e.lazy → IsCacheIn e slots c → IsCacheBy (places_of e.engine.program.places.items) (row_width (places_of e.engine.program.places.items) slots) plan c
   made_by c both i = record { pass = i.pass; lazy = states_by plan e.lazy c.lazy h both i.lazy }
 
   -- serves any others by it,
-  pub serves_in : (c : Cache) → IsCacheBy (length e.engine.program.places.items) (row_width (places_of e.engine.program.places.items) slots) plan c → IsCacheIn e slots c
+  pub serves_in : (c : Cache) → IsCacheBy (places_of e.engine.program.places.items) (row_width (places_of e.engine.program.places.items) slots) plan c → IsCacheIn e slots c
   serves_in c i = record { pass = i.pass; lazy = states_in plan e.lazy c.lazy h i.lazy }
 
   -- and stays so
-  pub still_by : (c d : Cache) → IsCacheBy (length e.engine.program.places.items) (row_width (places_of e.engine.program.places.items) slots) plan c → IsSameCacheIn e c d →
-      IsCacheBy (length e.engine.program.places.items) (row_width (places_of e.engine.program.places.items) slots) plan d
+  pub still_by : (c d : Cache) → IsCacheBy (places_of e.engine.program.places.items) (row_width (places_of e.engine.program.places.items) slots) plan c → IsSameCacheIn e c d →
+      IsCacheBy (places_of e.engine.program.places.items) (row_width (places_of e.engine.program.places.items) slots) plan d
   still_by c d i s = record {
     pass = (still_in e slots c d (serves_in c i) s).pass;
     lazy = states_still plan e.lazy c.lazy d.lazy h i.lazy s.lazy;

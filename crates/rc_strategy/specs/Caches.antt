@@ -1,5 +1,6 @@
 -- Caches: what they are made for, and what searches leave of them.
-use Rattle.std.specs.Prelude.{◌≡◌, ℕ, Option, Some, None, IfSome}
+use Rattle.std.specs.Prelude.{◌≡◌, ℕ, List, Option, Some, None, IfSome}
+use Rattle.rc_program.specs.Program.{Place}
 use Rattle.rc_pikevm.specs.Caches.{IsCacheFor}
 use Rattle.rc_lazy_dfa.specs.Caches.{IsCacheOf, usage_of}
 use Rattle.rc_lazy_dfa.specs.declared.lazy.Lazy.{Lazy}
@@ -32,9 +33,9 @@ pub record IsSameCacheIn (e : Engines) (c d : Cache) : Type 0 where
   pub pass : IsSameCache c.pass d.pass
   pub lazy : KeepsStates e.lazy c.lazy d.lazy
 
--- The cache was made for programs of so many places, rows of so many columns, and any lazy DFA that
--- is built by the plan.
-pub record IsCacheBy (places columns : ℕ) (plan : LazyPlan) (c : Cache) : Type 0 where
+-- The cache was made for programs of these places, rows of so many columns, and any lazy DFA that is
+-- built by the plan.
+pub record IsCacheBy (places : List Place) (columns : ℕ) (plan : LazyPlan) (c : Cache) : Type 0 where
   pub pass : IsCacheFor places columns c.pass
   pub lazy : IfSome c.lazy (ServesLazy plan)
 

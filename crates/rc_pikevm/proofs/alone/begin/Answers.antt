@@ -5,7 +5,8 @@ use Rattle.rc_pikevm.specs.Passing.{IsLined}
 use Rattle.rc_pikevm.specs.Rules.{root_of}
 use Rattle.rc_pikevm.specs.Underway.{HasCome}
 use Rattle.rc_pikevm.specs.declared.rule.Rule.{Rule}
-use Rattle.rc_pikevm.proofs.PassingLemmas.{lined_without, no_threads}
+use Rattle.rc_pikevm.proofs.LineLemmas.{no_line}
+use Rattle.rc_pikevm.proofs.PassingLemmas.{no_threads}
 use Rattle.rc_pikevm.proofs.UnderwayLemmas.{skips_by, turns_by}
 use Rattle.rc_pikevm.proofs.AloneLemmas.{none_yet}
 use Rattle.rc_pikevm.proofs.alone.begin.Given.{Over}
@@ -46,12 +47,13 @@ returns-clause-come g c rule from is p =
     out g (goal.at.returns-clause-come g c).After-set_out_alone rule from is (skipped g (goal.at.returns-clause-come g c).After-seek-here rule from p)
 
 -- no thread is under way where a thread sets out
-lined-here : (g : Over) (c : After-seek-here g) → IsLined (size c.args.course) c.args.course.hi c.args.scratch.now.next.threads.width
+lined-here : (g : Over) (c : After-seek-here g) → IsLined (seen_by c.args.course g.text) (size c.args.course) c.args.course.hi c.args.scratch.now.next.threads.width
     c.seek-here.result.0 c.args.scratch.now.insertions c.args.scratch.now.curr
 lined-here g c =
-    lined_without (size c.args.course) c.args.course.hi c.args.scratch.now.next.threads.width c.args.at c.seek-here.result.0
-    c.args.scratch.now.insertions c.args.scratch.now.curr
-    (no_threads c.args.scratch.now.curr.items (omega (arith, c.len.ensures.value, c.if-len-gt0.false))) c.requires.1.1.1.1.1.1.1.1
+    let lined = c.requires.1.1.1.1.1.1.1.1 in
+    no_line (seen_by c.args.course g.text) (size c.args.course) c.args.course.hi c.args.scratch.now.next.threads.width c.args.scratch.now.insertions
+    c.args.scratch.now.curr lined.width_is lined.room c.seek-here.result.0
+    (no_threads c.args.scratch.now.curr.items (omega (arith, c.len.ensures.value, c.if-len-gt0.false)))
 
 pub returns-in_default-clause-lined : goal.returns-in_default-clause-lined
 returns-in_default-clause-lined g c = lined-here g (goal.at.returns-in_default-clause-lined g c).After-seek-here

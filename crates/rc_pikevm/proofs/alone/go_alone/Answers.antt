@@ -82,12 +82,12 @@ returns-in_default-clause-come g c rule from p =
 
 -- the lone thread is in line there
 lined-there : (g : Over) (c : After-move_alone g) → c.args.scratch.now.curr.items ≡ thread_of c.get.result.0 c.get.result.1.now ∷ [] →
-    IsLined (size c.args.course) c.args.course.hi c.args.scratch.now.next.threads.width c.run-ended.result.0.at
+    IsLined (seen_by c.args.course g.text) (size c.args.course) c.args.course.hi c.args.scratch.now.next.threads.width c.run-ended.result.0.at
     c.move_alone.new.scratch.insertions c.move_alone.new.scratch.curr
 lined-there g c e =
     let t = thread_of c.get.result.0 c.get.result.1.now in
     let here : c.get.result.0.at ≡ c.args.at = (c.is_ahead.ensures c.if-not-is_ahead.false).0 in
-    lined_moved (size c.args.course) c.args.course.hi c.args.scratch.now.next.threads.width c.args.at c.args.scratch.now.insertions
+    lined_moved (seen_by c.args.course g.text) (size c.args.course) c.args.course.hi c.args.scratch.now.next.threads.width c.args.at c.args.scratch.now.insertions
     c.move_alone.new.scratch.insertions c.args.scratch.now.curr c.move_alone.new.scratch.curr t c.run-ended.result.0 e
     (c.move_alone.ensures.curr t e) (omega (arith, here, c.run-ended.ensures.later)) c.move_alone.ensures.insertions
     c.requires.1.1.1.1.1.1 c.run-ended.ensures.start c.run-ended.ensures.place_in c.run-ended.ensures.within
@@ -98,7 +98,7 @@ end_walk-requires g c =
     let e = one g (goal.at.end_walk-requires g c).After-get in
     let p = lined-there g (goal.at.end_walk-requires g c).After-move_alone e in
     let ended = rw c.in-Some.is at c.run-ended.ensures.ended in (
-      subst (λ w. IsLined (size c.args.course) c.args.course.hi w c.run-ended.result.0.at c.move_alone.new.scratch.insertions c.move_alone.new.scratch.curr)
+      subst (λ w. IsLined (seen_by c.args.course g.text) (size c.args.course) c.args.course.hi w c.run-ended.result.0.at c.move_alone.new.scratch.insertions c.move_alone.new.scratch.curr)
           (sym c.move_alone.ensures.width) p,
       (
         omega (arith, c.requires.1.1.1.1.1.0, c.move_alone.ensures.insertions, c.run-ended.ensures.within, c.args.course.small),
@@ -129,7 +129,7 @@ returns-clause-come g c rule from p =
     c.end_walk.new.scratch.found.items here c.run-ended.ensures.within
     (subst (λ w. Turns rule s w last at c.move_alone.new.scratch.curr c.end_walk.new.scratch.curr c.args.best.now (Some c.end_walk.result)
     c.move_alone.new.scratch.found.items c.end_walk.new.scratch.found.items) wide (c.end_walk.ensures.turns rule c.args.best.now ahead))
-    (subst (λ w. IsLined n c.args.course.hi w (at + 1) c.end_walk.new.scratch.insertions c.end_walk.new.scratch.curr) wide
+    (subst (λ w. IsLined (seen_by c.args.course g.text) n c.args.course.hi w (at + 1) c.end_walk.new.scratch.insertions c.end_walk.new.scratch.curr) wide
     c.end_walk.ensures.lined)
     c.end_walk.ensures.counted
     (omega (arith, c.end_walk.ensures.few, c.run-ended.ensures.place_in))

@@ -6,8 +6,8 @@ use Rattle.rc_pikevm.proofs.closure.drain.Given as goal
 abbrev pub invariant-frames : goal.invariant-frames
 invariant-frames g l = record {
   explored : Explores (seen_from l.spot g.text) l.spot.at l.start (closure_of l.fn.growth) None (closure_of l.growth);
-  grown : Grows l.spot l.start l.fn.growth l.growth;
-  exploring : IsExploring l.spot l.growth;
+  grown : Grows l.spot g.text l.start l.fn.growth l.growth;
+  exploring : IsExploring l.spot g.text l.growth;
   falls : vec_len l.growth.stack + 3 * length l.fn.growth.entered.items ≤ vec_len l.fn.growth.stack + 3 * length l.growth.entered.items;
 }
 

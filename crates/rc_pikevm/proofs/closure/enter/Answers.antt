@@ -45,7 +45,7 @@ move_in g c =
     (gone_inside (seen_from c.args.spot.now g.text) c.args.place c.args.spot.now.at c.act.ensures.acted.move
     c.args.spot.now.course.program.now.runnable.closed c.act.ensures.acted.goes)
 
-grown : (g : Over) (c : After-act g) → Grows c.args.spot.now c.args.start c.args.growth.now c.act.new.growth
+grown : (g : Over) (c : After-act g) → Grows c.args.spot.now g.text c.args.start c.args.growth.now c.act.new.growth
 grown g c =
     let n : ℕ = size c.args.spot.now.course in
     let a = c.act.ensures.acted in
@@ -53,14 +53,14 @@ grown g c =
     let e = ap (λ (m : Members). length m.items) c.if-not-insert.ensures.after ∙ length_push c.args.growth.now.entered.items c.args.place in
     let f = ap (λ (m : Members). m.capacity) c.if-not-insert.ensures.after in
     omega (arith, e, f, c.if-not-insert.ensures.few, c.requires.1.1.0.capacity) in
-    subst (λ t. IsGrown n c.args.spot.now.course.hi c.args.start c.args.spot.now.at c.args.growth.now.threads c.args.growth.now.entered t
+    subst (λ t. IsGrown (seen_from c.args.spot.now g.text) n c.args.spot.now.course.hi c.args.start c.args.spot.now.at c.args.growth.now.threads c.args.growth.now.entered t
     c.act.new.growth.entered) (sym a.made.threads)
-    (subst (λ e. IsGrown n c.args.spot.now.course.hi c.args.start c.args.spot.now.at c.args.growth.now.threads c.args.growth.now.entered
+    (subst (λ e. IsGrown (seen_from c.args.spot.now g.text) n c.args.spot.now.course.hi c.args.start c.args.spot.now.at c.args.growth.now.threads c.args.growth.now.entered
     (record c.args.growth.now.threads { items = c.args.growth.now.threads.items ++ resting_of c.args.start c.args.growth.now.slots.items a.move }) e)
     (sym (a.made.entered ∙ c.if-not-insert.ensures.after))
     (grown_by n c.args.spot.now.course.hi c.args.start c.args.spot.now.at c.args.place c.args.growth.now.slots.items a.move
     c.args.growth.now.threads c.args.growth.now.entered (seen_from c.args.spot.now g.text)
-    (sym c.requires.0.setting.bound) c.requires.1.1.0 few a.goes
+    (sym c.requires.0.setting.bound) c.requires.1.1.0 c.if-not-insert.ensures.member few a.goes
     (move_in g c)))
 
 pub returns-clause-grown : goal.returns-clause-grown

@@ -29,7 +29,7 @@ turn-requires g c =
     let inv = c.positions.invariant in (
       c.spot_at.ensures.here,
       (
-        inv.same.capacity ∙ c.requires.1.1.1.1.0 ∙ sym (ap size c.spot_at.ensures.course),
+        inv.same.capacity ∙ c.requires.1.1.1.1.0.capacity ∙ sym (ap size c.spot_at.ensures.course),
         (
           rw (c.spot_at.ensures.course, c.spot_at.ensures.at) inv.covering.lined,
           (
@@ -37,7 +37,7 @@ turn-requires g c =
             (
               inv.covering.ended,
               rw c.spot_at.ensures.course (counts_fit (size c.args.course) (c.positions.at - c.args.from) c.positions.scratch.insertions
-                  (omega (arith, c.args.scratch.now.next.stack.small, c.args.scratch.now.next.fits.1, c.requires.1.1.1.1.0))
+                  (omega (arith, c.args.scratch.now.next.stack.small, c.args.scratch.now.next.fits, c.requires.1.1.1.1.0.capacity))
                   (omega (arith, c.args.course.small, c.positions-test.true)) inv.covering.few),
             ),
           ),
@@ -72,6 +72,7 @@ positions-preserved g c = record {
   covering = covers g (goal.at.positions-preserved g c).After-turn;
   same = record {
     capacity = c.turn.ensures.same.capacity ∙ c.positions.invariant.same.capacity;
+    room = c.turn.ensures.same.room ∙ c.positions.invariant.same.room;
     most = c.turn.ensures.same.most ∙ c.positions.invariant.same.most;
     width = c.turn.ensures.same.width ∙ c.positions.invariant.same.width;
   };

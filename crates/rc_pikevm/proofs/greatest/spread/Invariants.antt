@@ -16,8 +16,8 @@ invariant-ends g l = record {
   empty : l.ended ≡ None → reverse l.growth.stack.items ≡ [];
   ordered : IsOrdered l.start l.growth.threads.items;
   counted : StaysCounted l.start l.spot.at l.fn.best l.best;
-  grown : Grows l.spot l.start l.fn.growth l.growth;
-  exploring : IsExploring l.spot l.growth;
+  grown : Grows l.spot g.text l.start l.fn.growth l.growth;
+  exploring : IsExploring l.spot g.text l.growth;
 }
 
 abbrev pub decreases-ends : goal.decreases-ends

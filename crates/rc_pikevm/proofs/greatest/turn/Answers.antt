@@ -39,7 +39,7 @@ returns-clause-seeks g c o x =
 
 pub returns-clause-lined : goal.returns-clause-lined
 returns-clause-lined g c =
-    lined_next c.args.scratch.now.next.threads c.finish.ensures.threads c.clear.ensures.threads c.args.scratch.now.alike c.requires.1.1.0 c.advance.ensures.stepped
+    lined_next c.args.scratch.now.next.threads c.requires.0.setting.bound c.finish.ensures.threads c.clear.ensures.threads c.args.scratch.now.alike c.requires.1.1.0 c.advance.ensures.stepped
     c.finish.ensures.some
 
 pub returns-clause-ordered : goal.returns-clause-ordered

@@ -21,8 +21,8 @@ invariant-ends g l = record {
   empty : l.ended ≡ None → reverse l.growth.stack.items ≡ [];
   sought : IsSought l.best l.start;
   counted : StaysCounted l.start l.spot.at l.fn.best l.best;
-  grown : Grows l.spot l.start l.fn.growth l.growth;
-  exploring : IsExploring l.spot l.growth;
+  grown : Grows l.spot g.text l.start l.fn.growth l.growth;
+  exploring : IsExploring l.spot g.text l.growth;
 }
 
 abbrev pub decreases-ends : goal.decreases-ends

@@ -30,7 +30,7 @@ set_out-requires g c =
 
 pub returns-then-len-eq0-clause-stepped : goal.returns-then-len-eq0-clause-stepped
 returns-then-len-eq0-clause-stepped g c =
-    subst (λ ts. HasStepped c.args.spot.now ts c.args.growth.now c.set_out.new.growth)
+    subst (λ ts. HasStepped c.args.spot.now g.text ts c.args.growth.now c.set_out.new.growth)
     (sym (no_threads c.args.curr.now.items (omega (arith, c.len.ensures.value, c.if-len-eq0.true)))) c.set_out.ensures.stepped
 
 pub returns-in-Some-clause-stepped : goal.returns-in-Some-clause-stepped

@@ -1,4 +1,4 @@
-use Rattle.std.proofs.Common.{◌<◌, ◌≡◌, ℕ, None, ◌+◌, ◌*◌, length, refl, sym, ap, subst, ◌∙◌, arith, ◌-◌, ◌≤◌}
+use Rattle.std.proofs.Common.{◌<◌, ◌≡◌, ℕ, None, ◌+◌, length, refl, sym, ap, subst, ◌∙◌, arith, ◌-◌, ◌≤◌}
 use Rattle.rc_pikevm.specs.Sights.{HasNoWalkFrom}
 use Rattle.rc_text.specs.Text.{Keeps}
 use Rattle.rc_pikevm.specs.Threads.{ThreadList}
@@ -65,7 +65,7 @@ turned g c here =
     c.turn_by.new.best c.try_fast_path-here.new.scratch.found.items c.turn_by.new.scratch.found.items here c.try_fast_path-here.ensures.within
     (subst (λ w. Turns c.args.rule (seen_by c.args.course g.text) w last at c.try_fast_path-here.new.scratch.curr c.turn_by.new.scratch.curr
     c.try_fast_path-here.new.best c.turn_by.new.best c.try_fast_path-here.new.scratch.found.items c.turn_by.new.scratch.found.items) wide turns)
-    (subst (λ w. IsLined n c.args.course.hi w (at + 1) c.turn_by.new.scratch.insertions c.turn_by.new.scratch.curr) wide lined)
+    (subst (λ w. IsLined (seen_by c.args.course g.text) n c.args.course.hi w (at + 1) c.turn_by.new.scratch.insertions c.turn_by.new.scratch.curr) wide lined)
     c.turn_by.ensures.counted (rw c.spot_at.ensures.course at c.turn_by.ensures.few)
 
 pub positions-init : goal.positions-init
@@ -77,10 +77,9 @@ positions-init g c = record {
       c.args.from c.args.course.last c.clear.new.self c.args.scratch.now.found.items (ap (λ (l : ThreadList). l.items) c.clear.ensures)
       (let w = ap (λ (l : ThreadList). l.width) c.clear.ensures in
       omega (arith, w, c.len.ensures, c.args.scratch.now.next.wide.0, c.args.scratch.now.next.slots.ok.0))
-      (ap (λ (l : ThreadList). l.room) c.clear.ensures ∙ c.args.scratch.now.alike.0 ∙ c.args.scratch.now.next.fits.0
-      ∙ ap (λ n. 4 * n) c.requires.1.1.1.1.1.0)
+      (let r = ap (λ (l : ThreadList). l.room) c.clear.ensures in omega (arith, r, c.args.scratch.now.alike.0, c.requires.1.1.1.1.1.0.room))
       c.requires.1.1.1.1.0.1 c.args.course.ordered;
-  same = record { capacity = refl; most = refl; width = refl };
+  same = record { capacity = refl; room = refl; most = refl; width = refl };
 }
 
 pub returns-clause-gives : goal.returns-clause-gives
@@ -173,9 +172,9 @@ try_fast_path-here-requires g c =
                   subst (StandsFor (seen_by c.args.course g.text)) (sym c.root_of-root.ensures) there.1,
                   (
                     counts_small (size c.args.course) (at - c.args.from) c.positions.scratch.insertions
-                        (omega (arith, c.args.scratch.now.next.stack.small, c.args.scratch.now.next.fits.1, c.requires.1.1.1.1.1.0))
+                        (omega (arith, c.args.scratch.now.next.stack.small, c.args.scratch.now.next.fits, c.requires.1.1.1.1.1.0.capacity))
                         (omega (arith, c.args.course.small, on.1)) here.few,
-                    subst (λ w. IsLined (size c.args.course) c.args.course.hi w at c.positions.scratch.insertions c.positions.scratch.curr)
+                    subst (λ w. IsLined (seen_by c.args.course g.text) (size c.args.course) c.args.course.hi w at c.positions.scratch.insertions c.positions.scratch.curr)
                         (sym c.positions.invariant.same.width) here.lined,
                   ),
                 ),
@@ -210,16 +209,16 @@ turn_by-requires g c =
     (moved g (goal.at.turn_by-requires g c).After-next_position c.in-Some.next_at on) in (
       c.spot_at.ensures.here,
       (
-        same.capacity ∙ inv.same.capacity ∙ c.requires.1.1.1.1.1.0 ∙ sym (ap size c.spot_at.ensures.course),
+        same.capacity ∙ inv.same.capacity ∙ c.requires.1.1.1.1.1.0.capacity ∙ sym (ap size c.spot_at.ensures.course),
         (
           rw (c.spot_at.ensures.course, c.spot_at.ensures.at)
-              (subst (λ w. IsLined (size c.args.course) c.args.course.hi w at c.try_fast_path-here.new.scratch.insertions c.try_fast_path-here.new.scratch.curr)
+              (subst (λ w. IsLined (seen_by c.args.course g.text) (size c.args.course) c.args.course.hi w at c.try_fast_path-here.new.scratch.insertions c.try_fast_path-here.new.scratch.curr)
               (sym (same.width ∙ inv.same.width)) here.lined),
           (
             here.ended,
             (
               rw c.spot_at.ensures.course (counts_fit (size c.args.course) (at - c.args.from) c.try_fast_path-here.new.scratch.insertions
-                  (omega (arith, c.args.scratch.now.next.stack.small, c.args.scratch.now.next.fits.1, c.requires.1.1.1.1.1.0))
+                  (omega (arith, c.args.scratch.now.next.stack.small, c.args.scratch.now.next.fits, c.requires.1.1.1.1.1.0.capacity))
                   (omega (arith, c.args.course.small, c.try_fast_path-here.ensures.within)) here.few),
               rw c.spot_at.ensures.course c.requires.1.1.1.1.1.1,
             ),
@@ -341,6 +340,7 @@ positions-preserved g c =
           (moved g (goal.at.positions-preserved g c).After-next_position c.in-Some.next_at on));
       same = record {
         capacity = c.turn_by.ensures.same.capacity ∙ c.try_fast_path-here.ensures.same.capacity ∙ inv.same.capacity;
+        room = c.turn_by.ensures.same.room ∙ c.try_fast_path-here.ensures.same.room ∙ inv.same.room;
         most = c.turn_by.ensures.same.most ∙ c.try_fast_path-here.ensures.same.most ∙ inv.same.most;
         width = c.turn_by.ensures.same.width ∙ c.try_fast_path-here.ensures.same.width ∙ inv.same.width;
       };

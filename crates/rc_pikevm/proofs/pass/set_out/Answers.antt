@@ -14,7 +14,7 @@ use Rattle.rc_pikevm.proofs.pass.set_out.Given.{Over}
 use Rattle.rc_pikevm.proofs.pass.set_out.Goals as goal
 use Rattle.rc_pikevm.proofs.pass.set_out.Goals.{Start}
 
-begun : (g : Over) (c : Start g) → HasStepped c.args.spot.now [] c.args.growth.now c.args.growth.now
+begun : (g : Over) (c : Start g) → HasStepped c.args.spot.now g.text [] c.args.growth.now c.args.growth.now
 begun g c = let r = c.requires.1.0 in gone_begins r.no_threads r.no_places r.capacity (omega (arith, r.room))
 
 pub returns-then-not-is_open-clause-stepped : goal.returns-then-not-is_open-clause-stepped

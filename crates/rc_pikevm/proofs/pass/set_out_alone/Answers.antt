@@ -14,7 +14,7 @@ use Rattle.rc_pikevm.proofs.pass.set_out_alone.Goals as goal
 use Rattle.rc_pikevm.proofs.pass.set_out_alone.Goals.{After-push}
 
 pub push-requires-clause-room : goal.push-requires-clause-room
-push-requires-clause-room g c = omega (arith, c.requires.1.1.1.0, c.requires.1.0.room, c.requires.1.1.1.1.1.1.1.inside)
+push-requires-clause-room g c = omega (arith, c.requires.1.1.1.0, c.requires.1.0.room)
 
 turns : (g : Over) (c : After-push g) (rule : Rule) → root_of rule ≡ c.args.root →
     Turns rule (seen_by c.args.course g.text) c.args.scratch.now.next.threads.width c.args.course.last c.args.at c.args.scratch.now.curr c.push.new.self

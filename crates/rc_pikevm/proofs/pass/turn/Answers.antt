@@ -63,12 +63,12 @@ returns-clause-carries g c limit le free o x =
 
 pub returns-in-Some-clause-lined : goal.returns-in-Some-clause-lined
 returns-in-Some-clause-lined g c =
-    lined_next c.args.scratch.now.next.threads c.finish.ensures.threads c.clear.ensures.threads c.args.scratch.now.alike c.requires.1.1.0 c.in-Some.ensures.stepped
+    lined_next c.args.scratch.now.next.threads c.requires.0.setting.bound c.finish.ensures.threads c.clear.ensures.threads c.args.scratch.now.alike c.requires.1.1.0 c.in-Some.ensures.stepped
     c.finish.ensures.some
 
 pub returns-clause-lined : goal.returns-clause-lined
 returns-clause-lined g c =
-    lined_next c.args.scratch.now.next.threads c.finish.ensures.threads c.clear.ensures.threads c.args.scratch.now.alike c.requires.1.1.0 c.in_default.ensures.stepped
+    lined_next c.args.scratch.now.next.threads c.requires.0.setting.bound c.finish.ensures.threads c.clear.ensures.threads c.args.scratch.now.alike c.requires.1.1.0 c.in_default.ensures.stepped
     c.finish.ensures.some
 
 pub returns-in-Some-clause-counted : goal.returns-in-Some-clause-counted

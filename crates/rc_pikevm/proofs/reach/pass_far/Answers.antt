@@ -1,4 +1,4 @@
-use Rattle.std.proofs.Common.{ℕ, ◌+◌, ◌-◌, ◌*◌, ◌<◌, ◌≤◌, [], length, min, inl, inr, refl, sym, ap, subst, ◌∙◌, ⊎_elim, arith, Option, Some, None, MatchOption, is_none, true≢false}
+use Rattle.std.proofs.Common.{ℕ, ◌+◌, ◌-◌, ◌<◌, ◌≤◌, [], length, min, inl, inr, refl, sym, ap, subst, ◌∙◌, ⊎_elim, arith, Option, Some, None, MatchOption, is_none, true≢false}
 use Rattle.std.specs.Bool.{⊤}
 use Rattle.std.proofs.lemmas.Bool.{cases_lt}
 use Rattle.std.proofs.lemmas.List.{length-map}
@@ -32,14 +32,13 @@ positions-init g c =
           c.args.from c.args.course.last c.clear.new.self c.args.scratch.now.found.items no_items
           (let w = ap (λ (l : ThreadList). l.width) c.clear.ensures in
           omega (arith, w, c.len.ensures, c.args.scratch.now.next.wide.0, c.args.scratch.now.next.slots.ok.0))
-          (ap (λ (l : ThreadList). l.room) c.clear.ensures ∙ c.args.scratch.now.alike.0 ∙ c.args.scratch.now.next.fits.0
-          ∙ ap (λ n. 4 * n) c.requires.1.1.1.1)
+          (let r = ap (λ (l : ThreadList). l.room) c.clear.ensures in omega (arith, r, c.args.scratch.now.alike.0, c.requires.1.1.1.1.room))
           c.requires.1.1.1.0.1 c.args.course.ordered;
       carries = λ limit up o x. begins_to s (size c.args.course) c.args.course.hi c.args.scratch.now.next.threads.width
           c.args.from c.args.course.last limit c.clear.new.self.items c.args.scratch.now.found.items no_items c.requires.1.1.1.0.1 o x;
       ended = λ x le. tt;
       live = inr (refl, c.requires.1.1.1.0.1);
-      same = record { capacity = refl; most = refl; width = refl };
+      same = record { capacity = refl; room = refl; most = refl; width = refl };
     }
 
 pub reach-requires-clause-inside : goal.reach-requires-clause-inside
@@ -74,15 +73,15 @@ turn-best-requires g c =
     let rooted = subst (λ n. 0 < n) (length-map c.args.course.program.now.places.items place_of) c.args.course.program.now.runnable.rooted in (
       c.spot_at.ensures.here,
       (
-        inv.same.capacity ∙ c.requires.1.1.1.1 ∙ sym (ap size c.spot_at.ensures.course),
+        inv.same.capacity ∙ c.requires.1.1.1.1.capacity ∙ sym (ap size c.spot_at.ensures.course),
         (
           rw (c.spot_at.ensures.course, c.spot_at.ensures.at)
-              (subst (λ w. IsLined n c.args.course.hi w at c.positions.scratch.insertions c.positions.scratch.curr) (sym inv.same.width) inv.come.lined),
+              (subst (λ w. IsLined (seen_by c.args.course g.text) n c.args.course.hi w at c.positions.scratch.insertions c.positions.scratch.curr) (sym inv.same.width) inv.come.lined),
           (
             inv.come.ended,
             (
               rw c.spot_at.ensures.course (counts_fit n (at - c.args.from) c.positions.scratch.insertions
-                  (omega (arith, c.args.scratch.now.next.stack.small, c.args.scratch.now.next.fits.1, c.requires.1.1.1.1))
+                  (omega (arith, c.args.scratch.now.next.stack.small, c.args.scratch.now.next.fits, c.requires.1.1.1.1.capacity))
                   (omega (arith, c.args.course.small, c.positions-test.true)) inv.come.few),
               (rw c.spot_at.ensures.course rooted, stands_itself (seen_from c.spot_at.result g.text)),
             ),
@@ -122,7 +121,7 @@ turned g c =
     c.positions.scratch.insertions c.turn-best.new.scratch.insertions c.positions.scratch.curr c.turn-best.new.scratch.curr c.positions.best c.turn-best.result
     c.positions.scratch.found.items c.turn-best.new.scratch.found.items c.positions.invariant.come c.positions-test.true
     (λ o x. carried g c None tt o x)
-    (subst (λ w. IsLined n c.args.course.hi w (at + 1) c.turn-best.new.scratch.insertions c.turn-best.new.scratch.curr) wide lined)
+    (subst (λ w. IsLined (seen_by c.args.course g.text) n c.args.course.hi w (at + 1) c.turn-best.new.scratch.insertions c.turn-best.new.scratch.curr) wide lined)
     c.turn-best.ensures.counted (rw c.spot_at.ensures.course at c.turn-best.ensures.few)
 
 -- what it has carried from its starts on
@@ -154,6 +153,7 @@ positions-preserved g c =
       live = c.if-not-goes_on.ensures;
       same = record {
         capacity = c.turn-best.ensures.same.capacity ∙ inv.same.capacity;
+        room = c.turn-best.ensures.same.room ∙ inv.same.room;
         most = c.turn-best.ensures.same.most ∙ inv.same.most;
         width = c.turn-best.ensures.same.width ∙ inv.same.width;
       };

@@ -127,6 +127,7 @@ starts-preserved g c =
           omega (arith, m, c.in-Some.ensures.few);
       same = record {
         capacity = c.in-Some.ensures.same.capacity ∙ c.starts.invariant.same.capacity;
+        room = c.in-Some.ensures.same.room ∙ c.starts.invariant.same.room;
         most = c.in-Some.ensures.same.most ∙ c.starts.invariant.same.most;
         width = c.in-Some.ensures.same.width ∙ c.starts.invariant.same.width;
       };

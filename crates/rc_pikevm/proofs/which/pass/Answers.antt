@@ -1,4 +1,4 @@
-use Rattle.std.proofs.Common.{◌+◌, sym, ap, subst, refl, ◌∙◌, arith, ⊎_elim, true≢false, ◌-◌, ◌*◌, ◌≤◌}
+use Rattle.std.proofs.Common.{◌+◌, sym, ap, subst, refl, ◌∙◌, arith, ⊎_elim, true≢false, ◌-◌, ◌≤◌}
 use Rattle.rc_text.specs.Text.{Keeps}
 use Rattle.rc_pikevm.specs.Threads.{ThreadList}
 use Rattle.rc_pikevm.specs.Moves.{seen_by}
@@ -19,12 +19,12 @@ positions-init g c = record {
   begun = kept_begun c.args.input.now g.text c.args.from c.open-window.result (kept_back g.text c.args.input.now c.requires.1.0) c.open-window.ensures.begun;
   marking = marking_from (seen_by c.args.course g.text) (size c.args.course) c.args.course.hi c.args.from c.args.course.last c.args.wanted.0 c.args.wanted.1
       c.args.set.now c.clear.new.self (ap (λ (l : ThreadList). l.items) c.clear.ensures) (ap (λ (l : ThreadList). l.width) c.clear.ensures)
-      (ap (λ (l : ThreadList). l.room) c.clear.ensures ∙ c.args.scratch.now.alike.0 ∙ c.args.scratch.now.next.fits.0 ∙ ap (λ n. 4 * n) c.requires.1.1.1.1.0)
+      (let r = ap (λ (l : ThreadList). l.room) c.clear.ensures in omega (arith, r, c.args.scratch.now.alike.0, c.requires.1.1.1.1.0.room))
       c.requires.1.1.1.0.1 c.args.course.ordered;
   full = λ p l u. absurd (omega (arith, l, u));
   near = omega (arith, c.requires.1.1.1.0.1, c.args.course.ordered);
   none = λ y l u. absurd (omega (arith, l, u));
-  same = record { capacity = refl; most = refl; width = refl };
+  same = record { capacity = refl; room = refl; most = refl; width = refl };
 }
 
 pub next_start-start-requires-clause-none : goal.next_start-start-requires-clause-none
@@ -87,12 +87,12 @@ turn-requires g c =
     let here = skipped g (goal.at.turn-requires g c).After-skip_to-at (started g (goal.at.turn-requires g c).After-next_start-start) in (
       c.spot_at.ensures.here,
       (
-        c.positions.invariant.same.capacity ∙ c.requires.1.1.1.1.0 ∙ sym (ap size c.spot_at.ensures.course),
+        c.positions.invariant.same.capacity ∙ c.requires.1.1.1.1.0.capacity ∙ sym (ap size c.spot_at.ensures.course),
         (
           rw (c.spot_at.ensures.course, c.spot_at.ensures.at) here.lined,
           (
             rw c.spot_at.ensures.course (counts_fit (size c.args.course) (c.skip_to-at.result - c.args.from) c.positions.scratch.insertions
-                (omega (arith, c.args.scratch.now.next.stack.small, c.args.scratch.now.next.fits.1, c.requires.1.1.1.1.0))
+                (omega (arith, c.args.scratch.now.next.stack.small, c.args.scratch.now.next.fits, c.requires.1.1.1.1.0.capacity))
                 (omega (arith, c.args.course.small, c.if-at-course.false)) here.few),
             (
               rw (c.spot_at.ensures.course, c.spot_at.ensures.at)
@@ -168,6 +168,7 @@ positions-preserved g c =
       none = λ y l u. started g (goal.at.positions-preserved g c).After-next_start-start y (omega (arith, l, c.skip_to-at.ensures.within.0)) u;
       same = record {
         capacity = c.turn.ensures.kept.capacity ∙ inv.same.capacity;
+        room = c.turn.ensures.kept.room ∙ inv.same.room;
         most = c.turn.ensures.kept.most ∙ inv.same.most;
         width = c.turn.ensures.kept.width ∙ inv.same.width;
       };

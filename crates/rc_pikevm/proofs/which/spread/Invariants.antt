@@ -16,8 +16,8 @@ invariant-ends g l = record {
   empty : l.ended ≡ None → reverse l.growth.stack.items ≡ [];
   long : length l.set ≡ length l.fn.set;
   more : KeepsMarks l.fn.set l.set;
-  grown : Grows l.spot l.start l.fn.growth l.growth;
-  exploring : IsExploring l.spot l.growth;
+  grown : Grows l.spot g.text l.start l.fn.growth l.growth;
+  exploring : IsExploring l.spot g.text l.growth;
 }
 
 abbrev pub decreases-ends : goal.decreases-ends
