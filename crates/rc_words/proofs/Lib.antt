@@ -1,0 +1,4 @@
+pub mod SpellLemmas
+pub mod AnswerLemmas
+pub mod LookLemmas
+pub mod EndingLemmas
