@@ -1,0 +1,6 @@
+mod AsciiLemmas
+mod Examples
+mod CodeLemmas
+mod LaidLemmas
+mod LighterLemmas
+mod ProgramLemmas
