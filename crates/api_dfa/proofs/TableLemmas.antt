@@ -17,6 +17,7 @@ use Rattle.rc_dense_dfa.specs.declared.dense.Dense.{Dense}
 use Rattle.rc_dense_dfa.specs.declared.error.TableError.{TableError}
 use Rattle.rc_dense_dfa.specs.declared.error.TableError.TheVariants.{Memory, TooBig}
 use Rattle.rc_build.specs.Refusals.{IsBuildable}
+use Rattle.rc_build.specs.declared.limit.Limit.{Limit}
 use Rattle.rc_build.proofs.Runnable.{bounded}
 use Rattle.rc_dfa_search.specs.Classes.{AreClassesOf}
 use Rattle.rc_dfa_search.specs.Machines.{AreMachines}
@@ -25,7 +26,7 @@ use Rattle.api_dfa.specs.Makes.{IsTablesRefusal, refusal_of}
 use Rattle.api_dfa.specs.Tables.{AreLight, AreSources, AreTables, IsTooBig}
 
 -- the program of patterns that can be built is light
-pub program_light : (limit : Option ℕ) (grouped : Bool) (hs : List Re) → IsBuildable limit hs → heaviness (program (shown grouped hs)) ≤ 2147483646
+pub program_light : (limit : Limit) (grouped : Bool) (hs : List Re) → IsBuildable limit hs → heaviness (program (shown grouped hs)) ≤ 2147483646
 program_light limit grouped hs ok =
     let weighs = program_weighs (shown grouped hs) (bounded grouped hs ok.well_formed) in
     let lighter = shown_lighter grouped hs in

@@ -8,7 +8,7 @@ use Rattle.rc_settings.specs.Thompson.{Settings, nfa_size_limit_of}
 use Rattle.rc_settings.specs.declared.error.BuildError.{BuildError}
 use Rattle.rc_settings.specs.declared.error.BuildError.TheVariants.{DfaSizeLimit}
 use Rattle.rc_build.specs.Fits.{sought_by}
-use Rattle.rc_build.specs.Refusals.{IsBuildable, IsRefusal}
+use Rattle.rc_build.specs.Refusals.{IsBuildable, IsRefusal, limit_by}
 use Rattle.rc_build.specs.TextRefusals.{AllRead, IsTextRefusal}
 use Rattle.api_dfa.specs.Tables.{AreLight, IsTooBig}
 use Rattle.api_dfa.specs.Views.{dfa_of, sought, dfa_kind}
@@ -28,14 +28,15 @@ AreTooBig program states hs n =
     (dfa_size_limit_of states ≡ Some n) × IsTooBig (sought_by program hs) (match_kind_of states.search) (byte_classes_of states) n
 
 -- The refusal is the first one that applies to the patterns. Want of memory may come at any time.
-abbrev pub IsDfaRefusal : Settings → StateSettings (Option ℕ) → List Re → BuildError → Type 0
-IsDfaRefusal program states hs (DfaSizeLimit n) = IsBuildable (nfa_size_limit_of program) hs × AreTooBig program states hs n
-IsDfaRefusal program states hs e = IsRefusal (nfa_size_limit_of program) hs e
+abbrev pub IsDfaRefusal : Settings → StateSettings (Option ℕ) → SyntaxSettings → List Re → BuildError → Type 0
+IsDfaRefusal program states syntax hs (DfaSizeLimit n) =
+    IsBuildable (limit_by (nfa_size_limit_of program) syntax) hs × AreTooBig program states hs n
+IsDfaRefusal program states syntax hs e = IsRefusal (limit_by (nfa_size_limit_of program) syntax) hs e
 
 -- The refusal is the first one that applies to the texts. Want of memory may come at any time.
 abbrev pub IsDfaTextRefusal : Settings → StateSettings (Option ℕ) → SyntaxSettings → List (List ℕ) → BuildError → Type 0
 IsDfaTextRefusal program states syntax texts (DfaSizeLimit n) =
-    (hs : List Re) × AllRead syntax texts hs × IsDfaRefusal program states hs (DfaSizeLimit n)
+    (hs : List Re) × AllRead syntax texts hs × IsDfaRefusal program states syntax hs (DfaSizeLimit n)
 IsDfaTextRefusal program states syntax texts e = IsTextRefusal (nfa_size_limit_of program) syntax texts e
 
 -- each direction of what was built is within the limit, by the classes that are set

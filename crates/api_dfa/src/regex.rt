@@ -15,7 +15,7 @@ pub struct Regex {
 impl Regex {
     ghost use Rattle.std.specs.Prelude.{◌≡◌, ◌≤◌, ◌∷◌, [], IfErr, IfOk, length, None};
     ghost use Rattle.rc_text.specs.Limits.{most_patterns};
-    ghost use Rattle.rc_build.specs.Refusals.{IsBuildable};
+    ghost use Rattle.rc_build.specs.Refusals.{IsBuildable, limit_by};
     ghost use Rattle.rc_build.specs.TextRefusals.{AllRead, texts_of};
     ghost use Rattle.rc_parser.specs.Settings.{default_settings};
     ghost use Rattle.rc_settings.specs.SearchSettings.{none_set};
@@ -31,7 +31,8 @@ impl Regex {
             (dfa_patterns (dfa_of re))) }
         ensures settings { IfOk result (λ re. dfa_settings (dfa_of re) ≡ none_set) }
         ensures program { IfOk result (λ re. dfa_program (dfa_of re) ≡ unset) }
-        ensures buildable { IfOk result (λ re. IsBuildable None (dfa_patterns (dfa_of re))) }
+        ensures buildable { IfOk result (λ re. IsBuildable (limit_by None default_settings)
+            (dfa_patterns (dfa_of re))) }
         ensures refused { IfErr result (λ e. IsDfaTextRefusal unset no_limit_set default_settings
             (pattern.now ∷ []) e) }
     {
@@ -51,7 +52,8 @@ impl Regex {
             (dfa_patterns (dfa_of re))) }
         ensures settings { IfOk result (λ re. dfa_settings (dfa_of re) ≡ none_set) }
         ensures program { IfOk result (λ re. dfa_program (dfa_of re) ≡ unset) }
-        ensures buildable { IfOk result (λ re. IsBuildable None (dfa_patterns (dfa_of re))) }
+        ensures buildable { IfOk result (λ re. IsBuildable (limit_by None default_settings)
+            (dfa_patterns (dfa_of re))) }
         ensures refused { IfErr result (λ e. IsDfaTextRefusal unset no_limit_set default_settings
             (texts_of patterns.now) e) }
     {

@@ -8,7 +8,7 @@ use Rattle.rc_settings.specs.Thompson.{Settings, nfa_size_limit_of}
 use Rattle.rc_settings.specs.declared.error.BuildError.{BuildError}
 use Rattle.rc_settings.specs.declared.error.BuildError.TheVariants.{CacheTooSmall}
 use Rattle.rc_build.specs.Fits.{sought_by}
-use Rattle.rc_build.specs.Refusals.{IsBuildable, IsRefusal}
+use Rattle.rc_build.specs.Refusals.{IsBuildable, IsRefusal, limit_by}
 use Rattle.rc_build.specs.TextRefusals.{AllRead, IsTextRefusal}
 use Rattle.api_hybrid.specs.Makes.{HasCapacity, IsTooSmall}
 use Rattle.api_hybrid.specs.Views.{sought, regex_kind}
@@ -23,16 +23,16 @@ abbrev pub cache_capacity_of : StateSettings ℕ → ℕ
 cache_capacity_of s = unwrap_or s.limit 2097152
 
 -- The refusal is the first one that applies to the patterns. Want of memory may come at any time.
-abbrev pub IsHybridRefusal : Settings → StateSettings ℕ → List Re → BuildError → Type 0
-IsHybridRefusal program states hs (CacheTooSmall m n) =
-    IsBuildable (nfa_size_limit_of program) hs
+abbrev pub IsHybridRefusal : Settings → StateSettings ℕ → SyntaxSettings → List Re → BuildError → Type 0
+IsHybridRefusal program states syntax hs (CacheTooSmall m n) =
+    IsBuildable (limit_by (nfa_size_limit_of program) syntax) hs
     × IsTooSmall (sought_by program hs) (match_kind_of states.search) (byte_classes_of states) (cache_capacity_of states) m n
-IsHybridRefusal program states hs e = IsRefusal (nfa_size_limit_of program) hs e
+IsHybridRefusal program states syntax hs e = IsRefusal (limit_by (nfa_size_limit_of program) syntax) hs e
 
 -- The refusal is the first one that applies to the texts. Want of memory may come at any time.
 abbrev pub IsHybridTextRefusal : Settings → StateSettings ℕ → SyntaxSettings → List (List ℕ) → BuildError → Type 0
 IsHybridTextRefusal program states syntax texts (CacheTooSmall m n) =
-    (hs : List Re) × AllRead syntax texts hs × IsHybridRefusal program states hs (CacheTooSmall m n)
+    (hs : List Re) × AllRead syntax texts hs × IsHybridRefusal program states syntax hs (CacheTooSmall m n)
 IsHybridTextRefusal program states syntax texts e = IsTextRefusal (nfa_size_limit_of program) syntax texts e
 
 -- what was built has the capacity that is set, and that serves, by the classes that are set

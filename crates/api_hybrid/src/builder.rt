@@ -3,7 +3,7 @@
 ghost use Rattle.std.specs.Prelude.{◌≡◌, ◌≤◌, ◌∷◌, [], IfOk, IfErr, length, map};
 ghost use Rattle.rc_text.specs.Limits.{most_patterns};
 ghost use Rattle.rc_pattern.specs.Meaning.{meaning};
-ghost use Rattle.rc_build.specs.Refusals.{IsBuildable};
+ghost use Rattle.rc_build.specs.Refusals.{IsBuildable, limit_by};
 ghost use Rattle.rc_build.specs.TextRefusals.{AllRead, texts_of};
 ghost use Rattle.rc_parser.specs.Settings.{default_settings, settings_of as syntax_of};
 ghost use Rattle.rc_settings.specs.StateSettings.{state_settings_of, state_settings_over};
@@ -92,7 +92,8 @@ impl Builder {
             ≡ (builder_settings self.now).search) }
         ensures program { IfOk result (λ re. regex_program re ≡ builder_program self.now) }
         ensures buildable { IfOk result (λ re. IsBuildable
-            (nfa_size_limit_of (builder_program self.now)) (regex_patterns re)) }
+            (limit_by (nfa_size_limit_of (builder_program self.now)) (builder_syntax self.now))
+            (regex_patterns re)) }
         ensures within { IfOk result (IsWithinCapacity (builder_settings self.now)) }
         ensures refused { IfErr result (λ e. IsHybridTextRefusal (builder_program self.now)
             (builder_settings self.now) (builder_syntax self.now) (pattern.now ∷ []) e) }
@@ -113,7 +114,8 @@ impl Builder {
             ≡ (builder_settings self.now).search) }
         ensures program { IfOk result (λ re. regex_program re ≡ builder_program self.now) }
         ensures buildable { IfOk result (λ re. IsBuildable
-            (nfa_size_limit_of (builder_program self.now)) (regex_patterns re)) }
+            (limit_by (nfa_size_limit_of (builder_program self.now)) (builder_syntax self.now))
+            (regex_patterns re)) }
         ensures within { IfOk result (IsWithinCapacity (builder_settings self.now)) }
         ensures refused { IfErr result (λ e. IsHybridTextRefusal (builder_program self.now)
             (builder_settings self.now) (builder_syntax self.now) (texts_of patterns.now) e) }
@@ -125,10 +127,11 @@ impl Builder {
     /// Builds a `Regex` from these patterns, at most 2,147,483,647.
     ///
     /// The error is the first of these that applies: `IllFormed`, with the first pattern that isn't
-    /// well-formed; `SizeLimit`, if 32 times the weight of the patterns is above the size limit;
-    /// `PlaceLimit`, if the weight is above 2,147,483,646; `CacheTooSmall`, with the capacity and
-    /// the minimum, if the capacity is below the minimum. `Memory` means out of memory, or that the
-    /// minimum overflows. The builder stays as it was.
+    /// well-formed; `SizeLimit`, if 32 times the weight of the patterns by the grammar that is set
+    /// is above the size limit; `PlaceLimit`, if the weight by the stated grammar is above
+    /// 2,147,483,646; `CacheTooSmall`, with the capacity and the minimum, if the capacity is below
+    /// the minimum. `Memory` means out of memory, or that the minimum overflows. The builder stays
+    /// as it was.
     pub fn build_many_from_hir(&self, alloc: Global, hirs: &[Hir]) -> Result<Regex, BuildError>
         requires { length hirs.now ≤ most_patterns }
         ensures patterns { IfOk result (λ re. regex_patterns re ≡ map meaning hirs.now) }
@@ -136,15 +139,17 @@ impl Builder {
             ≡ (builder_settings self.now).search) }
         ensures program { IfOk result (λ re. regex_program re ≡ builder_program self.now) }
         ensures buildable { IfOk result (λ _. IsBuildable
-            (nfa_size_limit_of (builder_program self.now)) (map meaning hirs.now)) }
+            (limit_by (nfa_size_limit_of (builder_program self.now)) (builder_syntax self.now))
+            (map meaning hirs.now)) }
         ensures within { IfOk result (IsWithinCapacity (builder_settings self.now)) }
         ensures refused { IfErr result (λ e. IsHybridRefusal (builder_program self.now)
-            (builder_settings self.now) (map meaning hirs.now) e) }
+            (builder_settings self.now) (builder_syntax self.now) (map meaning hirs.now) e) }
     {
         let search = states::search_settings(&self.config);
         let built = build_all(
             alloc,
             hirs,
+            self.syntax.get_grammar(),
             self.thompson,
             search.get_match_kind(),
             search.get_prefilter(),

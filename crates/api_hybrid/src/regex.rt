@@ -49,7 +49,7 @@ impl Drop for Regex {
 impl Regex {
     ghost use Rattle.std.specs.Prelude.{◌≡◌, ◌≤◌, ◌∷◌, [], IfErr, IfOk, length, None};
     ghost use Rattle.rc_text.specs.Limits.{most_patterns};
-    ghost use Rattle.rc_build.specs.Refusals.{IsBuildable};
+    ghost use Rattle.rc_build.specs.Refusals.{IsBuildable, limit_by};
     ghost use Rattle.rc_build.specs.TextRefusals.{AllRead, texts_of};
     ghost use Rattle.rc_parser.specs.Settings.{default_settings};
     ghost use Rattle.rc_settings.specs.SearchSettings.{none_set};
@@ -66,7 +66,8 @@ impl Regex {
             (regex_patterns re)) }
         ensures settings { IfOk result (λ re. regex_settings re ≡ none_set) }
         ensures program { IfOk result (λ re. regex_program re ≡ unset) }
-        ensures buildable { IfOk result (λ re. IsBuildable None (regex_patterns re)) }
+        ensures buildable { IfOk result (λ re. IsBuildable (limit_by None default_settings)
+            (regex_patterns re)) }
         ensures within { IfOk result (IsWithinCapacity no_capacity_set) }
         ensures refused { IfErr result (λ e. IsHybridTextRefusal unset no_capacity_set
             default_settings (pattern.now ∷ []) e) }
@@ -88,7 +89,8 @@ impl Regex {
             (regex_patterns re)) }
         ensures settings { IfOk result (λ re. regex_settings re ≡ none_set) }
         ensures program { IfOk result (λ re. regex_program re ≡ unset) }
-        ensures buildable { IfOk result (λ re. IsBuildable None (regex_patterns re)) }
+        ensures buildable { IfOk result (λ re. IsBuildable (limit_by None default_settings)
+            (regex_patterns re)) }
         ensures within { IfOk result (IsWithinCapacity no_capacity_set) }
         ensures refused { IfErr result (λ e. IsHybridTextRefusal unset no_capacity_set
             default_settings (texts_of patterns.now) e) }

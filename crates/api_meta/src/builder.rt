@@ -12,7 +12,7 @@ ghost use Rattle.rc_program.specs.Text.{Text};
 ghost use Rattle.rc_needles.specs.Prefilters.{needles_of};
 ghost use Rattle.rc_literals.specs.Needs.{Holds, LeavesOut};
 ghost use Rattle.rc_program.specs.Program.{program, shown};
-ghost use Rattle.rc_build.specs.Refusals.{IsBuildable, IsRefusal};
+ghost use Rattle.rc_build.specs.Refusals.{IsBuildable, IsRefusal, limit_by, limit_of};
 ghost use Rattle.rc_settings.specs.Thompson.{which_captures_of};
 ghost use Rattle.rc_settings.specs.Which.{is_grouped};
 ghost use Rattle.rc_settings.specs.Settings.{settings_of, unset, overwritten, nfa_size_limit_of, program_settings, line_terminator_of, match_kind_of, dfa_of, hybrid_of, hybrid_cache_capacity_of, byte_classes_of, dfa_size_limit_of, dfa_state_limit_of};
@@ -28,6 +28,7 @@ use rc_build::build::build_all;
 use rc_build::texts::parse_all;
 use rc_literals::guard::Needs;
 use rc_literals::needs;
+use rc_parser::Grammar;
 use rc_pattern::hir::Hir;
 use rc_pikevm_search::engine::Engine;
 use rc_settings::error::BuildError;
@@ -93,7 +94,8 @@ impl Builder {
             (regex_patterns r)) }
         ensures settings { IfOk result (λ r. regex_settings r ≡ builder_settings self.now) }
         ensures buildable { IfOk result (λ r. IsBuildable
-            (nfa_size_limit_of (builder_settings self.now)) (regex_patterns r)) }
+            (limit_by (nfa_size_limit_of (builder_settings self.now)) (builder_syntax self.now))
+            (regex_patterns r)) }
         ensures refused { IfErr result (λ e. IsTextRefusal
             (nfa_size_limit_of (builder_settings self.now)) (builder_syntax self.now)
             (pattern.now ∷ []) e) }
@@ -112,7 +114,8 @@ impl Builder {
             (regex_patterns r)) }
         ensures settings { IfOk result (λ r. regex_settings r ≡ builder_settings self.now) }
         ensures buildable { IfOk result (λ r. IsBuildable
-            (nfa_size_limit_of (builder_settings self.now)) (regex_patterns r)) }
+            (limit_by (nfa_size_limit_of (builder_settings self.now)) (builder_syntax self.now))
+            (regex_patterns r)) }
         ensures refused { IfErr result (λ e. IsTextRefusal
             (nfa_size_limit_of (builder_settings self.now)) (builder_syntax self.now)
             (texts_of patterns.now) e) }
@@ -126,9 +129,11 @@ impl Builder {
         ensures patterns { IfOk result (λ r. regex_patterns r ≡ meaning hir.now ∷ []) }
         ensures settings { IfOk result (λ r. regex_settings r ≡ builder_settings self.now) }
         ensures buildable { IfOk result (λ _. IsBuildable
-            (nfa_size_limit_of (builder_settings self.now)) (meaning hir.now ∷ [])) }
+            (limit_by (nfa_size_limit_of (builder_settings self.now)) (builder_syntax self.now))
+            (meaning hir.now ∷ [])) }
         ensures refused { IfErr result (λ e. IsRefusal
-            (nfa_size_limit_of (builder_settings self.now)) (meaning hir.now ∷ []) e) }
+            (limit_by (nfa_size_limit_of (builder_settings self.now)) (builder_syntax self.now))
+            (meaning hir.now ∷ []) e) }
     {
         self.build_many_from_hir(alloc, std::slice::from_ref(hir))
     }
@@ -136,35 +141,43 @@ impl Builder {
     /// Builds a regex from these patterns, at most 2,147,483,647.
     ///
     /// The error is the first of these that applies: `IllFormed`, with the first pattern that isn't
-    /// well-formed; `SizeLimit`, if 32 times the weight of the patterns is above the size limit;
-    /// `PlaceLimit`, if the weight is above 2,147,483,646. `Memory` means out of memory. The
-    /// builder stays as it was.
+    /// well-formed; `SizeLimit`, if 32 times the weight of the patterns by the grammar that is set
+    /// is above the size limit; `PlaceLimit`, if the weight by the stated grammar is above
+    /// 2,147,483,646. `Memory` means out of memory. The builder stays as it was.
     pub fn build_many_from_hir(&self, alloc: Global, hirs: &[Hir]) -> Result<Regex, BuildError>
         requires { length hirs.now ≤ most_patterns }
         ensures patterns { IfOk result (λ r. regex_patterns r ≡ map meaning hirs.now) }
         ensures settings { IfOk result (λ r. regex_settings r ≡ builder_settings self.now) }
         ensures buildable { IfOk result (λ _. IsBuildable
-            (nfa_size_limit_of (builder_settings self.now)) (map meaning hirs.now)) }
+            (limit_by (nfa_size_limit_of (builder_settings self.now)) (builder_syntax self.now))
+            (map meaning hirs.now)) }
         ensures refused { IfErr result (λ e. IsRefusal
-            (nfa_size_limit_of (builder_settings self.now)) (map meaning hirs.now) e) }
+            (limit_by (nfa_size_limit_of (builder_settings self.now)) (builder_syntax self.now))
+            (map meaning hirs.now) e) }
     {
-        build(alloc, &self.config, hirs)
+        build(alloc, &self.config, self.syntax.get_grammar(), hirs)
     }
 }
 
-/// Builds a regex from these patterns under these settings.
-pub(crate) fn build(alloc: Global, config: &Config, hirs: &[Hir]) -> Result<Regex, BuildError>
+/// Builds a regex from these patterns under these settings. The grammar weighs them.
+pub(crate) fn build(
+    alloc: Global,
+    config: &Config,
+    grammar: Grammar,
+    hirs: &[Hir],
+) -> Result<Regex, BuildError>
     requires { length hirs.now ≤ most_patterns }
     ensures patterns { IfOk result (λ r. regex_patterns r ≡ map meaning hirs.now) }
     ensures settings { IfOk result (λ r. regex_settings r ≡ settings_of config.now) }
-    ensures buildable { IfOk result (λ _. IsBuildable (nfa_size_limit_of (settings_of config.now))
-        (map meaning hirs.now)) }
-    ensures refused { IfErr result (λ e. IsRefusal (nfa_size_limit_of (settings_of config.now))
-        (map meaning hirs.now) e) }
+    ensures buildable { IfOk result (λ _. IsBuildable
+        (limit_of (nfa_size_limit_of (settings_of config.now)) grammar) (map meaning hirs.now)) }
+    ensures refused { IfErr result (λ e. IsRefusal
+        (limit_of (nfa_size_limit_of (settings_of config.now)) grammar) (map meaning hirs.now) e) }
 {
     let built = build_all(
         alloc,
         hirs,
+        grammar,
         program_config(config),
         config.get_match_kind(),
         config.get_prefilter(),

@@ -22,6 +22,7 @@ use crate::seeker::{GroupSeeker, Seeker, Standing};
 use rc_captures::captures;
 use rc_captures::captures::Captures;
 use rc_captures::groups::GroupInfo;
+use rc_parser::Grammar;
 use rc_pattern::check::{group_count, properties_of};
 use rc_pattern::hir::Hir;
 use rc_settings::error::BuildError;
@@ -87,7 +88,7 @@ impl Regex {
     ghost use Rattle.rc_pikevm.specs.KindSlots.{slots_by};
     ghost use Rattle.rc_program.specs.Sought.{search_for};
     ghost use Rattle.rc_settings.specs.Settings.{unset, auto_prefilter_of, prefilter_of, match_kind_of, nfa_size_limit_of};
-    ghost use Rattle.rc_build.specs.Refusals.{IsBuildable};
+    ghost use Rattle.rc_build.specs.Refusals.{IsBuildable, limit_by};
     ghost use Rattle.rc_build.specs.TextRefusals.{AllRead, IsTextRefusal, texts_of};
     ghost use Rattle.rc_parser.specs.Settings.{default_settings};
     ghost use Rattle.rc_parses.specs.Preference.{ArePlain, IsPreferredMatch};
@@ -103,8 +104,8 @@ impl Regex {
         ensures read { IfOk result (λ r. AllRead default_settings (pattern.now ∷ [])
             (regex_patterns r)) }
         ensures settings { IfOk result (λ r. regex_settings r ≡ unset) }
-        ensures buildable { IfOk result (λ r. IsBuildable (nfa_size_limit_of unset)
-            (regex_patterns r)) }
+        ensures buildable { IfOk result (λ r. IsBuildable
+            (limit_by (nfa_size_limit_of unset) default_settings) (regex_patterns r)) }
         ensures refused { IfErr result (λ e. IsTextRefusal
             (nfa_size_limit_of unset) default_settings (pattern.now ∷ []) e) }
     {
@@ -123,8 +124,8 @@ impl Regex {
         ensures read { IfOk result (λ r. AllRead default_settings (texts_of patterns.now)
             (regex_patterns r)) }
         ensures settings { IfOk result (λ r. regex_settings r ≡ unset) }
-        ensures buildable { IfOk result (λ r. IsBuildable (nfa_size_limit_of unset)
-            (regex_patterns r)) }
+        ensures buildable { IfOk result (λ r. IsBuildable
+            (limit_by (nfa_size_limit_of unset) default_settings) (regex_patterns r)) }
         ensures refused { IfErr result (λ e. IsTextRefusal
             (nfa_size_limit_of unset) default_settings (texts_of patterns.now) e) }
     {
@@ -338,7 +339,8 @@ impl Regex {
         ensures patterns { IfOk result (λ r. regex_patterns r ≡ regex_patterns self.now) }
         ensures settings { IfOk result (λ r. regex_settings r ≡ regex_settings self.now) }
     {
-        match build(alloc, &self.config, &self.hirs) {
+        // Whichever grammar weighed them before, they are no heavier by the full one.
+        match build(alloc, &self.config, Grammar::Full, &self.hirs) {
             Ok(regex) => Ok(regex),
             // The patterns were built before, so there is no other error.
             Err(_) => Err(AllocError),

@@ -3,7 +3,7 @@
 ghost use Rattle.std.specs.Prelude.{◌≡◌, ◌≤◌, ◌∷◌, [], IfOk, IfErr, false, length, map};
 ghost use Rattle.rc_text.specs.Limits.{most_patterns};
 ghost use Rattle.rc_pattern.specs.Meaning.{meaning};
-ghost use Rattle.rc_build.specs.Refusals.{IsBuildable, IsRefusal};
+ghost use Rattle.rc_build.specs.Refusals.{IsBuildable, IsRefusal, limit_by};
 ghost use Rattle.rc_build.specs.TextRefusals.{AllRead, IsTextRefusal, texts_of};
 ghost use Rattle.rc_pikevm_search.specs.Choices.{IsGuard};
 ghost use Rattle.rc_parser.specs.Settings.{default_settings, settings_of as syntax_of};
@@ -88,7 +88,8 @@ impl Builder {
         ensures needles { IfOk result (λ vm. IsGuard (vm_patterns vm)
             (prefilter_of (builder_settings self.now)) false (vm_needles vm)) }
         ensures buildable { IfOk result (λ vm. IsBuildable
-            (nfa_size_limit_of (builder_program self.now)) (vm_patterns vm)) }
+            (limit_by (nfa_size_limit_of (builder_program self.now)) (builder_syntax self.now))
+            (vm_patterns vm)) }
         ensures refused { IfErr result (λ e. IsTextRefusal
             (nfa_size_limit_of (builder_program self.now)) (builder_syntax self.now)
             (pattern.now ∷ []) e) }
@@ -110,7 +111,8 @@ impl Builder {
         ensures needles { IfOk result (λ vm. IsGuard (vm_patterns vm)
             (prefilter_of (builder_settings self.now)) false (vm_needles vm)) }
         ensures buildable { IfOk result (λ vm. IsBuildable
-            (nfa_size_limit_of (builder_program self.now)) (vm_patterns vm)) }
+            (limit_by (nfa_size_limit_of (builder_program self.now)) (builder_syntax self.now))
+            (vm_patterns vm)) }
         ensures refused { IfErr result (λ e. IsTextRefusal
             (nfa_size_limit_of (builder_program self.now)) (builder_syntax self.now)
             (texts_of patterns.now) e) }
@@ -125,9 +127,9 @@ impl Builder {
     /// are known and each begins with one of them, and for no others.
     ///
     /// The error is the first of these that applies: `IllFormed`, with the first pattern that isn't
-    /// well-formed; `SizeLimit`, if 32 times the weight of the patterns is above the size limit;
-    /// `PlaceLimit`, if the weight is above 2,147,483,646. `Memory` means out of memory. The
-    /// builder stays as it was.
+    /// well-formed; `SizeLimit`, if 32 times the weight of the patterns by the grammar that is set
+    /// is above the size limit; `PlaceLimit`, if the weight by the stated grammar is above
+    /// 2,147,483,646. `Memory` means out of memory. The builder stays as it was.
     pub fn build_many_from_hir(&self, alloc: Global, hirs: &[Hir]) -> Result<PikeVM, BuildError>
         requires { length hirs.now ≤ most_patterns }
         ensures patterns { IfOk result (λ vm. vm_patterns vm ≡ map meaning hirs.now) }
@@ -136,13 +138,16 @@ impl Builder {
         ensures needles { IfOk result (λ vm. IsGuard (vm_patterns vm)
             (prefilter_of (builder_settings self.now)) false (vm_needles vm)) }
         ensures buildable { IfOk result (λ _. IsBuildable
-            (nfa_size_limit_of (builder_program self.now)) (map meaning hirs.now)) }
+            (limit_by (nfa_size_limit_of (builder_program self.now)) (builder_syntax self.now))
+            (map meaning hirs.now)) }
         ensures refused { IfErr result (λ e. IsRefusal
-            (nfa_size_limit_of (builder_program self.now)) (map meaning hirs.now) e) }
+            (limit_by (nfa_size_limit_of (builder_program self.now)) (builder_syntax self.now))
+            (map meaning hirs.now) e) }
     {
         let built = build_all(
             alloc,
             hirs,
+            self.syntax.get_grammar(),
             self.thompson,
             self.config.get_match_kind(),
             self.config.get_prefilter(),

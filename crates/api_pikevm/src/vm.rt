@@ -49,7 +49,7 @@ impl PikeVM {
     ghost use Rattle.rc_captures.specs.Groups.{names_of};
     ghost use Rattle.rc_pikevm_search.specs.Tells.{KeepsAll};
     ghost use Rattle.rc_pikevm.specs.Caches as pikevm;
-    ghost use Rattle.rc_build.specs.Refusals.{IsBuildable};
+    ghost use Rattle.rc_build.specs.Refusals.{IsBuildable, limit_by};
     ghost use Rattle.rc_build.specs.TextRefusals.{AllRead, IsTextRefusal, texts_of};
     ghost use Rattle.rc_parser.specs.Settings.{default_settings};
     ghost use Rattle.api_pikevm.specs.Caches.{IsCacheFor, columns_of, insertions_of, program_of};
@@ -64,7 +64,8 @@ impl PikeVM {
             (vm_patterns vm)) }
         ensures settings { IfOk result (λ vm. vm_settings vm ≡ none_set) }
         ensures program { IfOk result (λ vm. vm_program vm ≡ unset) }
-        ensures buildable { IfOk result (λ vm. IsBuildable None (vm_patterns vm)) }
+        ensures buildable { IfOk result (λ vm. IsBuildable (limit_by None default_settings)
+            (vm_patterns vm)) }
         ensures refused { IfErr result (λ e. IsTextRefusal None default_settings
             (pattern.now ∷ []) e) }
     {
@@ -84,7 +85,8 @@ impl PikeVM {
             (vm_patterns vm)) }
         ensures settings { IfOk result (λ vm. vm_settings vm ≡ none_set) }
         ensures program { IfOk result (λ vm. vm_program vm ≡ unset) }
-        ensures buildable { IfOk result (λ vm. IsBuildable None (vm_patterns vm)) }
+        ensures buildable { IfOk result (λ vm. IsBuildable (limit_by None default_settings)
+            (vm_patterns vm)) }
         ensures refused { IfErr result (λ e. IsTextRefusal None default_settings
             (texts_of patterns.now) e) }
     {

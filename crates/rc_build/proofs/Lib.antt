@@ -1,6 +1,7 @@
 pub mod CheckLemmas
 mod Examples
 pub mod Fitted
+mod LimitLemmas
 pub mod Matched
 pub mod NamesLemmas
 pub mod RefusalLemmas

@@ -8,6 +8,7 @@ use Rattle.rc_pattern.specs.WellFormed.{IsWellFormed}
 use Rattle.rc_settings.specs.declared.error.BuildError.{BuildError}
 use Rattle.rc_settings.specs.declared.error.BuildError.TheVariants.{Syntax, IllFormed, SizeLimit, PlaceLimit, Memory, DfaSizeLimit, CacheTooSmall}
 use Rattle.rc_build.specs.Refusals.{IsFirstIllFormed, IsTooLarge, IsTooHeavy, IsWithin, IsRefusal, IsBuildable, size_of}
+use Rattle.rc_build.specs.declared.limit.Limit.{Limit}
 
 -- each of well-formed patterns is
 one_sound : (hs : List Re) (p : ℕ) (h : Re) → All IsWellFormed hs → slice_get hs p ≡ Some h → IsWellFormed h
@@ -43,7 +44,7 @@ same_fault hs p q first second =
     ]
 
 -- the refusal that applies where a pattern is the first that isn't well-formed
-one_ill_formed : (limit : Option ℕ) (hs : List Re) (q : ℕ) (e : BuildError) → IsFirstIllFormed hs q → IsRefusal limit hs e → e ≢ Memory → IllFormed q ≡ e
+one_ill_formed : (limit : Limit) (hs : List Re) (q : ℕ) (e : BuildError) → IsFirstIllFormed hs q → IsRefusal limit hs e → e ≢ Memory → IllFormed q ≡ e
 one_ill_formed limit hs q (Syntax p e) bad r other = absurd r
 one_ill_formed limit hs q (IllFormed p) bad r other = ap IllFormed (same_fault hs q p bad r)
 one_ill_formed limit hs q (SizeLimit n) bad r other = absurd (not_all hs q bad r.well_formed)
@@ -53,27 +54,27 @@ one_ill_formed limit hs q (DfaSizeLimit n) bad r other = absurd r
 one_ill_formed limit hs q (CacheTooSmall m n) bad r other = absurd r
 
 -- and where the patterns are too large
-one_size : (limit : Option ℕ) (hs : List Re) (k : ℕ) (e : BuildError) → IsTooLarge limit hs k → IsRefusal limit hs e → e ≢ Memory → SizeLimit k ≡ e
+one_size : (limit : Limit) (hs : List Re) (k : ℕ) (e : BuildError) → IsTooLarge limit hs k → IsRefusal limit hs e → e ≢ Memory → SizeLimit k ≡ e
 one_size limit hs k (Syntax p e) large r other = absurd r
 one_size limit hs k (IllFormed p) large r other = absurd (not_all hs p r large.well_formed)
 one_size limit hs k (SizeLimit n) large r other = ap (λ o. SizeLimit (unwrap_or o 0)) (sym large.limited ∙ r.limited)
-one_size limit hs k PlaceLimit large r other = absurd (not_within limit k (size_of hs) large.limited large.large r.within)
+one_size limit hs k PlaceLimit large r other = absurd (not_within limit.bytes k (size_of limit.grammar hs) large.limited large.large r.within)
 one_size limit hs k Memory large r other = absurd (other refl)
 one_size limit hs k (DfaSizeLimit n) large r other = absurd r
 one_size limit hs k (CacheTooSmall m n) large r other = absurd r
 
 -- and where they are too heavy
-one_place : (limit : Option ℕ) (hs : List Re) (e : BuildError) → IsTooHeavy limit hs → IsRefusal limit hs e → e ≢ Memory → PlaceLimit ≡ e
+one_place : (limit : Limit) (hs : List Re) (e : BuildError) → IsTooHeavy limit hs → IsRefusal limit hs e → e ≢ Memory → PlaceLimit ≡ e
 one_place limit hs (Syntax p e) heavy r other = absurd r
 one_place limit hs (IllFormed p) heavy r other = absurd (not_all hs p r heavy.well_formed)
-one_place limit hs (SizeLimit n) heavy r other = absurd (not_within limit n (size_of hs) r.limited r.large heavy.within)
+one_place limit hs (SizeLimit n) heavy r other = absurd (not_within limit.bytes n (size_of limit.grammar hs) r.limited r.large heavy.within)
 one_place limit hs PlaceLimit heavy r other = refl
 one_place limit hs Memory heavy r other = absurd (other refl)
 one_place limit hs (DfaSizeLimit n) heavy r other = absurd r
 one_place limit hs (CacheTooSmall m n) heavy r other = absurd r
 
 -- no two refusals are answered for the same patterns
-pub one : (limit : Option ℕ) (hs : List Re) (e f : BuildError) → IsRefusal limit hs e → IsRefusal limit hs f → e ≢ Memory → f ≢ Memory → e ≡ f
+pub one : (limit : Limit) (hs : List Re) (e f : BuildError) → IsRefusal limit hs e → IsRefusal limit hs f → e ≢ Memory → f ≢ Memory → e ≡ f
 one limit hs (Syntax p e) f r s other others = absurd r
 one limit hs (IllFormed p) f r s other others = one_ill_formed limit hs p f r s others
 one limit hs (SizeLimit n) f r s other others = one_size limit hs n f r s others
@@ -83,10 +84,10 @@ one limit hs (DfaSizeLimit n) f r s other others = absurd r
 one limit hs (CacheTooSmall m n) f r s other others = absurd r
 
 -- none applies to patterns that can be built
-pub none : (limit : Option ℕ) (hs : List Re) (e : BuildError) → IsRefusal limit hs e → e ≢ Memory → ¬ IsBuildable limit hs
+pub none : (limit : Limit) (hs : List Re) (e : BuildError) → IsRefusal limit hs e → e ≢ Memory → ¬ IsBuildable limit hs
 none limit hs (Syntax p e) r other ok = r
 none limit hs (IllFormed p) r other ok = not_all hs p r ok.well_formed
-none limit hs (SizeLimit n) r other ok = not_within limit n (size_of hs) r.limited r.large ok.within
+none limit hs (SizeLimit n) r other ok = not_within limit.bytes n (size_of limit.grammar hs) r.limited r.large ok.within
 none limit hs PlaceLimit r other ok = omega (arith, r.heavy, ok.placed)
 none limit hs Memory r other ok = other refl
 none limit hs (DfaSizeLimit n) r other ok = r

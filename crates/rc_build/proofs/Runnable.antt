@@ -1,5 +1,5 @@
 -- What engines ask of a program, of patterns that can be built.
-use Rattle.std.proofs.Common.{ℕ, ◌≤◌, List, [], ◌∷◌, length, Bool, Option, refl, arith}
+use Rattle.std.proofs.Common.{◌≤◌, List, [], ◌∷◌, length, Bool, refl, arith}
 use Rattle.std.specs.Prelude.{All}
 use Rattle.std.proofs.lemmas.List.Elements.{All-weaker}
 use Rattle.rc_pattern.specs.Re.{Re}
@@ -11,13 +11,14 @@ use Rattle.rc_program.specs.Sought.{IsRunnable}
 use Rattle.rc_program.proofs.PlaceLemmas.{program_some, program_is_closed, accept_below}
 use Rattle.rc_program.proofs.GroupLemmas.{shown_all, length-shown, without_groups_bounded, group_numbers-without_groups}
 use Rattle.rc_build.specs.Refusals.{IsBuildable}
+use Rattle.rc_build.specs.declared.limit.Limit.{Limit}
 
 few_patterns : (hs : List Re) → length hs ≤ sum_of_weights hs
 few_patterns [] = omega arith
 few_patterns (h ∷ hs) = let k = few_patterns hs in omega (arith, k)
 
 -- engines may run over the program of patterns that can be built
-pub runnable : (limit : Option ℕ) (grouped : Bool) (hs : List Re) → IsBuildable limit hs → IsRunnable (program (shown grouped hs))
+pub runnable : (limit : Limit) (grouped : Bool) (hs : List Re) → IsBuildable limit hs → IsRunnable (program (shown grouped hs))
 runnable limit grouped hs ok = record {
   rooted = program_some (shown grouped hs);
   closed = program_is_closed (shown grouped hs);

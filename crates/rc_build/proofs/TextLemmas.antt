@@ -16,7 +16,7 @@ use Rattle.rc_pattern.specs.declared.syntax.Error.TheVariants.{Syntax as FaultAt
 use Rattle.rc_parser.specs.Outcome.{OnSyntax}
 use Rattle.rc_parser.specs.Settings.{Settings}
 use Rattle.rc_build.specs.TextRefusals.{IsReadAs, IsRead, AllRead, IsFirstUnread, IsReadingRefusal, IsTextRefusal, texts_of}
-use Rattle.rc_build.specs.Refusals.{IsRefusal}
+use Rattle.rc_build.specs.Refusals.{IsRefusal, limit_by}
 use Rattle.rc_settings.specs.declared.error.BuildError.{BuildError}
 use Rattle.rc_settings.specs.declared.error.BuildError.TheVariants.{Syntax, IllFormed, SizeLimit, PlaceLimit, Memory, DfaSizeLimit, CacheTooSmall}
 
@@ -72,7 +72,7 @@ refused_reading limit s texts (DfaSizeLimit n) r = absurd r
 refused_reading limit s texts (CacheTooSmall m n) r = absurd r
 
 -- and so is a refusal of the patterns that were read
-pub refused_patterns : (limit : Option ℕ) (s : Settings) (texts : List (List ℕ)) (hs : List Re) (e : BuildError) → AllRead s texts hs → IsRefusal limit hs e →
+pub refused_patterns : (limit : Option ℕ) (s : Settings) (texts : List (List ℕ)) (hs : List Re) (e : BuildError) → AllRead s texts hs → IsRefusal (limit_by limit s) hs e →
     IsTextRefusal limit s texts e
 refused_patterns limit s texts hs (Syntax p e) read r = absurd r
 refused_patterns limit s texts hs (IllFormed p) read r = (hs, read, r)

@@ -7,7 +7,7 @@ use Rattle.rc_pattern.specs.declared.syntax.Error.{Error}
 use Rattle.rc_pattern.specs.declared.syntax.Error.TheVariants.{Syntax as FaultAt}
 use Rattle.rc_parser.specs.Settings.{Settings}
 use Rattle.rc_syntax.specs.Reads.{Reads}
-use Rattle.rc_build.specs.Refusals.{IsRefusal}
+use Rattle.rc_build.specs.Refusals.{IsRefusal, limit_by}
 use Rattle.rc_settings.specs.declared.error.BuildError.{BuildError}
 use Rattle.rc_settings.specs.declared.error.BuildError.TheVariants.{Syntax, IllFormed, SizeLimit, PlaceLimit, Memory, DfaSizeLimit, CacheTooSmall}
 
@@ -35,9 +35,9 @@ pub record IsFirstUnread (s : Settings) (texts : List (List ℕ)) (p : ℕ) (e :
   pub unread : ¬ IsRead s text
   pub told : (at : ℕ) × (at ≤ length text) × (e ≡ FaultAt at)
 
--- the texts are read as patterns, to which the refusal applies
+-- the texts are read as patterns, to which the refusal applies by the grammar that reads them
 abbrev pub IsReadRefusal : Option ℕ → Settings → List (List ℕ) → BuildError → Type 0
-IsReadRefusal limit s texts e = (hs : List Re) × AllRead s texts hs × IsRefusal limit hs e
+IsReadRefusal limit s texts e = (hs : List Re) × AllRead s texts hs × IsRefusal (limit_by limit s) hs e
 
 -- The refusal is the first one that applies to the texts. Want of memory may come at any time.
 abbrev pub IsTextRefusal : Option ℕ → Settings → List (List ℕ) → BuildError → Type 0

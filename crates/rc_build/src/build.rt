@@ -12,11 +12,13 @@ ghost use Rattle.rc_pikevm_search.specs.Choices.{IsGuard, answering, guarding};
 ghost use Rattle.rc_pikevm_search.specs.Literals.{MayGoBy};
 ghost use Rattle.rc_settings.specs.Thompson.{settings_of, nfa_size_limit_of, line_terminator_of};
 ghost use Rattle.rc_build.specs.Fits.{Fits, sought_by};
-ghost use Rattle.rc_build.specs.Refusals.{IsBuildable, IsRefusal};
+ghost use Rattle.rc_build.specs.Refusals.{IsBuildable, IsRefusal, limit_of};
 
 use crate::compile::compile_all;
+use crate::limit::Limit;
 use rc_captures::groups::GroupInfo;
 use rc_needles::prefilter::Prefilter;
+use rc_parser::Grammar;
 use rc_pattern::check::{copies_of, properties_of};
 use rc_pattern::hir::Hir;
 use rc_pikevm_search::choice::choose;
@@ -49,11 +51,13 @@ pub struct Built {
 /// patterns. No search result depends on them.
 ///
 /// The error is the first of these that applies: `IllFormed`, with the first pattern that isn't
-/// well-formed; `SizeLimit`, if 32 times the weight of the patterns is above the size limit;
-/// `PlaceLimit`, if the weight is above 2,147,483,646. `Memory` means out of memory.
+/// well-formed; `SizeLimit`, if 32 times the weight of the patterns by the grammar is above the
+/// size limit; `PlaceLimit`, if the weight by the stated grammar is above 2,147,483,646. `Memory`
+/// means out of memory.
 pub fn build_all(
     alloc: Global,
     hirs: &[Hir],
+    grammar: Grammar,
     settings: thompson::Config,
     kind: MatchKind,
     prefilter: Option<&Prefilter>,
@@ -61,8 +65,8 @@ pub fn build_all(
 ) -> Result<Built, BuildError>
     requires { length hirs.now ≤ most_patterns }
     ensures patterns { IfOk result (λ b. map meaning b.hirs.items ≡ map meaning hirs.now) }
-    ensures buildable { IfOk result (λ _. IsBuildable (nfa_size_limit_of (settings_of settings))
-        (map meaning hirs.now)) }
+    ensures buildable { IfOk result (λ _. IsBuildable
+        (limit_of (nfa_size_limit_of (settings_of settings)) grammar) (map meaning hirs.now)) }
     ensures fits { IfOk result (λ b. Fits (settings_of settings) kind
         (map meaning b.hirs.items) b.engine b.info) }
     ensures unanswered { is_auto ≡ false → IfOk result (λ b. answering b.engine.literals ≡ None) }
@@ -71,15 +75,14 @@ pub fn build_all(
         is_auto (guarding b.engine.literals)) }
     ensures unguarded { is_auto ≡ false → option_map (λ p. needles_of p.now) prefilter.entry ≡ None
         → IfOk result (λ b. guarding b.engine.literals ≡ None) }
-    ensures refused { IfErr result (λ e. IsRefusal (nfa_size_limit_of (settings_of settings))
-        (map meaning hirs.now) e) }
+    ensures refused { IfErr result (λ e. IsRefusal
+        (limit_of (nfa_size_limit_of (settings_of settings)) grammar) (map meaning hirs.now) e) }
 {
-    let compiled = compile_all(
-        alloc,
-        hirs,
-        settings.get_nfa_size_limit(),
-        settings.get_which_captures(),
-    )?;
+    let limit = Limit {
+        bytes: settings.get_nfa_size_limit(),
+        grammar,
+    };
+    let compiled = compile_all(alloc, hirs, limit, settings.get_which_captures())?;
     let literals = choose(alloc, hirs, prefilter, is_auto)?;
     let heads = heads_of(alloc, &compiled.places)?;
     let columns = columns_of(alloc, &compiled.places)?;

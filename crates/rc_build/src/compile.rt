@@ -12,6 +12,7 @@ ghost use Rattle.rc_build.specs.Names.{names_shown};
 ghost use Rattle.rc_build.specs.Refusals.{IsBuildable, IsRefusal};
 
 use crate::check::check;
+use crate::limit::Limit;
 use rc_captures::groups::{GroupInfo, group_info};
 use rc_compile::compile::compile;
 use rc_pattern::check::groups;
@@ -30,15 +31,17 @@ pub struct Compiled {
     pub info: GroupInfo,
 }
 
-/// Compiles the patterns, at most 2,147,483,647 of them, under a limit on 32 times their weight.
+/// Compiles the patterns, at most 2,147,483,647 of them, under a limit on 32 times their weight by
+/// its grammar.
 ///
 /// The error is the first of these that applies: `IllFormed`, with the first pattern that isn't
-/// well-formed; `SizeLimit`, if 32 times the weight is above the limit; `PlaceLimit`, if the weight
-/// is above 2,147,483,646. `Memory` means out of memory.
+/// well-formed; `SizeLimit`, if 32 times the weight by that grammar is above the limit;
+/// `PlaceLimit`, if the weight by the stated grammar is above 2,147,483,646. `Memory` means out of
+/// memory.
 pub fn compile_all(
     alloc: Global,
     hirs: &[Hir],
-    limit: Option<usize>,
+    limit: Limit,
     which: WhichCaptures,
 ) -> Result<Compiled, BuildError>
     requires { length hirs.now ≤ most_patterns }

@@ -5,6 +5,7 @@ pub mod build;
 pub mod check;
 pub mod compile;
 pub mod laws;
+pub mod limit;
 pub mod oversize;
 pub mod texts;
 pub mod weighing;

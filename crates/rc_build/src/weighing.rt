@@ -4,14 +4,17 @@ ghost use Rattle.std.specs.Prelude.{◌↔◌, map, All, IfOk, IsTrue, MatchOpti
 ghost use Rattle.rc_pattern.specs.Meaning.{meaning};
 ghost use Rattle.rc_pattern.specs.WellFormed.{IsWellFormed};
 ghost use Rattle.rc_build.specs.Oversized.{IsOversize, IsUnrefused};
+ghost use Rattle.rc_build.specs.Refusals.{limit_of};
 
+use crate::limit::capped_weight;
 use crate::oversize::Oversize;
-use rc_pattern::check::{capped_list_weight, is_well_formed};
+use rc_parser::Grammar;
+use rc_pattern::check::is_well_formed;
 use rc_pattern::hir::Hir;
 use std::alloc::{AllocError, Global};
 
 /// Returns the weight of the patterns if a build under this limit, in bytes, fails with
-/// `SizeLimit`: they are well-formed, and 32 times their weight is above the limit.
+/// `SizeLimit`: they are well-formed, and 32 times their weight by the grammar is above the limit.
 ///
 /// It returns `None` if and only if such a build doesn't fail for the size of the patterns. An
 /// `Err` means out of memory.
@@ -19,10 +22,12 @@ pub fn explain_size(
     alloc: Global,
     hirs: &[Hir],
     limit: Option<usize>,
+    grammar: Grammar,
 ) -> Result<Option<Oversize>, AllocError>
     ensures { IfOk result (λ found. MatchOption found
-        (IsUnrefused limit (map meaning hirs.now))
-        (λ oversize. IsOversize limit (map meaning hirs.now) oversize)) }
+        (IsUnrefused (limit_of limit grammar) (map meaning hirs.now))
+        (λ oversize. IsOversize (limit_of limit grammar) (map meaning hirs.now)
+        oversize)) }
 {
     let Some(limit) = limit else {
         return Ok(None);
@@ -30,7 +35,7 @@ pub fn explain_size(
     if !are_well_formed(alloc, hirs)? {
         return Ok(None);
     }
-    let weight = capped_list_weight(hirs);
+    let weight = capped_weight(alloc, hirs, grammar)?;
     if 32 * weight > limit as u128 {
         return Ok(Some(Oversize { weight, limit }));
     }

@@ -2,5 +2,5 @@ mod AsciiLemmas
 mod Examples
 mod CodeLemmas
 mod LaidLemmas
-mod LighterLemmas
+pub mod LighterLemmas
 mod ProgramLemmas

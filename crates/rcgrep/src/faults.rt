@@ -3,7 +3,7 @@
 use grep_options::{FAULT, RCGREP};
 use regex_cursor::engines::meta::BuildError;
 use regex_cursor::hir::Hir;
-use regex_cursor::syntax::{Config, Explained, Oversize, explain, explain_size};
+use regex_cursor::syntax::{Config, Explained, Grammar, Oversize, explain, explain_size};
 use std::alloc::Global;
 use std::io::Write;
 
@@ -28,17 +28,27 @@ pub fn report_unread(rt: &HostRuntime, patterns: &[&str], number: usize, config:
     FAULT
 }
 
-/// The weight of the patterns, if their build failed for that.
-fn oversize_of(alloc: Global, hirs: &[Hir], refusal: &BuildError) -> Option<Oversize> {
+/// The weight of the patterns by the grammar, if their build failed for that.
+fn oversize_of(
+    alloc: Global,
+    hirs: &[Hir],
+    refusal: &BuildError,
+    grammar: Grammar,
+) -> Option<Oversize> {
     let BuildError::SizeLimit { limit } = refusal else {
         return None;
     };
-    explain_size(alloc, hirs, Some(*limit)).ok()?
+    explain_size(alloc, hirs, Some(*limit), grammar).ok()?
 }
 
-/// Reports why the patterns weren't built, and their size if that is why.
-pub fn report_refusal(rt: &HostRuntime, hirs: &[Hir], refusal: &BuildError) -> u8 {
-    if let Some(oversize) = oversize_of(rt.alloc(), hirs, refusal) {
+/// Reports why the patterns weren't built, and their size by the grammar if that is why.
+pub fn report_refusal(
+    rt: &HostRuntime,
+    hirs: &[Hir],
+    refusal: &BuildError,
+    grammar: Grammar,
+) -> u8 {
+    if let Some(oversize) = oversize_of(rt.alloc(), hirs, refusal, grammar) {
         let _ = writeln!(rt.stderr(), "rcgrep: {oversize}");
         return FAULT;
     }

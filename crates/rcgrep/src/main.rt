@@ -25,13 +25,13 @@ use std::process::ExitCode;
 use std::{io, mem};
 
 /// Builds the patterns, or reports why they can't be built.
-fn build_or_report(rt: &HostRuntime, hirs: &[Hir]) -> Result<Patterns, u8> {
+fn build_or_report(rt: &HostRuntime, hirs: &[Hir], config: &Config) -> Result<Patterns, u8> {
     if hirs.len() > MAX_PATTERNS {
         return Err(RCGREP.report(rt, "too many patterns"));
     }
-    match build(rt.alloc(), hirs) {
+    match build(rt.alloc(), hirs, config) {
         Ok(patterns) => Ok(patterns),
-        Err(refusal) => Err(report_refusal(rt, hirs, &refusal)),
+        Err(refusal) => Err(report_refusal(rt, hirs, &refusal, config.get_grammar())),
     }
 }
 
@@ -50,7 +50,7 @@ fn build_texts(
     let Ok(hirs) = all_fitted(rt.alloc(), hirs, fit) else {
         return Err(RCGREP.report(rt, "out of memory"));
     };
-    let built = build_or_report(rt, &hirs);
+    let built = build_or_report(rt, &hirs, config);
     drop(hirs);
     built
 }

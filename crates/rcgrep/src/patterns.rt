@@ -5,7 +5,7 @@ ghost use Rattle.rc_pattern.specs.Meaning.{meaning};
 ghost use Rattle.rc_parser.specs.Settings.{settings_of};
 ghost use Rattle.rcgrep.specs.Syntax.{syntax_settings};
 ghost use Rattle.rc_settings.specs.Settings.{nfa_size_limit_of};
-ghost use Rattle.rc_build.specs.Refusals.{IsBuildable, IsRefusal};
+ghost use Rattle.rc_build.specs.Refusals.{IsBuildable, IsRefusal, limit_by};
 ghost use Rattle.rc_build.specs.TextRefusals.{AllRead, texts_of};
 ghost use Rattle.api_meta.specs.Views.{regex_patterns, regex_settings};
 ghost use Rattle.rcgrep.specs.Fitted.{fitted_of};
@@ -23,7 +23,7 @@ use std::alloc::{AllocError, AllocFailed, Global};
 /// The greatest number of patterns.
 pub const MAX_PATTERNS: usize = 2_147_483_647;
 
-/// The greatest size of the patterns, in bytes. A class of Unicode may take two million.
+/// The greatest size of the patterns, in bytes.
 const SIZE_LIMIT: usize = 134_217_728;
 
 /// Why texts don't parse as patterns.
@@ -121,14 +121,16 @@ pub struct Patterns {
 }
 
 /// Builds a regex whose matches may end inside a character. So none is passed over, and a line that
-/// isn't UTF-8 keeps all its matches.
-fn build_regex(alloc: Global, hirs: &[Hir]) -> Result<Regex, BuildError>
+/// isn't UTF-8 keeps all its matches. The grammar of the syntax settings weighs the patterns.
+fn build_regex(alloc: Global, hirs: &[Hir], config: &Config) -> Result<Regex, BuildError>
     requires { length hirs.now ≤ most_patterns }
     ensures patterns { IfOk result (λ r. regex_patterns r ≡ map meaning hirs.now) }
     ensures settings { IfOk result (λ r. regex_settings r ≡ line_settings) }
-    ensures buildable { IfOk result (λ _. IsBuildable (nfa_size_limit_of line_settings)
+    ensures buildable { IfOk result (λ _. IsBuildable
+        (limit_by (nfa_size_limit_of line_settings) (settings_of config.now))
         (map meaning hirs.now)) }
-    ensures refused { IfErr result (λ e. IsRefusal (nfa_size_limit_of line_settings)
+    ensures refused { IfErr result (λ e. IsRefusal
+        (limit_by (nfa_size_limit_of line_settings) (settings_of config.now))
         (map meaning hirs.now) e) }
 {
     let mut builder = Regex::builder();
@@ -138,19 +140,21 @@ fn build_regex(alloc: Global, hirs: &[Hir]) -> Result<Regex, BuildError>
                 .utf8_empty(false)
                 .nfa_size_limit(Some(SIZE_LIMIT)),
         )
+        .syntax(*config)
         .build_many_from_hir(alloc, hirs)
 }
 
-/// Builds the patterns, whose matches may end inside a character. An `Err` is the first refusal
-/// that applies to them, or out of memory.
-pub fn build(alloc: Global, hirs: &[Hir]) -> Result<Patterns, BuildError>
+/// Builds the patterns, whose matches may end inside a character. The grammar of the syntax settings
+/// weighs them. An `Err` is the first refusal that applies to them, or out of memory.
+pub fn build(alloc: Global, hirs: &[Hir], config: &Config) -> Result<Patterns, BuildError>
     requires { length hirs.now ≤ most_patterns }
     ensures patterns { IfOk result (λ p. regex_patterns p.regex ≡ map meaning hirs.now) }
     ensures settings { IfOk result (λ p. regex_settings p.regex ≡ line_settings) }
-    ensures refused { IfErr result (λ e. IsRefusal (nfa_size_limit_of line_settings)
+    ensures refused { IfErr result (λ e. IsRefusal
+        (limit_by (nfa_size_limit_of line_settings) (settings_of config.now))
         (map meaning hirs.now) e) }
 {
-    let regex = build_regex(alloc, hirs)?;
+    let regex = build_regex(alloc, hirs, config)?;
     let is_local = are_local(hirs);
     let is_slow_past_ascii = has_scalar_looks(hirs) && !regex.is_accelerated();
     Ok(Patterns {

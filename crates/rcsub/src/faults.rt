@@ -4,7 +4,7 @@ use crate::rewrite::Fault;
 use grep_options::{FAULT, RCSUB};
 use regex_cursor::engines::meta::BuildError;
 use regex_cursor::hir::Hir;
-use regex_cursor::syntax::{Config, Explained, Oversize, explain, explain_size};
+use regex_cursor::syntax::{Config, Explained, Grammar, Oversize, explain, explain_size};
 use std::alloc::Global;
 use std::io::Write;
 
@@ -43,7 +43,13 @@ fn oversize_of(alloc: Global, hir: &Hir, refusal: &BuildError) -> Option<Oversiz
     let BuildError::SizeLimit { limit } = refusal else {
         return None;
     };
-    explain_size(alloc, std::slice::from_ref(hir), Some(*limit)).ok()?
+    explain_size(
+        alloc,
+        std::slice::from_ref(hir),
+        Some(*limit),
+        Grammar::Stated,
+    )
+    .ok()?
 }
 
 /// Reports why the pattern wasn't built, and its size if that is why.

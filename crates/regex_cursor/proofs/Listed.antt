@@ -12,7 +12,7 @@ use Rattle.rc_program.specs.Sought.{search_for}
 use Rattle.rc_program.specs.Matches.{matches_left}
 use Rattle.rc_parser.specs.Settings.{default_settings}
 use Rattle.rc_build.specs.Fits.{sought_by}
-use Rattle.rc_build.specs.Refusals.{IsBuildable}
+use Rattle.rc_build.specs.Refusals.{IsBuildable, limit_by}
 use Rattle.rc_build.specs.TextRefusals.{AllRead}
 use Rattle.rc_build.proofs.TextLemmas.{one_read}
 use Rattle.regex_cursor.specs.declared.run.error.RunError.{RunError}
@@ -34,10 +34,10 @@ pub put_as : (a b : Option (List ℕ)) (xs ys : List Found) (found : Bool) → x
 put_as a b xs ys found e = subst (λ (ms : List Found). IsPut ms a b found) e
 
 -- the text is read as the one pattern, which was built
-pub built : (text : List ℕ) (hs : List Re) → AllRead default_settings (text ∷ []) hs → IsBuildable (Some 10485760) hs → IsBuilt text
+pub built : (text : List ℕ) (hs : List Re) → AllRead default_settings (text ∷ []) hs → IsBuildable (limit_by (Some 10485760) default_settings) hs → IsBuilt text
 built text hs read ok =
     let (p, patterns, as_it) = one_read default_settings text hs read in
-    (p, as_it, subst (IsBuildable (Some 10485760)) patterns ok)
+    (p, as_it, subst (IsBuildable (limit_by (Some 10485760) default_settings)) patterns ok)
 
 -- the faults that come once it was built, and the chunks were measured
 pub memory_fault : (r : Result Bool RunError) (text : List ℕ) (chunks : List (Bor (List ℕ))) → r ≡ Err Memory → IsBuilt text → ¬ IsTooLong chunks →

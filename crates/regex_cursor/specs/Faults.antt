@@ -5,7 +5,7 @@ use Rattle.rc_text.specs.Joined.{IsTooLong}
 use Rattle.rc_parser.specs.Settings.{default_settings}
 use Rattle.rc_settings.specs.Lines.{line_of}
 use Rattle.rc_pattern.specs.Re.{Re}
-use Rattle.rc_build.specs.Refusals.{IsBuildable}
+use Rattle.rc_build.specs.Refusals.{IsBuildable, limit_by}
 use Rattle.rc_build.specs.TextRefusals.{IsReadAs, IsTextRefusal}
 use Rattle.regex_cursor.specs.declared.run.error.RunError.{RunError}
 use Rattle.regex_cursor.specs.declared.run.error.RunError.TheVariants.{Build, TooLong, Memory, Write}
@@ -19,7 +19,7 @@ line_of_fault Write = Some (codes "write failed")
 
 -- The text is read as a pattern that can be built, by the default settings.
 abbrev pub IsBuilt : List ℕ → Type 0
-IsBuilt text = (p : Re) × IsReadAs default_settings text p × IsBuildable (Some 10485760) (p ∷ [])
+IsBuilt text = (p : Re) × IsReadAs default_settings text p × IsBuildable (limit_by (Some 10485760) default_settings) (p ∷ [])
 
 -- The text is read and its pattern built first, by the default settings, and the chunks are measured next.
 abbrev pub IsFault : List ℕ → List (Bor (List ℕ)) → RunError → Type 0

@@ -229,7 +229,7 @@ fn program(
     if !settings.walker || settings.kind != MatchKind::LeftmostFirst || hirs.len() > MOST_PATTERNS {
         return Ok(None);
     }
-    let made = compile_all(alloc, hirs, settings.limit, settings.which)?;
+    let made = compile_all(alloc, hirs, settings.size_limit(), settings.which)?;
     let heads = heads_of(alloc, &made.places)?;
     let columns = columns_of(alloc, &made.places)?;
     let program = program_of(

@@ -7,6 +7,7 @@ use crate::faults::Verdict;
 use crate::row::number;
 use api_meta::regex::Regex;
 use api_pikevm::vm::PikeVM;
+use rc_build::limit::Limit;
 use rc_needles::prefilter::Prefilter;
 use rc_parser::{Config as Syntax, Grammar};
 use rc_settings::error::BuildError;
@@ -233,6 +234,14 @@ impl<'a> Settings<'a> {
             .nfa_size_limit(self.limit)
             .which_captures(self.which)
             .line_terminator(self.terminator)
+    }
+
+    /// The limit on the patterns' size, by the grammar that reads them.
+    pub fn size_limit(&self) -> Limit {
+        Limit {
+            bytes: self.limit,
+            grammar: self.syntax.get_grammar(),
+        }
     }
 
     /// The limit on all tables of a regex: four times that of each direction.

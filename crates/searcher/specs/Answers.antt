@@ -8,7 +8,7 @@ use Rattle.rc_program.specs.Answer.{Search}
 use Rattle.rc_program.specs.Kinds.{answer_by, matches_by_kind}
 use Rattle.rc_program.specs.Sought.{search_for}
 use Rattle.rc_reach.specs.Partial.{IsPartial, final, from_place}
-use Rattle.rc_build.specs.Refusals.{IsBuildable}
+use Rattle.rc_build.specs.Refusals.{IsBuildable, limit_by}
 use Rattle.rc_build.specs.TextRefusals.{AllRead, IsTextRefusal, texts_of}
 use Rattle.api_meta.specs.Views.{regex_kind, regex_patterns, regex_settings, sought}
 use Rattle.api_meta.specs.declared.partial.Partial.{Partial}
@@ -73,7 +73,7 @@ pub record IsBuilt (settings : Settings) (patterns : List (Bor (List ℕ))) (s :
   pub few : length patterns ≤ most_patterns
   pub texts : AreTexts patterns
   pub read : AllRead (syntax_settings settings) (texts_of patterns) (regex_patterns s.regex)
-  pub buildable : IsBuildable (Some (size_limit_in settings)) (regex_patterns s.regex)
+  pub buildable : IsBuildable (limit_by (Some (size_limit_in settings)) (syntax_settings settings)) (regex_patterns s.regex)
   pub set : regex_settings s.regex ≡ search_settings settings kind
   pub from : s.from ≡ 0
   pub last : s.last ≡ None

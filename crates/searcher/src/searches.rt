@@ -2,7 +2,7 @@
 ghost use Rattle.std.specs.Arc.{arc_value};
 ghost use Rattle.std.specs.Prelude.{◌≡◌, ◌≤◌, IfErr, IfOk, None, OnOk, Some, length};
 ghost use Rattle.rc_text.specs.Limits.{most_patterns};
-ghost use Rattle.rc_build.specs.Refusals.{IsBuildable};
+ghost use Rattle.rc_build.specs.Refusals.{IsBuildable, limit_by};
 ghost use Rattle.rc_build.specs.TextRefusals.{AllRead, IsTextRefusal, texts_of};
 ghost use Rattle.api_meta.specs.Views.{regex_patterns, regex_settings};
 ghost use Rattle.rc_text.specs.Joined.{joined};
@@ -405,7 +405,8 @@ fn build(
     ensures read { IfOk result (λ r. AllRead (syntax_settings settings.now) (texts_of texts.now)
         (regex_patterns r)) }
     ensures set { IfOk result (λ r. regex_settings r ≡ search_settings settings.now kind) }
-    ensures buildable { IfOk result (λ r. IsBuildable (Some (size_limit_in settings.now))
+    ensures buildable { IfOk result (λ r. IsBuildable
+        (limit_by (Some (size_limit_in settings.now)) (syntax_settings settings.now))
         (regex_patterns r)) }
     ensures refused { IfErr result (λ e. IsTextRefusal (Some (size_limit_in settings.now))
         (syntax_settings settings.now) (texts_of texts.now) e) }

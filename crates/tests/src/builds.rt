@@ -10,6 +10,7 @@ use regex_cursor::engines::meta::BuildError;
 use regex_cursor::engines::pikevm::PikeVM;
 use regex_cursor::engines::{dfa, hybrid, meta, pikevm};
 use regex_cursor::hir::{Capture, Dot, Hir, Look, Properties, Repetition};
+use regex_cursor::syntax::{Config, Grammar};
 use regex_cursor::types::{Match, PatternID};
 use std::alloc::{AllocError, Global};
 use std::slice::from_ref;
@@ -228,9 +229,14 @@ fn engines_are_built(rt: HostRuntime) -> Result<(), Fail> {
     Ok(())
 }
 
-/// Where the match of a copy of a regex ends.
+/// Where the match of a copy of a regex ends, whose patterns are too large by the stated grammar.
 fn by_copy(alloc: Global) -> Result<usize, BuildError> {
-    let regex = meta::Regex::new(alloc, "ab")?;
+    let mut builder = meta::Regex::builder();
+    let built = builder
+        .syntax(Config::new().grammar(Grammar::Full))
+        .build(alloc, "ab|\\w{60}");
+    drop(builder);
+    let regex = built?;
     let copy = meta::Regex::try_clone(&regex, alloc);
     drop(regex);
     let copy = copy?;

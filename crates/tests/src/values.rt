@@ -3,7 +3,7 @@
 use regex_cursor::Input;
 use regex_cursor::engines::{meta, pikevm};
 use regex_cursor::prefilter::Prefilter;
-use regex_cursor::syntax::{Config, Error, explain_size, parse};
+use regex_cursor::syntax::{Config, Error, Grammar, explain_size, parse};
 use regex_cursor::types::MatchKind;
 use std::alloc::{AllocError, Global};
 use std::slice::from_ref;
@@ -55,7 +55,7 @@ fn kind_of_copy(alloc: Global) -> Result<MatchKind, AllocError> {
 /// How heavy the pattern is, if that is above the limit.
 fn weight_above(alloc: Global, text: &str, limit: usize) -> Result<Option<u128>, Error> {
     let tree = parse(alloc, text, &Config::new())?;
-    let oversize = explain_size(alloc, from_ref(&tree), Some(limit));
+    let oversize = explain_size(alloc, from_ref(&tree), Some(limit), Grammar::Stated);
     drop(tree);
     Ok(oversize?.map(|oversize| oversize.weight))
 }

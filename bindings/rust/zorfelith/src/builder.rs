@@ -115,7 +115,7 @@ impl Builder {
         self
     }
 
-    /// The limit on the size of the patterns, which is 32 times their weight; 0 stands for 10,485,760.
+    /// The limit on the size of the patterns, which is 32 times their weight by their grammar; 0 stands for 10,485,760.
     pub fn size_limit(&mut self, limit: usize) -> &mut Builder {
         self.settings.size_limit = limit;
         self

@@ -10,7 +10,7 @@ use Rattle.rc_program.proofs.WeightLemmas.{program_weighs}
 use Rattle.rc_settings.specs.Settings.{settings_of as all_of, program_settings}
 use Rattle.rc_settings.specs.Thompson.{Settings, line_terminator_of, nfa_size_limit_of, settings_of, which_captures_of}
 use Rattle.rc_settings.specs.Which.{is_grouped}
-use Rattle.rc_build.specs.Refusals.{IsBuildable}
+use Rattle.rc_build.specs.Refusals.{IsBuildable, limit_of}
 use Rattle.rc_build.proofs.Runnable.{bounded}
 use Rattle.rc_strategy.specs.Plans.{IsLazyFor}
 use Rattle.api_meta.specs.Plans.{plan_by}
@@ -29,7 +29,7 @@ engines_of-requires c =
     let places : places_of c.in_ok-built.built.engine.program.places.items ≡ program (shown g hs) =
     b.fits.placed ∙ ap (λ (x : Settings). program (shown (is_grouped (which_captures_of x)) (map meaning c.in_ok-built.built.hirs.items))) set
     ∙ sym (ap (λ xs. program (shown g xs)) same) in
-    let ok = subst (λ xs. IsBuildable (nfa_size_limit_of st) xs) (sym (same ∙ b.patterns)) b.buildable in
+    let ok = subst (λ xs. IsBuildable (limit_of (nfa_size_limit_of st) c.args.grammar) xs) (sym (same ∙ b.patterns)) b.buildable in
     let weighs = program_weighs (shown g hs) (bounded g hs ok.well_formed) in
     let lighter = shown_lighter g hs in
     let placed = ok.placed in
