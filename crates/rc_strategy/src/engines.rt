@@ -157,7 +157,7 @@ impl Engines {
         let sought_fast = are_fast(&engine.literals);
         let longest = LongestLiterals::new(&engine.literals, &needs);
         let lookahead = lookahead_of(&engine.program);
-        let free_route = free_route(engine.kind, &spans);
+        let free_route = free_route(&engine, &spans, needs.is_some());
         let anchored_route = anchored_route(engine.kind, &spans);
         Ok(Engines {
             engine,

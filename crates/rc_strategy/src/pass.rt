@@ -43,6 +43,7 @@ fn find_up_to<C: Cursor>(
 /// Returns some match. A pass ends at the first position at which a match does, and a search up to
 /// there finds it. If matches may be passed over, or literals alone decide, that is the match of
 /// the kind.
+#[inline(never)]
 fn find_early<C: Cursor>(engine: &Engine, cache: &mut Cache, input: &mut Input<C>) -> Option<Match>
     requires made { IsEngineCache engine.now 0 cache.old }
     ensures keeps { Keeps input.old input.new }
@@ -65,6 +66,7 @@ fn find_early<C: Cursor>(engine: &Engine, cache: &mut Cache, input: &mut Input<C
 }
 
 /// Returns an empty match if there is a match.
+#[inline(never)]
 fn find_any<C: Cursor>(engine: &Engine, cache: &mut Cache, input: &mut Input<C>) -> Option<Match>
     requires made { IsEngineCache engine.now 0 cache.old }
     ensures keeps { Keeps input.old input.new }
@@ -81,6 +83,7 @@ fn find_any<C: Cursor>(engine: &Engine, cache: &mut Cache, input: &mut Input<C>)
 }
 
 /// Replies to a question.
+#[inline(always)]
 pub(crate) fn ask_pass<C: Cursor>(
     engine: &Engine,
     cache: &mut Cache,

@@ -9,9 +9,11 @@ ghost use Rattle.rc_strategy.specs.Routes.{Serves, ServesAll};
 
 use crate::engines::Engines;
 use crate::lengths::Lengths;
+use crate::tables::are_fast;
 use rc_dense_dfa::dense::Dense;
 use rc_lazy_dfa::lazy::Lazy;
 use rc_literals::guard::{Guard, Needs};
+use rc_pikevm_search::engine::Engine;
 use rc_pikevm_search::literals::{Literals, guards_of};
 use rc_text::cursor::Cursor;
 use rc_text::input::Input;
@@ -37,6 +39,9 @@ pub(crate) enum Route {
     FromEnd,
     /// Forwards to the end of a match of this length in bytes. Nothing is searched backwards.
     OfLength(usize),
+    /// Forwards, and then backwards, with no guard. If there are prefix literals, it may first try an
+    /// anchored run where one begins.
+    Unguarded,
     /// Forwards, and then backwards.
     Along,
 }
@@ -109,9 +114,10 @@ pub(crate) fn anchored_route(kind: MatchKind, lengths: &Lengths) -> Route
     }
 }
 
-/// Returns how a search goes that isn't anchored: the first route that fits.
-pub(crate) fn free_route(kind: MatchKind, lengths: &Lengths) -> Route
-    ensures { Serves kind lengths.now No result }
+/// Returns how a search goes that isn't anchored: the first route that fits. `needed` says that
+/// required literals guard the patterns.
+pub(crate) fn free_route(engine: &Engine, lengths: &Lengths, needed: bool) -> Route
+    ensures { Serves engine.now.kind lengths.now No result }
 {
     if lengths.begin_there() {
         return Route::FromStart;
@@ -119,7 +125,10 @@ pub(crate) fn free_route(kind: MatchKind, lengths: &Lengths) -> Route
     if lengths.end_there() {
         return Route::FromEnd;
     }
-    anchored_route(kind, lengths)
+    match anchored_route(engine.kind, lengths) {
+        Route::Along if !needed && !are_fast(&engine.literals) => Route::Unguarded,
+        route => route,
+    }
 }
 
 impl Engines {

@@ -189,8 +189,9 @@ impl Engines {
     }
 
     /// Replies by a DFA, by the route of the search. Along the text it goes from literal to literal
-    /// if there is a guard, and with slow prefix literals it may try the first. An `Err` says why
-    /// the DFA has no answer.
+    /// if there is a guard, and the match may be near a slow prefix literal. Returns
+    /// None if the DFA has no answer.
+    #[inline(never)]
     fn ask_by_route<H: Halves, C: Cursor>(
         &self,
         halves: &H,
@@ -198,40 +199,59 @@ impl Engines {
         input: &mut Input<C>,
         question: Question,
         bounds: Bounds,
-    ) -> Result<Option<Match>, MatchError>
+    ) -> Option<Option<Match>>
         requires own { ∥ AreHalvesFor self.now.engine self.now.patterns (H.AreOf halves.now) ∥₁ }
         requires cache { H.IsCache halves.now cache.old }
         requires bounds { AreBounds input.old bounds }
         ensures cache { H.IsCache halves.now cache.new }
         ensures keeps { Keeps input.old input.new }
-        ensures reply { IfOk result (IsReply question self.now.engine.kind
+        ensures reply { IfSome result (IsReply question self.now.engine.kind
             (engine_search self.now.engine input.old)) }
-        ensures within { IfOk result (λ found. IfSome found (IsWithinBounds input.old)) }
+        ensures within { IfSome result (λ found. IfSome found (IsWithinBounds input.old)) }
     {
-        match self.route(input) {
-            Route::FromStart => return self.ask_from_start(halves, cache, input, question, bounds),
-            Route::FromEnd => return self.find_from_end(halves, cache, input, bounds),
-            Route::OfLength(length) if !question.may_stop() => {
-                return self.find_of_length(halves, cache, input, length, bounds);
+        match (
+            self.route(input),
+            question,
+            guards_of(&self.engine.literals),
+        ) {
+            (Route::Unguarded, Question::Match, Some(needles)) => {
+                let aim = self.aim();
+                return find_past_quit(halves, cache, input, aim, needles, bounds).ok();
             }
-            Route::OfLength(_) | Route::Along => {}
+            (Route::Unguarded, Question::Match, None) => {
+                return find_between(halves, cache, input, self.aim(), bounds).ok();
+            }
+            (Route::FromStart, _, _) => {
+                return self
+                    .ask_from_start(halves, cache, input, question, bounds)
+                    .ok();
+            }
+            (Route::FromEnd, _, _) => {
+                return self.find_from_end(halves, cache, input, bounds).ok();
+            }
+            (Route::OfLength(length), Question::Match | Question::End, _) => {
+                return self
+                    .find_of_length(halves, cache, input, length, bounds)
+                    .ok();
+            }
+            _ => {}
         }
         let guard = self.guard();
         if self.is_forwards(question, guard) {
-            return self.ask_forwards(halves, cache, input, question, guard, bounds);
+            return self
+                .ask_forwards(halves, cache, input, question, guard, bounds)
+                .ok();
         }
         let aim = self.aim_for(question);
         if let Some(guard) = guard {
-            return find_by_guard(halves, cache, input, aim, guard, bounds);
+            return find_by_guard(halves, cache, input, aim, guard, bounds).ok();
         }
-        match guards_of(&self.engine.literals) {
-            Some(needles) => find_past_quit(halves, cache, input, aim, needles, bounds),
-            None => find_between(halves, cache, input, aim, bounds),
-        }
+        find_between(halves, cache, input, aim, bounds).ok()
     }
 
     /// Replies by the DFA, or else by the lazy DFA if the cache has its states. Returns None if
     /// there is neither, or it has no answer.
+    #[inline(always)]
     pub(crate) fn ask_tables<C: Cursor>(
         &self,
         cache: &mut Option<lazy::Cache>,
@@ -248,15 +268,14 @@ impl Engines {
         ensures cache { KeepsStates self.now.lazy cache.old cache.new }
     {
         match self.table_choice(cache.is_some()) {
-            TableChoice::AllStates(tables) => self
-                .ask_by_route(tables, &mut NoCache, input, question, bounds)
-                .ok(),
+            TableChoice::AllStates(tables) => {
+                self.ask_by_route(tables, &mut NoCache, input, question, bounds)
+            }
             TableChoice::MetStates(tables) => {
                 let Some(states) = cache else {
                     return None;
                 };
                 self.ask_by_route(tables, states, input, question, bounds)
-                    .ok()
             }
             TableChoice::NoTables => None,
         }
