@@ -9,7 +9,7 @@ use Rattle.rc_text.specs.Found.{Found}
 use Rattle.rc_text.specs.declared.types.Span.{Span}
 use Rattle.live_matches.specs.declared.entry.Changed.{Changed}
 use Rattle.live_matches.specs.declared.entry.Edit.{Edit}
-use Rattle.live_matches.specs.declared.entry.Entry.{Entry}
+use Rattle.live_matches.specs.Entry.{Entry}
 use Rattle.live_matches.specs.Entries.{AreBehind, AreBelow, moved_with}
 use Rattle.live_matches.specs.Lists.{founds}
 use Rattle.live_matches.specs.Drawn.{AreLaid, EndBy, Follow, IsDrawn, IsSplit, lies_above, lies_below, match_moved, place_before}

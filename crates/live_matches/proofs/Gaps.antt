@@ -3,7 +3,7 @@ use Rattle.std.proofs.Common.{◌≡◌, ℕ, zero, suc, ◌+◌, ◌-◌, ◌<�
 use Rattle.std.specs.List.{slice_get}
 use Rattle.std.proofs.lemmas.List.{map-append, reverse-append}
 use Rattle.std.proofs.lemmas.Option.{none-some, same_Some}
-use Rattle.live_matches.specs.declared.entry.Entry.{Entry}
+use Rattle.live_matches.specs.Entry.{Entry}
 use Rattle.live_matches.specs.declared.entries.Kept.{Kept}
 use Rattle.live_matches.specs.Entries.{AreBehind, AreBelow, Rise, counted_back, entries_of, last_end, mirror, most_of, moved_by, reach_of}
 

@@ -5,7 +5,7 @@ use Rattle.std.proofs.lemmas.List.{append-nil}
 use Rattle.std.proofs.lemmas.Option.{none-some}
 use Rattle.rc_text.specs.declared.types.MatchKind.{MatchKind}
 use Rattle.rc_program.specs.Answer.{Search}
-use Rattle.live_matches.specs.declared.entry.Entry.{Entry}
+use Rattle.live_matches.specs.Entry.{Entry}
 use Rattle.live_matches.specs.Entries.{AreBelow, Gapped, IsSettledTo, IsSkipped, all_of, is_before, last_end}
 use Rattle.live_matches.specs.Lists.{AreEntries, AreFirst, IsEntry, next_after, place_of}
 use Rattle.live_matches.specs.Ranges.{AreUpTo, MeetsUpTo}

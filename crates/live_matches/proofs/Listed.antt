@@ -6,7 +6,7 @@ use Rattle.rc_program.specs.Matches
 use Rattle.rc_program.specs.Matches.{AreMatches, begin_of, end_of}
 use Rattle.rc_program.proofs.KindLemmas.{kinds_law}
 use Rattle.rc_reach.specs.Live.{found_by, list_by, over_content}
-use Rattle.live_matches.specs.declared.entry.Entry.{Entry}
+use Rattle.live_matches.specs.Entry.{Entry}
 use Rattle.live_matches.specs.Entries.{AreBelow, AreBehind, last_end, moved_by, reach_of}
 use Rattle.live_matches.specs.Lists.{AreEntries, AreFirst, IsEntry, IsNextFixed, founds, next_after, place_of}
 use Rattle.live_matches.proofs.Moves.{fixed_moved, lies, next_moved, none_moved}

@@ -9,7 +9,7 @@ use Rattle.rc_program.specs.Matches.{begin_of, end_of, is_again, unless_again}
 use Rattle.rc_reach.specs.Fixed.{IsFixed}
 use Rattle.rc_reach.specs.Live.{found_by}
 use Rattle.live_matches.specs.declared.entry.Edit.{Edit}
-use Rattle.live_matches.specs.declared.entry.Entry.{Entry}
+use Rattle.live_matches.specs.Entry.{Entry}
 use Rattle.live_matches.specs.Entries.{AreBehind, Gapped, IsSkipped, is_before, last_end, len_after, moved_with, reach_of}
 use Rattle.live_matches.specs.Lists.{AreEntries, AreFirst, IsEntry, IsSearchedOn, Meets, mark_after, next_after, place_of}
 use Rattle.live_matches.specs.Live.{IsEdited}
@@ -35,7 +35,7 @@ module _ (kind : MatchKind) (s : Search) where
 
   pub again : (c : List ℕ) (last : Option ℕ) (m n : Found) (r q : ℕ) (e : Entry) → found_by kind s c (place_of last) ≡ Some m →
       is_again begin_of end_of last m ≡ true → found_by kind s c (place_of last + 1) ≡ Some n →
-      IsFixed kind s c r (place_of last) → IsFixed kind s c q (place_of last + 1) → e.found ≡ n → reach_of e ≡ max r q → IsEntry kind s c last e
+      IsFixed kind s c r (place_of last) → IsFixed kind s c q (place_of last + 1) → e.found ≡ n → max r q ≤ reach_of e → IsEntry kind s c last e
   again c last m n r q e first twice second fixed later same reach = record {
     found = next_again c (place_of last) last m first twice ∙ second ∙ ap Some (sym same);
     fixed = λ other agree.

@@ -14,7 +14,7 @@ use Rattle.rc_program.proofs.KindLemmas.{kinds_law}
 use Rattle.rc_program.proofs.ReachLemmas.{longest_law}
 use Rattle.rc_reach.specs.Fixed.{IsFixed}
 use Rattle.rc_reach.specs.Live.{found_by, over_content}
-use Rattle.live_matches.specs.declared.entry.Entry.{Entry}
+use Rattle.live_matches.specs.Entry.{Entry}
 use Rattle.live_matches.specs.Entries.{Gapped, IsSkipped, last_end, reach_of}
 use Rattle.live_matches.specs.Lists.{AreEntries, AreFirst, IsEntry, IsNextFixed, Meets, next_after, place_of}
 use Rattle.live_matches.specs.Quiet.{BeginFrom, BeginsBy, IsLeft, IsSkippedOver}

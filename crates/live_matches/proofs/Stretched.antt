@@ -18,7 +18,7 @@ use Rattle.rc_reach.specs.Fixed.{IsFixed}
 use Rattle.rc_reach.specs.Live.{found_by, over_content}
 use Rattle.rc_reach.specs.Partial.{GoesOnFrom, IsPartial, final, from_place}
 use Rattle.live_matches.specs.declared.entry.Edit.{Edit}
-use Rattle.live_matches.specs.declared.entry.Entry.{Entry}
+use Rattle.live_matches.specs.Entry.{Entry}
 use Rattle.live_matches.specs.declared.stretches.Stretch.{Stretch}
 use Rattle.live_matches.specs.Entries.{AreBehind, AreBelow, FitsEdit, Gapped, IsSettledTo, all_of, len_after, moved_with, reach_of}
 use Rattle.live_matches.specs.Lists.{AreEntries, IsEntry, next_after, place_of}

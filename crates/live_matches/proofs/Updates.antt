@@ -4,7 +4,7 @@ use Rattle.rc_text.specs.declared.types.MatchKind.{MatchKind}
 use Rattle.rc_program.specs.Answer.{Search}
 use Rattle.live_matches.specs.declared.entry.Changed.{Changed}
 use Rattle.live_matches.specs.declared.entry.Edit.{Edit}
-use Rattle.live_matches.specs.declared.entry.Entry.{Entry}
+use Rattle.live_matches.specs.Entry.{Entry}
 use Rattle.live_matches.specs.Entries.{AreBehind, AreBelow, FitsEdit, Gapped, IsSettledTo, all_of, last_end, len_after, moved_with}
 use Rattle.live_matches.specs.Lists.{AreEntries, AreFirst, IsSearchedOn, Meets, mark_after, place_of}
 use Rattle.live_matches.specs.Live.{IsEdited}

@@ -5,7 +5,7 @@ use Rattle.rc_text.specs.declared.types.Span.{Span}
 use Rattle.live_matches.specs.declared.changes.Ahead.{Ahead}
 use Rattle.live_matches.specs.declared.entry.Changed.{Changed}
 use Rattle.live_matches.specs.declared.entry.Edit.{Edit}
-use Rattle.live_matches.specs.declared.entry.Entry.{Entry}
+use Rattle.live_matches.specs.Entry.{Entry}
 use Rattle.live_matches.specs.Entries.{AreBehind, AreBelow}
 use Rattle.live_matches.specs.Lists.{IsChanged}
 

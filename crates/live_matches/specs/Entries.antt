@@ -1,7 +1,7 @@
 -- Entries: matches, how many bytes settle each, and a list of them with a gap.
 use Rattle.std.specs.Prelude.{◌≡◌, ℕ, ◌+◌, ◌-◌, ◌<◌, ◌≤◌, List, [], ◌∷◌, ◌++◌, map, reverse, min, Option, None, Some, Bool, true, nat_lt}
 use Rattle.live_matches.specs.declared.entry.Edit.{Edit}
-use Rattle.live_matches.specs.declared.entry.Entry.{Entry}
+use Rattle.live_matches.specs.Entry.{Entry}
 use Rattle.live_matches.specs.declared.entries.Kept.{Kept}
 
 -- How many bytes of the text settle the entry.

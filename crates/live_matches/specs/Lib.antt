@@ -1,5 +1,6 @@
 pub mod Drawn
 pub mod Entries
+pub mod Entry
 pub mod Lists
 pub mod Live
 pub mod Quiet

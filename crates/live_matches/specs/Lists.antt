@@ -7,7 +7,7 @@ use Rattle.rc_program.specs.Matches.{begin_of, end_of, next_match}
 use Rattle.rc_reach.specs.Live.{found_by}
 use Rattle.live_matches.specs.declared.entry.Changed.{Changed}
 use Rattle.live_matches.specs.declared.entry.Edit.{Edit}
-use Rattle.live_matches.specs.declared.entry.Entry.{Entry}
+use Rattle.live_matches.specs.Entry.{Entry}
 use Rattle.live_matches.specs.Entries.{Gapped, last_end, moved_with, reach_of}
 
 -- Where the next match is sought, if the one before ended there.

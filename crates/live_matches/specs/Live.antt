@@ -12,7 +12,7 @@ use Rattle.api_meta.specs.Views.{regex_kind, regex_patterns, regex_settings, sou
 use Rattle.api_meta.specs.declared.cache.Cache.{Cache}
 use Rattle.api_meta.specs.declared.regex.Regex.{Regex}
 use Rattle.live_matches.specs.declared.entry.Edit.{Edit}
-use Rattle.live_matches.specs.declared.entry.Entry.{Entry}
+use Rattle.live_matches.specs.Entry.{Entry}
 use Rattle.live_matches.specs.Entries.{Gapped, all_of}
 use Rattle.live_matches.specs.Lists.{AreEntries, founds}
 use Rattle.live_matches.specs.Stretches.{AreStretches}

@@ -8,7 +8,7 @@ use Rattle.rc_reach.specs.Laws.{greatest_len}
 use Rattle.api_meta.specs.Views.{regex_kind, regex_patterns}
 use Rattle.api_meta.specs.declared.regex.Regex.{Regex}
 use Rattle.live_matches.specs.declared.entry.Edit.{Edit}
-use Rattle.live_matches.specs.declared.entry.Entry.{Entry}
+use Rattle.live_matches.specs.Entry.{Entry}
 use Rattle.live_matches.specs.Entries.{AreBehind, Gapped, is_before, last_end, moved_with}
 use Rattle.live_matches.specs.Lists.{AreEntries, next_after, place_of}
 

@@ -5,7 +5,7 @@ use Rattle.rc_text.specs.declared.types.Span.{Span}
 use Rattle.rc_program.specs.Answer.{Search}
 use Rattle.api_meta.specs.Views.{regex_kind}
 use Rattle.api_meta.specs.declared.regex.Regex.{Regex}
-use Rattle.live_matches.specs.declared.entry.Entry.{Entry}
+use Rattle.live_matches.specs.Entry.{Entry}
 use Rattle.live_matches.specs.Entries.{all_of, is_before, last_end}
 use Rattle.live_matches.specs.Lists.{AreFirst, next_after}
 use Rattle.live_matches.specs.Live.{Listed, seeks}

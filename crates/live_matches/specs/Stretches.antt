@@ -4,7 +4,7 @@ use Rattle.rc_text.specs.declared.types.MatchKind.{MatchKind}
 use Rattle.rc_program.specs.Answer.{Search}
 use Rattle.rc_reach.specs.Live.{found_by}
 use Rattle.live_matches.specs.declared.entry.Edit.{Edit}
-use Rattle.live_matches.specs.declared.entry.Entry.{Entry}
+use Rattle.live_matches.specs.Entry.{Entry}
 use Rattle.live_matches.specs.Entries.{AreBelow, Gapped, all_of, len_after, moved_with, reach_of}
 use Rattle.live_matches.specs.Quiet.{BeginFrom, BeginsBy}
 

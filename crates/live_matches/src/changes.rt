@@ -3,7 +3,7 @@ ghost use Rattle.std.specs.Prelude.{◌≡◌, ◌+◌, ◌-◌, ◌<◌, ◌≤
 ghost use Rattle.live_matches.specs.Drawn.{AreAhead, AreLaid, EndBy, IsDrawn, IsSplit, place_before};
 ghost use Rattle.live_matches.specs.Entries.{all_of, moved_with};
 ghost use Rattle.live_matches.specs.Lists.{IsChanged, founds};
-ghost use Rattle.live_matches.specs.declared.entry.Entry.{Entry as an_entry};
+ghost use Rattle.live_matches.specs.Entry.{Entry as an_entry};
 
 use crate::entries::Entries;
 use crate::entry::{Changed, Edit, Entry};
@@ -113,7 +113,7 @@ fn trimmed(entries: &Entries, ahead: &Ahead, edit: Edit, raw: Changed) -> Change
     let Some(came) = entries.get(raw.first + (raw.added - 1)) else {
         return raw;
     };
-    if went.found.start() <= edit.replaced.end || !came.is_same(&went.moved(edit)) {
+    if went.start() <= edit.replaced.end || !came.is_same(&went.moved(edit)) {
         return raw;
     }
     Changed {
@@ -130,7 +130,7 @@ fn start_with(at: usize, entry: Option<Entry>) -> usize
     ensures entry { IfSome entry (λ e. result ≤ e.found.start) }
 {
     match entry {
-        Some(entry) => at.min(entry.found.start()),
+        Some(entry) => at.min(entry.start()),
         None => at,
     }
 }
@@ -155,7 +155,7 @@ fn end_of_new(entries: &Entries, edit: Edit, change: Changed) -> usize
         return 0;
     }
     match entries.get(change.first + (change.added - 1)) {
-        Some(last) => last.found.end(),
+        Some(last) => last.end(),
         None => entries.text_len(),
     }
 }
@@ -172,10 +172,10 @@ fn end_of_old(entries: &Entries, ahead: &Ahead, edit: Edit, change: Changed) -> 
         return 0;
     }
     if let Some(last) = ahead.get(change.dropped - 1) {
-        return last.moved(edit).found.end();
+        return last.moved(edit).end();
     }
     match entries.get(change.first + change.added) {
-        Some(next) => next.found.start(),
+        Some(next) => next.start(),
         None => entries.text_len(),
     }
 }

@@ -1,5 +1,5 @@
 //! Entries: a list of matches with a gap that follows the edits.
-ghost use Rattle.std.specs.Prelude.{◌≡◌, ◌+◌, ◌++◌, ◌<◌, ◌≤◌, ℕ, IfOk, IsTrue, List, MatchOption, false, min};
+ghost use Rattle.std.specs.Prelude.{◌≡◌, ◌+◌, ◌++◌, ◌∷◌, ◌<◌, ◌≤◌, ℕ, [], IfErr, IfOk, IsTrue, List, MatchOption, false, min};
 ghost use Rattle.live_matches.specs.Entries.{AreBelow, Rise, counted_back, entries_of, is_before, most_of, reach_of};
 ghost use Rattle.live_matches.specs.Lists.{place_of};
 ghost use Rattle.live_matches.specs.Stretches.{last_start};
@@ -138,7 +138,7 @@ impl Entries {
             ≡ record self.old { before = self.old.before ++ entry ∷ [] }) }
     {
         let most = most_of(&self.before);
-        self.before.push(kept_after(most, entry))?;
+        add(&mut self.before, kept_after(most, entry))?;
         Ok(())
     }
 
@@ -147,7 +147,7 @@ impl Entries {
         ensures { result ≡ last_end None self.now.before }
     {
         match self.before.last() {
-            Some(kept) => Some(kept.entry.found.end()),
+            Some(kept) => Some(kept.entry.end()),
             None => None,
         }
     }
@@ -176,7 +176,7 @@ impl Entries {
         let Some(entry) = self.get_after(0) else {
             return false;
         };
-        if at < entry.found.end() {
+        if at < entry.end() {
             return false;
         }
         self.take_next().is_some()
@@ -212,7 +212,7 @@ impl Entries {
         let mut mark = mark;
         'skip: while is_before(mark, at, margin) {
             match self.take_next() {
-                Some(entry) => mark = Some(entry.found.end()),
+                Some(entry) => mark = Some(entry.end()),
                 None => return mark,
             }
         }
@@ -226,7 +226,7 @@ impl Entries {
             × (self.new ≡ record self.old { after = self.new.after })) }
     {
         let first = self.get_after(0)?;
-        if at < first.found.start() {
+        if at < first.start() {
             return None;
         }
         self.take_next()
@@ -240,7 +240,7 @@ impl Entries {
     {
         let mut mark = mark;
         'over: while let Some(entry) = self.take_next_by(at) {
-            mark = Some(entry.found.end());
+            mark = Some(entry.end());
         }
         place_of(mark).max(at)
     }
@@ -269,6 +269,8 @@ impl Entries {
     {
         move_back(&mut self.before, &mut self.after, self.len, at)?;
         move_on(&mut self.before, &mut self.after, self.len, at)?;
+        give_back(&mut self.before);
+        give_back(&mut self.after);
         Ok(())
     }
 }
@@ -299,10 +301,9 @@ fn kept_after(most: usize, entry: Entry) -> Kept
     ensures reach { min (reach_of entry) usize.MAX ≤ result.most }
     ensures most { most ≤ result.most }
 {
-    let reach = entry.found.end().saturating_add(entry.ahead);
     Kept {
         entry,
-        most: most.max(reach),
+        most: most.max(entry.reach()),
     }
 }
 
@@ -325,7 +326,7 @@ fn move_back(
             before.push(kept)?;
             return Ok(());
         }
-        after.push(kept.entry.mirrored(len))?;
+        add(after, kept.entry.mirrored(len))?;
     }
     Ok(())
 }
@@ -351,7 +352,7 @@ fn move_on(
             after.push(entry)?;
             return Ok(());
         }
-        before.push(kept)?;
+        add(before, kept)?;
     }
     Ok(())
 }
@@ -364,7 +365,7 @@ fn drop_back(before: &mut Vec<Kept>, at: usize) -> Result<(), AllocError>
     ensures far { IfOk result (λ _. last_start 0 (entries_of before.new.items) ≤ at) }
 {
     'back: while let Some(kept) = before.pop() {
-        if kept.entry.found.start() <= at {
+        if kept.entry.start() <= at {
             before.push(kept)?;
             return Ok(());
         }
@@ -379,5 +380,28 @@ fn most_of(before: &Vec<Kept>) -> usize
     match before.last() {
         Some(kept) => kept.most,
         None => 0,
+    }
+}
+
+/// Adds an element. The room grows by a quarter, so a list takes little more than its elements. An
+/// `Err` means out of memory.
+fn add<T: Copy>(list: &mut Vec<T>, element: T) -> Result<(), AllocError>
+    ensures added { IfOk result (λ _. list.new.items ≡ list.old.items ++ element ∷ []) }
+    ensures refused { IfErr result (λ _. list.new.items ≡ list.old.items) }
+{
+    if list.len() == list.capacity() {
+        list.reserve_exact(list.len() / 4 + 4)?;
+    }
+    list.push(element)?;
+    Ok(())
+}
+
+/// Gives room back if a list has more than half of its length left.
+fn give_back<T>(list: &mut Vec<T>)
+    ensures { list.new.items ≡ list.old.items }
+{
+    let len = list.len();
+    if list.capacity().saturating_sub(len) > len / 2 + 8 {
+        list.shrink_to(len + len / 4 + 4);
     }
 }

@@ -260,7 +260,7 @@ impl LiveMatches {
         ensures { result ≡ slice_get (listed self.now) index }
     {
         match self.entries.get(index) {
-            Some(entry) => Some(entry.found),
+            Some(entry) => Some(entry.found()),
             None => None,
         }
     }

@@ -14,8 +14,8 @@ ghost use Rattle.live_matches.specs.Quiet.{BeginFrom, HasGone, IsCarried, IsFrom
 ghost use Rattle.live_matches.specs.Stretches.{AreStretches, IsQuiet};
 
 use crate::entries::{Entries, place_of};
-use crate::entry::{Edit, Entry};
-use crate::search::{LOOKS_BEHIND, entry_of, mark_after, next_entry, search_from};
+use crate::entry::{Edit, Entry, entry_of};
+use crate::search::{LOOKS_BEHIND, mark_after, next_entry, search_from};
 use crate::stretches::{Stretch, Stretches};
 use rc_text::input::content_fits;
 use regex_cursor::engines::meta::{Cache, Regex};
@@ -46,18 +46,18 @@ fn first_place(entries: &Entries, at: usize, longest: usize) -> usize
     let reach = longest.saturating_add(LOOKS_AHEAD);
     let place = at.saturating_sub(reach);
     match entries.get_after(0) {
-        Some(entry) => place.min(entry.found.start()),
+        Some(entry) => place.min(entry.start()),
         None => place,
     }
 }
 
-/// Whether the preferred matches count, for which stretches are told.
-pub fn is_first(regex: &Regex) -> bool
+/// Whether leftmost matches count, for which stretches are told.
+pub fn is_leftmost(regex: &Regex) -> bool
     ensures { IsTrue result → regex_kind regex.now ≢ all_matches }
 {
     match regex.get_config().get_match_kind() {
-        MatchKind::LeftmostFirst => true,
-        MatchKind::All | MatchKind::LeftmostLongest => false,
+        MatchKind::LeftmostFirst | MatchKind::LeftmostLongest => true,
+        MatchKind::All => false,
     }
 }
 
@@ -172,7 +172,7 @@ fn begins_before(entry: Option<Entry>, place: usize) -> bool
     ensures { result ≡ false → IfSome entry (λ e. place ≤ e.found.start) }
 {
     match entry {
-        Some(entry) => entry.found.start() < place,
+        Some(entry) => entry.start() < place,
         None => false,
     }
 }
@@ -249,7 +249,7 @@ fn search_near<C: Cursor>(
             entries.drop_after();
             return Ok(());
         };
-        let end = entry.found.end();
+        let end = entry.end();
         entries.push(entry)?;
         mark = skip_past(entries, mark, end);
     }
@@ -320,10 +320,7 @@ fn begins_behind(entry: Option<Entry>, stretch: Stretch) -> bool
         × (stretch.reach ≤ reach_of e)) }
 {
     match entry {
-        Some(entry) => {
-            let reach = entry.found.end().saturating_add(entry.ahead);
-            stretch.end <= entry.found.start() && stretch.reach <= reach
-        }
+        Some(entry) => stretch.end <= entry.start() && stretch.reach <= entry.reach(),
         None => true,
     }
 }
@@ -364,11 +361,11 @@ fn stretch_on<C: Cursor>(
 {
     let len = entries.text_len();
     let limit = match entries.get_after(0) {
-        Some(entry) => entry.found.start().min(len),
+        Some(entry) => entry.start().min(len),
         None => len,
     };
     let near = match stretches.entries.get_after(0) {
-        Some(entry) => entry.found.start().min(limit),
+        Some(entry) => entry.start().min(limit),
         None => 0,
     };
     let stop = match mark {
@@ -419,7 +416,7 @@ fn search_quiet<C: Cursor>(
             entries.drop_after();
             return Ok(());
         };
-        let end = entry.found.end();
+        let end = entry.end();
         entries.push(entry)?;
         mark = skip_past(entries, mark, end);
         stretch = Stretch::at(end);

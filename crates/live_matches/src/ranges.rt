@@ -62,7 +62,7 @@ pub fn search_to<C: Cursor>(
             entries.drop_after();
             return Ok(());
         };
-        let end = entry.found.end();
+        let end = entry.end();
         entries.push(entry)?;
         last = Some(end);
         mark = entries.skip_to(mark, end, 0);

@@ -13,8 +13,8 @@ ghost use Rattle.live_matches.specs.Stretches.{AreStretches};
 
 use crate::changes::{Ahead, change_of};
 use crate::entries::{Entries, is_before, place_of};
-use crate::entry::{Changed, Edit, Entry};
-use crate::quiet::{carry_near, carry_quiet, is_first, short_length};
+use crate::entry::{Changed, Edit, Entry, entry_of};
+use crate::quiet::{carry_near, carry_quiet, is_leftmost, short_length};
 use crate::stretches::Stretches;
 use rc_text::input::content_fits;
 use regex_cursor::engines::meta::{Cache, Reached, Regex};
@@ -110,7 +110,7 @@ pub fn search_on<C: Cursor>(
     let mut mark = mark;
     let mut last = entries.last_end();
     'on: while let Some(entry) = next_entry(regex, cache, input, last) {
-        let end = entry.found.end();
+        let end = entry.end();
         entries.push(entry)?;
         last = Some(end);
         mark = entries.skip_to(mark, end, 0);
@@ -197,7 +197,7 @@ fn carry<C: Cursor>(
     if let Some(longest) = short_length(regex, longest) {
         return carry_near(entries, longest, regex, cache, edit, input);
     }
-    if is_first(regex) {
+    if is_leftmost(regex) {
         return carry_quiet(entries, stretches, regex, cache, edit, input);
     }
     carry_over(entries, regex, cache, edit, input)
@@ -262,17 +262,5 @@ fn is_again(last: Option<usize>, found: Match) -> bool
     match last {
         Some(last) => found.start() == found.end() && found.end() == last,
         None => false,
-    }
-}
-
-/// The entry of a match that so many bytes settle.
-pub fn entry_of(found: Match, reach: usize) -> Entry
-    requires { found.end ≤ reach }
-    ensures found { result.found ≡ found }
-    ensures reach { result.found.end + result.ahead ≡ reach }
-{
-    Entry {
-        found,
-        ahead: reach - found.end(),
     }
 }

@@ -12,7 +12,7 @@ ghost use Rattle.live_matches.specs.Quiet.{BeginFrom, HasGone};
 ghost use Rattle.live_matches.specs.Stretches.{IsQuiet, IsStretch};
 
 use crate::entries::Entries;
-use crate::entry::{Edit, Entry};
+use crate::entry::{Edit, Entry, entry_of};
 use crate::input::whole_input;
 use crate::search::LOOKS_BEHIND;
 use rc_text::input::{content_fits, piece_from};
@@ -63,6 +63,7 @@ impl Stretch {
     fn entry(&self) -> Entry
         requires order { self.now.start ≤ self.now.end }
         requires within { self.now.end ≤ self.now.reach }
+        requires near { self.now.reach < self.now.end + 4294967295 }
         ensures start { result.found.start ≡ self.now.start }
         ensures end { result.found.end ≡ self.now.end }
         ensures reach { reach_of result ≡ self.now.reach }
@@ -71,10 +72,7 @@ impl Stretch {
             start: self.start,
             end: self.end,
         };
-        Entry {
-            found: Match::new(PatternID::ZERO, span),
-            ahead: self.reach - self.end,
-        }
+        entry_of(Match::new(PatternID::ZERO, span), self.reach)
     }
 
     /// The stretch, longer by one of a list if that begins in it or at its end.
@@ -83,20 +81,18 @@ impl Stretch {
         ensures on { self.now.end ≤ result.end }
         ensures inside { (n : ℕ) → self.now.end ≤ n → entry.found.end ≤ n → result.end ≤ n }
         ensures more { entry.found.start ≤ self.now.end → self.now.end < entry.found.end
-            → reach_of entry < 2 ^ 64 → result.end ≡ entry.found.end }
+            → reach_of entry < usize.MAX → result.end ≡ entry.found.end }
         ensures quiet { (kind : a_kind) (s : Search) (c : List ℕ) → kind ≢ all_matches
             → is_anchored s.anchoring ≡ false → self.now.start ≤ self.now.end
             → IsQuiet kind s c self.now.reach self.now.start self.now.end
             → IsStretch kind s c entry
             → IsQuiet kind s c result.reach result.start result.end }
     {
-        let end = entry.found.end();
-        if self.end < entry.found.start() || end <= self.end {
+        let end = entry.end();
+        let reach = entry.reach();
+        if self.end < entry.start() || end <= self.end || reach == usize::MAX {
             return *self;
         }
-        let Some(reach) = end.checked_add(entry.ahead) else {
-            return *self;
-        };
         Stretch {
             start: self.start,
             end,
@@ -180,9 +176,9 @@ impl Stretches {
             → IfOk result (λ _. AreStretches kind s c 0 (all_of self.new.entries)) }
         ensures len { IfOk result (λ _. self.new.entries.len ≡ self.old.entries.len) }
     {
-        self.entries.drop_back(entry.found.start())?;
-        self.entries.drop_by(entry.found.end());
-        self.entries.skip_over(None, entry.found.start());
+        self.entries.drop_back(entry.start())?;
+        self.entries.drop_by(entry.end());
+        self.entries.skip_over(None, entry.start());
         self.entries.push(*entry)
     }
 
@@ -193,7 +189,7 @@ impl Stretches {
     {
         match self.entries.get_after(0) {
             Some(next) => {
-                let far = next.found.start().saturating_sub(at);
+                let far = next.start().saturating_sub(at);
                 if (STEP / 2..=2 * STEP - OVER).contains(&far) {
                     far + OVER
                 } else {
@@ -272,6 +268,7 @@ impl Stretches {
         ensures quiet { IfOk result (λ r. IsQuiet (regex_kind regex.now) (seeks regex.now)
             input.old.content r.reach r.start r.end) }
     {
+        content_fits(input);
         let mut stretch = stretch;
         'steps: while stretch.end < stop && 2 * STEP <= limit.saturating_sub(stretch.end) {
             match self.step(stretch.end, regex, cache, input)? {

@@ -1,7 +1,7 @@
 use Rattle.std.proofs.Common.{◌∙◌, ℕ, ◌-◌, ◌≤◌, sym, ap, subst, arith}
 use Rattle.std.specs.Prelude.{IfSome}
 use Rattle.std.specs.List.{slice_get}
-use Rattle.live_matches.specs.declared.entry.Entry.{Entry}
+use Rattle.live_matches.specs.Entry.{Entry}
 use Rattle.live_matches.specs.Drawn.{AreAhead, IsSplit, place_before}
 use Rattle.live_matches.specs.Entries.{all_of}
 use Rattle.live_matches.proofs.Drawns.{drawn, end_later}

@@ -1,6 +1,6 @@
 use Rattle.std.proofs.Common.{◌≡◌, ◌∙◌, ◌+◌, ◌-◌, Some, sym, ap, subst, arith}
 use Rattle.std.specs.List.{slice_get}
-use Rattle.live_matches.specs.declared.entry.Entry.{Entry}
+use Rattle.live_matches.specs.Entry.{Entry}
 use Rattle.live_matches.specs.Drawn.{EndBy, place_before}
 use Rattle.live_matches.specs.Entries.{all_of}
 use Rattle.live_matches.proofs.Drawns.{end_later, none_went, went_before, went_by, went_fits, went_inside}

@@ -23,11 +23,11 @@ back-preserved c =
     let r = rise_pop len 0 ks k (subst (Rise len 0) c.in-Some.ensures.items c.back.invariant.rise) in
     record {
       rise = r.0;
-      all = ap (λ es. entries_of ks ++ counted_back len es) (c.in_ok-push-2.ensures.items ∙ ap (λ e. c.back.after.items ++ e ∷ []) c.mirrored.ensures.entry)
+      all = ap (λ es. entries_of ks ++ counted_back len es) (c.in_ok-add.ensures.added ∙ ap (λ e. c.back.after.items ++ e ∷ []) c.mirrored.ensures.entry)
           ∙ moved_back len ks k c.back.after.items c.mirrored.ensures.ordered r.1
           ∙ sym (ap (λ ks. entries_of ks ++ counted_back len c.back.after.items) c.in-Some.ensures.items) ∙ c.back.invariant.all;
     }
 
-pub returns-in_err-push-2-clause-rise : goal.returns-in_err-push-2-clause-rise
-returns-in_err-push-2-clause-rise c =
+pub returns-in_err-add-clause-rise : goal.returns-in_err-add-clause-rise
+returns-in_err-add-clause-rise c =
     (rise_pop c.args.len 0 c.pop.new.self.items c.in-Some.kept (subst (Rise c.args.len 0) c.in-Some.ensures.items c.back.invariant.rise)).0

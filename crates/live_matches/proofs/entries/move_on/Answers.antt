@@ -1,6 +1,6 @@
 use Rattle.std.proofs.Common.{◌≡◌, ◌∙◌, ◌++◌, ◌∷◌, [], sym, ap, subst, arith}
 use Rattle.live_matches.specs.Entries.{AreBelow, Rise, counted_back, entries_of, mirror, reach_of}
-use Rattle.live_matches.specs.declared.entry.Entry.{Entry}
+use Rattle.live_matches.specs.Entry.{Entry}
 use Rattle.live_matches.proofs.Gaps.{below, most_push, moved_on, rise_push}
 use Rattle.live_matches.proofs.entries.move_on.Goals as goal
 
@@ -17,7 +17,7 @@ on-preserved c =
     let ends = ap (λ (e : Entry). e.found.end) same in
     let reach = ap reach_of made.entry in
     let over = made.reach in
-    let pushed = c.in_ok-push-2.ensures.items in
+    let pushed = c.in_ok-add.ensures.added in
     let rise : Rise len 0 (ks ++ k ∷ []) = rise_push len 0 ks k c.on.invariant.rise (omega (arith, ends)) (omega (arith, made.most, c.most_of.ensures))
     (omega (arith, reach, over)) in
     let most = most_push 0 ks k in

@@ -2,7 +2,7 @@ use Rattle.std.proofs.Common.{◌≡◌, ◌+◌, ◌<◌, ◌≤◌, None, max,
 use Rattle.std.specs.Prelude.{IfSome}
 use Rattle.api_meta.specs.Views.{regex_kind}
 use Rattle.rc_reach.specs.Live.{found_by}
-use Rattle.live_matches.specs.declared.entry.Entry.{Entry}
+use Rattle.live_matches.specs.Entry.{Entry}
 use Rattle.live_matches.specs.Entries.{last_end}
 use Rattle.live_matches.specs.Lists.{Meets, place_of}
 use Rattle.live_matches.specs.Live.{seeks}

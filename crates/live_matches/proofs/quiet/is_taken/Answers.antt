@@ -1,6 +1,6 @@
 use Rattle.std.proofs.Common.{◌<◌, ◌≤◌, None, subst, arith}
 use Rattle.std.specs.Prelude.{IfSome}
-use Rattle.live_matches.specs.declared.entry.Entry.{Entry}
+use Rattle.live_matches.specs.Entry.{Entry}
 use Rattle.live_matches.specs.Entries.{last_end, reach_of}
 use Rattle.live_matches.specs.Lists.{Meets, place_of}
 use Rattle.live_matches.specs.Stretches.{IsQuiet}

@@ -1,4 +1,4 @@
-use Rattle.std.proofs.Common.{◌≡◌, ◌+◌, ◌∙◌, true, sym, ap, subst}
+use Rattle.std.proofs.Common.{◌≡◌, ◌+◌, ◌∙◌, true, sym, ap, subst, arith}
 use Rattle.rc_program.specs.Matches.{begin_of, end_of, is_again}
 use Rattle.rc_reach.specs.Fixed.{IsFixed}
 use Rattle.rc_reach.specs.Live.{found_by}
@@ -27,4 +27,4 @@ returns-in-Some-found-clause-next g c =
     (subst (IsFixed kind s content c.search_from-first.result.reach) start c.search_from-first.ensures.fixed)
     (subst (λ k. IsFixed kind s content c.search_from-second.result.reach (k + 1)) start
     (subst (λ x. IsFixed kind s x c.search_from-second.result.reach (c.place_of-start.result + 1)) there c.search_from-second.ensures.fixed))
-    c.entry_of-in-Some-found.ensures.found (c.entry_of-in-Some-found.ensures.reach ∙ c.max.ensures)
+    c.entry_of-in-Some-found.ensures.found (omega (arith, c.entry_of-in-Some-found.ensures.reach, c.max.ensures))

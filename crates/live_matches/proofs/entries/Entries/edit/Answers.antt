@@ -1,5 +1,5 @@
 use Rattle.std.proofs.Common.{List, ◌+◌, ◌-◌, ◌∙◌, map, sym, ap, subst, arith}
-use Rattle.live_matches.specs.declared.entry.Entry.{Entry}
+use Rattle.live_matches.specs.Entry.{Entry}
 use Rattle.live_matches.specs.Entries.{AreBehind, AreBelow, Gapped, entries_of, len_after, moved_with}
 use Rattle.live_matches.proofs.Gaps.{edited, rise_on}
 use Rattle.live_matches.proofs.entries.Entries.edit.Goals as goal

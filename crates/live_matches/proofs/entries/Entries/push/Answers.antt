@@ -8,6 +8,6 @@ invariant_of-self-2 c =
     let len = c.self.inside.len in
     let whole = ap (λ (g : Gapped). g.len) c.self.view_is in
     let made = c.kept_after.ensures in
-    subst (λ ks. Rise len 0 ks) (sym c.in_ok-push.ensures.items)
+    subst (λ ks. Rise len 0 ks) (sym c.in_ok-add.ensures.added)
     (rise_push len 0 c.self.inside.before.items c.kept_after.result c.self.invariant (rw made.entry (omega (arith, c.requires, whole)))
     (omega (arith, made.most, c.most_of-most.ensures)) (rw made.entry made.reach))

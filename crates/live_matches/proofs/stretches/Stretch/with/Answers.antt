@@ -11,4 +11,4 @@ returns-clause-quiet c kind s content other free order quiet is =
     subst (λ k. IsQuiet kind s content c.max.result a.start k) (sym c.end-end.ensures.value)
     (quiet_joined kind s other free content a.reach (reach_of e) c.max.result a.start a.end e.found.start e.found.end order
     (omega (arith, c.if-self-start.false, c.start.ensures.value)) (omega (arith, c.max.ensures))
-    (omega (arith, c.max.ensures, c.in-Some.ensures, c.end-end.ensures.value)) quiet is.quiet)
+    (omega (arith, c.max.ensures, c.reach-reach.ensures, c.if-self-start.false)) quiet is.quiet)
