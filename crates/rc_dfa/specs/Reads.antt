@@ -5,7 +5,7 @@ use Rattle.rc_program.specs.Text.{Text, before_at, after_at}
 use Rattle.rc_program.specs.Program.{place_at}
 use Rattle.rc_program.specs.Answer.{pattern_at}
 use Rattle.rc_determinize.specs.States.{State, best_at}
-use Rattle.rc_dfa.specs.Machine.{Alphabet, bytes, symbols, Machine, is_dead, is_idle}
+use Rattle.rc_dfa.specs.Machine.{Alphabet, Machine, is_dead, is_idle}
 use Rattle.rc_dfa.specs.Runs.{MayReadSide, BeginsBy, LeadsBy, RunsOver, RunEnd, met_last, stopped_at, idle_at}
 use Rattle.rc_dfa.specs.declared.ended.Ended.{Ended}
 use Rattle.rc_dfa.specs.declared.ended.Ended.TheVariants.{Found, Idle, Quit, GaveUp}
@@ -39,8 +39,8 @@ pub data SearchEndsBelowOver (a : Alphabet) (m : Machine) (t : Text) (hi from : 
 abbrev pub SearchEndsBelow : Machine → Text → ℕ → ℕ → Anchored → Bool → RunEnd → ℕ → Type 0
 SearchEndsBelow m = SearchEndsBelowOver m.alphabet m
 
--- A search forwards may end so, and looked at what is read before r alone. How far it looked before it
--- gave up isn't told.
+-- A search forwards may end so, and looked at what is read before r alone. How far it looked before
+-- it gave up isn't told.
 abbrev pub HasEndedBelow : Machine → Text → ℕ → ℕ → Anchored → Bool → Bool → Ended → ℕ → Type 0
 HasEndedBelow m t hi from anchored earliest may_rest (Found None) r = SearchEndsBelow m t hi from anchored earliest (met_last None) r
 HasEndedBelow m t hi from anchored earliest may_rest (Found (Some h)) r =

@@ -22,8 +22,8 @@ abbrev pub seen_to : Alphabet → ℕ → ℕ
 seen_to bytes r = r
 seen_to symbols r = r + 3
 
--- Before r the same is read in both texts, and so is their upper bound: if it is before r, it is the
--- same in both.
+-- Before r the same is read in both texts, and so is their upper bound: if it is before r, it is
+-- the same in both.
 pub record LookSame (a : Alphabet) (r : ℕ) (t : Text) (hi : ℕ) (u : Text) (other_hi : ℕ) : Type 0 where
   pub ahead : (p : ℕ) → p < r → ReadsSame a (after_at u p) (after_at t p)
   pub behind : (p : ℕ) → p ≤ r → ReadsSame a (before_at u p) (before_at t p)
