@@ -11,6 +11,7 @@ ghost use Rattle.rc_program.specs.Places.{places_of};
 ghost use Rattle.rc_program.specs.Text.{Text};
 ghost use Rattle.rc_needles.specs.Prefilters.{needles_of};
 ghost use Rattle.rc_literals.specs.Needs.{Holds, LeavesOut};
+ghost use Rattle.rc_words.specs.Words.{AreBetween, between_in};
 ghost use Rattle.rc_program.specs.Program.{program, shown};
 ghost use Rattle.rc_build.specs.Refusals.{IsBuildable, IsRefusal, limit_by, limit_of};
 ghost use Rattle.rc_settings.specs.Thompson.{which_captures_of};
@@ -36,6 +37,8 @@ use rc_settings::meta;
 use rc_settings::meta::{Config, program_config};
 use rc_strategy::engines::{Engines, Limits};
 use rc_strategy::lengths::Lengths;
+use rc_words::words;
+use rc_words::words::Words;
 use std::alloc::{AllocError, Global};
 
 /// A builder of regexes. It has the settings of the regex, and the settings of the pattern syntax.
@@ -216,12 +219,14 @@ fn engines_of(
         (IsLazyFor (plan_by (map meaning hirs.now) (settings_of config.now)))) }
 {
     let needs = needs_of(alloc, config, hirs)?;
+    let words = words_of(alloc, config, hirs)?;
     Engines::new(
         alloc,
         engine,
         hirs.len(),
         Lengths::of(hirs),
         needs,
+        words,
         limits_of(config),
     )
 }
@@ -238,6 +243,17 @@ fn needs_of(alloc: Global, config: &Config, hirs: &[Hir]) -> Result<Option<Needs
         return Ok(None);
     }
     needs::needs_of(alloc, hirs)
+}
+
+/// The literals between two assertions, if the pattern is a list of them and searches use literals.
+fn words_of(alloc: Global, config: &Config, hirs: &[Hir]) -> Result<Option<Words>, AllocError>
+    ensures { IfOk result (λ found. IfSome found
+        (λ w. AreBetween (map meaning hirs.now) (between_in w))) }
+{
+    if !config.get_auto_prefilter() {
+        return Ok(None);
+    }
+    words::words_of(alloc, hirs)
 }
 
 /// The limits on DFAs that the settings give. Each direction of the full DFA may take a quarter of

@@ -369,6 +369,7 @@ impl Regex {
             .memory_usage()
             .saturating_add(slots)
             .saturating_add(engine.literals.memory_usage())
+            .saturating_add(self.engines.words_usage())
             .saturating_add(self.engines.memory_usage())
     }
 

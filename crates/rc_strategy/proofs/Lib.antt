@@ -19,3 +19,4 @@ pub mod LookaheadLemmas
 pub mod NearLemmas
 pub mod ReachLemmas
 pub mod PartialLemmas
+pub mod WordLemmas

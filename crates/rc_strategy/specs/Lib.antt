@@ -13,3 +13,4 @@ pub mod Lengths
 pub mod Lookahead
 pub mod Starts
 pub mod Tables
+pub mod Worded

@@ -7,6 +7,7 @@ ghost use Rattle.rc_strategy.specs.Slots.{IsOfPatterns, MayBeOnePass, NamesGroup
 ghost use Rattle.rc_strategy.specs.Lengths.{BoundsWalks};
 ghost use Rattle.rc_strategy.specs.Lookahead.{IsLookahead};
 ghost use Rattle.rc_strategy.specs.Tables.{MayBeLazyFor, MayBeTablesFor};
+ghost use Rattle.rc_strategy.specs.Worded.{AreSpelled};
 
 use crate::cache::Cache;
 use crate::lengths::Lengths;
@@ -15,6 +16,7 @@ use crate::onepass::onepass_of;
 use crate::question::{Question, half_of};
 use crate::route::{LongestLiterals, Route, anchored_route, free_route};
 use crate::tables::{are_fast, tables_of};
+use crate::words::words_beside;
 use rc_captures::captures;
 use rc_captures::captures::Captures;
 use rc_dense_dfa::dense::Dense;
@@ -28,6 +30,7 @@ use rc_program::matches::is_again;
 use rc_text::cursor::Cursor;
 use rc_text::input::{Input, advance_start};
 use rc_text::types::{HalfMatch, Match, PatternID};
+use rc_words::words::Words;
 use std::alloc::{AllocError, Global};
 
 /// Up to this many patterns, the Pike VM searches for a match together with its groups.
@@ -63,6 +66,8 @@ pub struct Engines {
     pub(crate) spans: Lengths,
     /// Literals of which each match contains one, if searches go by them.
     pub(crate) needs: Option<Needs>,
+    /// Literals between two assertions, if they decide searches.
+    pub(crate) words: Option<Words>,
     /// Whether the search for the prefix literals is fast.
     pub(crate) sought_fast: bool,
     /// How many bytes the longest literals have.
@@ -81,6 +86,8 @@ pub struct Engines {
     ghost bound: { BoundsWalks spans (places_of engine.program.places.items) },
     ghost needed: { NeedsConfine needs
         (places_of engine.program.places.items) engine.program.terminator },
+    ghost worded: { ∥ AreSpelled words
+        (places_of engine.program.places.items) engine.program.terminator ∥₁ },
     ghost measured: { AreLongest engine.literals needs longest },
     ghost looking: { IsLookahead engine.program.passes_over
         (places_of engine.program.places.items) lookahead },
@@ -115,6 +122,7 @@ impl Engines {
     ghost use Rattle.rc_strategy.specs.Lengths.{BoundsWalks};
     ghost use Rattle.rc_strategy.specs.Questions.{question_by};
     ghost use Rattle.rc_strategy.specs.Tables.{aim_of, bytes_taken};
+    ghost use Rattle.rc_strategy.specs.Worded.{AreSpelled};
 
     /// The engines of `patterns` patterns, whose program is that of `engine`. `Err` means out of
     /// memory.
@@ -124,18 +132,23 @@ impl Engines {
     /// if `hybrid` is set and `capacity` suffices. Neither is built if literals alone decide each
     /// answer. The one-pass DFA is built if there are groups and the program is one-pass, and its
     /// rows aren't large. `spans` has the lengths and anchors of the patterns' matches. `needs` has
-    /// their required literals, by which searches go unless fast prefix literals guard them.
+    /// their required literals, by which searches go unless fast prefix literals guard them. `words`
+    /// has the literals between two assertions, if the pattern is a list of them; they decide
+    /// searches if there is no DFA.
     pub fn new(
         alloc: Global,
         engine: Engine,
         patterns: usize,
         spans: Lengths,
         needs: Option<Needs>,
+        words: Option<Words>,
         limits: Limits,
     ) -> Result<Engines, AllocError>
         ghost hs: { List Re }
         requires spans { BoundsWalks spans (places_of engine.program.places.items) }
         requires needs { NeedsConfine needs
+            (places_of engine.program.places.items) engine.program.terminator }
+        requires words { AreSpelled words
             (places_of engine.program.places.items) engine.program.terminator }
         requires program { places_of engine.program.places.items ≡ program hs }
         requires patterns { patterns ≡ length hs }
@@ -153,6 +166,7 @@ impl Engines {
             → IsLazyBarred engine limits engines.tables ⊎ IsShortFor (plan_of engine hs limits)) }
     {
         let tables = tables_of(alloc, &engine, needs.is_some(), patterns, limits)?;
+        let words = words_beside(words, &tables.dense);
         let onepass = onepass_of(alloc, &engine)?;
         let sought_fast = are_fast(&engine.literals);
         let longest = LongestLiterals::new(&engine.literals, &needs);
@@ -167,6 +181,7 @@ impl Engines {
             patterns,
             spans,
             needs,
+            words,
             sought_fast,
             longest,
             lookahead,

@@ -21,3 +21,4 @@ mod starts;
 mod tables;
 mod unpassed;
 mod which;
+mod words;

@@ -249,8 +249,8 @@ impl Engines {
         find_between(halves, cache, input, aim, bounds).ok()
     }
 
-    /// Replies by the DFA, or else by the lazy DFA if the cache has its states. Returns None if
-    /// there is neither, or it has no answer.
+    /// Replies by words if these decide, else by the DFA, or else by the lazy DFA if the cache has
+    /// its states. Returns None if there is neither, or it has no answer.
     #[inline(always)]
     pub(crate) fn ask_tables<C: Cursor>(
         &self,
@@ -267,6 +267,9 @@ impl Engines {
         ensures within { IfSome result (λ found. IfSome found (IsWithinBounds input.old)) }
         ensures cache { KeepsStates self.now.lazy cache.old cache.new }
     {
+        if let Some(found) = self.ask_words(input, question) {
+            return Some(found);
+        }
         match self.table_choice(cache.is_some()) {
             TableChoice::AllStates(tables) => {
                 self.ask_by_route(tables, &mut NoCache, input, question, bounds)

@@ -10,6 +10,9 @@ use Rattle.rc_needles.specs.Prefilters.{needles_of}
 use Rattle.rc_literals.specs.Needs.{Confines, Holds, LeavesOut}
 use Rattle.rc_literals.specs.declared.guard.Needs.{Needs}
 use Rattle.rc_literals.proofs.ConfineLemmas.{need_law}
+use Rattle.rc_words.specs.Words.{AreBetween, SpellWords, between_in}
+use Rattle.rc_words.specs.declared.words.Words.{Words}
+use Rattle.rc_words.proofs.AnswerLemmas.{word_law}
 use Rattle.rc_settings.specs.Settings.{settings_of, program_settings}
 use Rattle.rc_settings.specs.Thompson.{which_captures_of}
 use Rattle.rc_settings.specs.Which.{is_grouped}
@@ -34,7 +37,12 @@ new-requires g c =
             (need_law.confines hs grouped c.args.engine.program.terminator (needles_of n.needles) n.stops.table bounded
             (subst (λ o. IfSome o (λ (k : Needs). (t : Text) → Holds t hs (needles_of k.needles))) there c.in_ok-needs.ensures.holds)
             (subst (λ o. IfSome o (λ (k : Needs). (t : Text) → LeavesOut t hs k.stops.table)) there c.in_ok-needs.ensures.leaves)),
-        (c.requires.1.0, (sym (ap length c.requires.0 ∙ length-shown grouped hs ∙ length-map c.args.hirs.now meaning), c.requires.1.1.0)),
+        (
+          λ w there. subst (λ ps. SpellWords ps c.args.engine.program.terminator (between_in w)) (sym is)
+              (word_law.spell hs grouped c.args.engine.program.terminator (between_in w) bounded
+              (subst (λ o. IfSome o (λ (k : Words). AreBetween hs (between_in k))) there c.in_ok-words.ensures)),
+          (c.requires.1.0, (sym (ap length c.requires.0 ∙ length-shown grouped hs ∙ length-map c.args.hirs.now meaning), c.requires.1.1.0)),
+        ),
       ),
     )
 

@@ -11,6 +11,7 @@ invariant_of-self-3 c =
       programmed = engines.programmed;
       bound = engines.bound;
       needed = engines.needed;
+      worded = engines.worded;
       measured = engines.measured;
       looking = engines.looking;
       free = engines.free;

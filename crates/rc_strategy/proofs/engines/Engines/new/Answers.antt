@@ -5,10 +5,13 @@ pub invariant_of-result-clause-single : goal.invariant_of-result-clause-single
 invariant_of-result-clause-single g c = c.in_ok-onepass.ensures
 
 pub invariant_of-result-clause-numbered : goal.invariant_of-result-clause-numbered
-invariant_of-result-clause-numbered g c = names_groups c.args.engine c.args.patterns g.hs c.requires.1.1.0 c.requires.1.1.1.0
+invariant_of-result-clause-numbered g c = names_groups c.args.engine c.args.patterns g.hs c.requires.1.1.1.0 c.requires.1.1.1.1.0
 
 pub invariant_of-result-clause-programmed : goal.invariant_of-result-clause-programmed
-invariant_of-result-clause-programmed g c = ∣ (g.hs, c.requires.1.1.0) ∣₁
+invariant_of-result-clause-programmed g c = ∣ (g.hs, c.requires.1.1.1.0) ∣₁
+
+pub invariant_of-result-clause-worded : goal.invariant_of-result-clause-worded
+invariant_of-result-clause-worded g c = ∣ (λ w is. c.requires.1.1.0 w (c.words_beside-words.ensures w is)) ∣₁
 
 pub returns-clause-barred : goal.returns-clause-barred
 returns-clause-barred g c = c.in_ok-tables.ensures.barred
