@@ -1,13 +1,13 @@
 //! Passed-over starts: searches from later starts on, where a run ends once it stands where an
 //! earlier one stood. Positions are in bytes of the whole content.
-ghost use Rattle.std.specs.Prelude.{◌≡◌, ◌+◌, ◌-◌, ◌≤◌, ℕ, min, max, List, None, IfOk, IfErr, IfSome, IfNone};
+ghost use Rattle.std.specs.Prelude.{◌≡◌, ◌+◌, ◌-◌, ◌≤◌, ℕ, false, min, max, List, None, IfOk, IfErr, IfSome, IfNone};
 ghost use Rattle.rc_text.specs.Plain.{is_anchored};
 ghost use Rattle.rc_text.specs.Text.{Keeps, is_boundary, low, high};
 ghost use Rattle.rc_pattern.specs.Re.{Re};
 ghost use Rattle.rc_program.specs.Kinds.{IsAnswerBy};
 ghost use Rattle.rc_program.specs.Sought.{text_of};
 ghost use Rattle.rc_dfa_search.specs.Aims.{AreHalvesOf, is_early, search_for, search_from};
-ghost use Rattle.rc_dfa_search.specs.Ends.{Asks, HasMet, IsEnd, Stands, cost_from};
+ghost use Rattle.rc_dfa_search.specs.Ends.{Asks, HasMet, IsEnd, Stands, cost_from, may_end};
 ghost use Rattle.rc_dfa_search.specs.Faults.{IsFault};
 
 use crate::search::{Aim, Bounds, End, is_early, may_end, told};
@@ -56,8 +56,31 @@ fn run_along<H: Halves, C: Cursor>(
     told(halves.run_again(cache, input, run, trail).ended)
 }
 
+/// Whether a match of the kind may end here, if none may at the position `refused`. It looks at no
+/// byte if that is the position: many starts lead to the same end, and it may be far.
+#[inline(always)]
+fn may_end_past<C: Cursor>(
+    input: &mut Input<C>,
+    aim: Aim,
+    at: usize,
+    refused: Option<usize>,
+) -> bool
+    requires refused { IfSome refused
+        (λ x. may_end aim.kind aim.passes_over input.old.content x ≡ false) }
+    ensures keeps { Keeps input.old input.new }
+    ensures value { result ≡ may_end aim.kind aim.passes_over input.old.content at }
+{
+    if let Some(end) = refused {
+        if end == at {
+            return false;
+        }
+    }
+    may_end(input, aim, at)
+}
+
 /// Returns what `seek_end` does, where all starts before `start` were passed over. Each run ends
-/// where it comes to the trail of those before. A trail is large, so this isn't inlined.
+/// where it comes to the trail of those before, and the last end that was passed over isn't looked at
+/// again. A trail is large, so this isn't inlined.
 #[inline(never)]
 pub(crate) fn seek_later<H: Halves, C: Cursor>(
     halves: &H,
@@ -100,12 +123,13 @@ pub(crate) fn seek_later<H: Halves, C: Cursor>(
     let high = bounds.high;
     let mut from = start;
     let mut trail = Trail::new(0);
+    let mut refused = None;
     'starts: loop {
         let left = Bounds { low: from, high };
         let Some(met) = run_along(halves, cache, input, aim, left, &mut trail)? else {
             return Ok(None);
         };
-        if may_end(input, aim, met.at) {
+        if may_end_past(input, aim, met.at, refused) {
             return Ok(Some(End {
                 from,
                 pattern: met.pattern,
@@ -115,6 +139,7 @@ pub(crate) fn seek_later<H: Halves, C: Cursor>(
         if anchored || from >= high {
             return Ok(None);
         }
+        refused = Some(met.at);
         from += 1;
     }
 }

@@ -32,6 +32,7 @@ starts-init g c = record {
       ((c.args.start - c.args.start) * (high c.args.input.now - low c.args.input.now + 2));
   trail = g.met.H.Halves.bare_trail c.args.halves.now c.args.cache.now c.args.input.now c.args.bounds.high (is_early c.args.aim) c.new-trail.result
       (record { era = c.new-trail.ensures.era; empty = c.new-trail.ensures.empty });
+  refused = tt;
 }
 
 pub returns-in_err-met-clause-fault : goal.returns-in_err-met-clause-fault
@@ -56,8 +57,8 @@ returns-in_err-met-clause-spends g c = spent g (goal.at.returns-in_err-met-claus
 pub returns-in_default-clause-spends : goal.returns-in_default-clause-spends
 returns-in_default-clause-spends g c = spent g (goal.at.returns-in_default-clause-spends g c).After-run_along
 
-pub returns-then-may_end-clause-spends : goal.returns-then-may_end-clause-spends
-returns-then-may_end-clause-spends g c = spent g (goal.at.returns-then-may_end-clause-spends g c).After-run_along
+pub returns-then-may_end_past-clause-spends : goal.returns-then-may_end_past-clause-spends
+returns-then-may_end_past-clause-spends g c = spent g (goal.at.returns-then-may_end_past-clause-spends g c).After-run_along
 
 pub returns-then-anchored-clause-spends : goal.returns-then-anchored-clause-spends
 returns-then-anchored-clause-spends g c = spent g (goal.at.returns-then-anchored-clause-spends g c).After-run_along
@@ -67,13 +68,13 @@ returns-in_default-clause-none g c hs terminator of =
     run_none (g.H.Halves.AreOf c.args.halves.now) c.args.aim hs terminator of c.args.input.now c.starts.input c.starts.invariant.keeps c.args.bounds.low c.starts.from
     (c.starts.invariant.stands hs terminator of) c.in_ok-met.field-0 (c.in_ok-met.ensures.met hs terminator of) c.in_default.is
 
-pub returns-then-may_end-clause-some : goal.returns-then-may_end-clause-some
-returns-then-may_end-clause-some g c hs terminator of =
+pub returns-then-may_end_past-clause-some : goal.returns-then-may_end_past-clause-some
+returns-then-may_end_past-clause-some g c hs terminator of =
     let i = c.starts.invariant in
     let content = c.in_ok-met.ensures.keeps.content ∙ i.keeps.content in
     run_end (g.H.Halves.AreOf c.args.halves.now) c.args.aim hs terminator of c.args.input.now c.starts.input i.keeps c.args.bounds.low c.starts.from
     (i.stands hs terminator of) c.in_ok-met.field-0 (c.in_ok-met.ensures.met hs terminator of) c.in-Some.met c.min.result c.in-Some.is
-    (ap (λ bytes. may_end c.args.aim.kind c.args.aim.passes_over bytes c.in-Some.met.at) (sym content) ∙ sym c.may_end.ensures.value ∙ c.if-may_end.true)
+    (ap (λ bytes. may_end c.args.aim.kind c.args.aim.passes_over bytes c.in-Some.met.at) (sym content) ∙ sym c.may_end_past.ensures.value ∙ c.if-may_end_past.true)
     (c.min.ensures ∙ ap (λ x. min x c.args.bounds.high) c.max.ensures ∙ ap (λ x. min (max c.in-Some.met.at c.starts.from) x) i.below.0)
 
 pub returns-then-anchored-clause-none : goal.returns-then-anchored-clause-none
@@ -82,7 +83,7 @@ returns-then-anchored-clause-none g c hs terminator of =
     let content = c.in_ok-met.ensures.keeps.content ∙ i.keeps.content in
     let r = run_raised (g.H.Halves.AreOf c.args.halves.now) c.args.aim hs terminator of c.args.input.now c.starts.input i.keeps c.args.bounds.low c.starts.from
     (i.stands hs terminator of) c.in_ok-met.field-0 (c.in_ok-met.ensures.met hs terminator of) c.in-Some.met c.in-Some.is
-    (ap (λ bytes. may_end c.args.aim.kind c.args.aim.passes_over bytes c.in-Some.met.at) (sym content) ∙ sym c.may_end.ensures.value ∙ c.if-may_end.false) in
+    (ap (λ bytes. may_end c.args.aim.kind c.args.aim.passes_over bytes c.in-Some.met.at) (sym content) ∙ sym c.may_end_past.ensures.value ∙ c.if-may_end_past.false) in
     let so = sym (c.is_anchored-anchored.ensures ∙ ap anchors c.get_anchored.ensures) in
     r.1 (⊎_elim (λ is. inl (so ∙ is)) (λ e. inr (omega (arith, e.1, i.below))) c.then-anchored.either)
 
@@ -93,13 +94,13 @@ starts-preserved g c =
     let content = c.in_ok-met.ensures.keeps.content ∙ i.keeps.content in
     record {
       cache = c.in_ok-met.ensures.cache;
-      keeps = kept_then s c.run_along.new.input c.may_end.new.input (kept_then s c.starts.input c.run_along.new.input i.keeps c.in_ok-met.ensures.keeps) c.may_end.ensures.keeps;
+      keeps = kept_then s c.run_along.new.input c.may_end_past.new.input (kept_then s c.starts.input c.run_along.new.input i.keeps c.in_ok-met.ensures.keeps) c.may_end_past.ensures.keeps;
       above = (i.above.0, i.above.1, omega (arith, i.above.2));
       below = (i.below.0, omega (arith, c.if-from-high.false));
       stands = λ hs terminator of.
           let r = run_raised (g.H.Halves.AreOf c.args.halves.now) c.args.aim hs terminator of s c.starts.input i.keeps c.args.bounds.low c.starts.from
           (i.stands hs terminator of) c.in_ok-met.field-0 (c.in_ok-met.ensures.met hs terminator of) c.in-Some.met c.in-Some.is
-          (ap (λ bytes. may_end c.args.aim.kind c.args.aim.passes_over bytes c.in-Some.met.at) (sym content) ∙ sym c.may_end.ensures.value ∙ c.if-may_end.false) in
+          (ap (λ bytes. may_end c.args.aim.kind c.args.aim.passes_over bytes c.in-Some.met.at) (sym content) ∙ sym c.may_end_past.ensures.value ∙ c.if-may_end_past.false) in
           let so = sym (c.is_anchored-anchored.ensures ∙ ap anchors c.get_anchored.ensures) in
           r.0 (omega (arith, c.if-from-high.false, i.below)) (so ∙ c.if-anchored.false);
       spends = g.met.H.Halves.spends_within c.args.halves.now c.args.cache.now c.run_along.new.cache
@@ -107,6 +108,8 @@ starts-preserved g c =
           (next_later s c.starts.input c.args.start c.starts.from i.keeps (omega (arith, i.above.0, i.above.1)) (omega (arith, i.above.2)) (omega (arith, i.below)))
           (g.met.H.Halves.spends_both c.args.halves.now c.args.cache.now c.starts.cache c.run_along.new.cache
           ((c.starts.from - c.args.start) * (high s - low s + 2)) (high c.starts.input - c.starts.from + 2) i.spends c.in_ok-met.ensures.spends);
-      trail = g.met.H.Halves.trail_kept c.args.halves.now c.run_along.new.cache c.run_along.new.input c.may_end.new.input c.args.bounds.high (is_early c.args.aim)
-          c.run_along.new.trail c.may_end.ensures.keeps c.in_ok-met.ensures.trail;
+      trail = g.met.H.Halves.trail_kept c.args.halves.now c.run_along.new.cache c.run_along.new.input c.may_end_past.new.input c.args.bounds.high (is_early c.args.aim)
+          c.run_along.new.trail c.may_end_past.ensures.keeps c.in_ok-met.ensures.trail;
+      refused = ap (λ bytes. may_end c.args.aim.kind c.args.aim.passes_over bytes c.in-Some.met.at) (sym content) ∙ sym c.may_end_past.ensures.value
+          ∙ c.if-may_end_past.false;
     }

@@ -1,8 +1,8 @@
-use Rattle.std.proofs.Common.{◌≡◌, ◌≤◌, ◌-◌, ◌+◌, ◌*◌, ℕ, List}
+use Rattle.std.proofs.Common.{◌≡◌, ◌≤◌, ◌-◌, ◌+◌, ◌*◌, ℕ, List, IfSome, false}
 use Rattle.rc_text.specs.Text.{Keeps, low, high}
 use Rattle.rc_pattern.specs.Re.{Re}
 use Rattle.rc_dfa_search.specs.Aims.{AreHalvesOf, is_early, search_from}
-use Rattle.rc_dfa_search.specs.Ends.{Stands}
+use Rattle.rc_dfa_search.specs.Ends.{Stands, may_end}
 use Rattle.rc_dfa_search.proofs.passed.seek_later.Given as goal
 
 abbrev pub invariant-starts : goal.invariant-starts
@@ -15,6 +15,7 @@ invariant-starts g l = record {
       Stands hs l.aim.kind (is_early l.aim) of.ahead of.back l.fn.input.anchored (search_from l.aim hs terminator l.fn.input l.fn.bounds.low) l.from;
   spends : g.H.Halves.Spends l.halves l.fn.cache l.cache ((l.from - l.fn.start) * (high l.fn.input - low l.fn.input + 2));
   trail : g.H.Halves.IsTrail l.halves l.cache l.input l.high (is_early l.aim) l.trail;
+  refused : IfSome l.refused (λ x. may_end l.aim.kind l.aim.passes_over l.fn.input.content x ≡ false);
 }
 
 abbrev pub decreases-starts : goal.decreases-starts
