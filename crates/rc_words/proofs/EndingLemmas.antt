@@ -1,5 +1,5 @@
 -- Where words end, by the trie of their literals.
-use Rattle.std.proofs.Common.{◌≡◌, ℕ, suc, ◌+◌, ◌-◌, ◌<◌, ◌≤◌, List, length, take, drop, true, IsTrue, Some, None, sym, ap, subst, ◌∙◌, refl, arith, inl, inr, slice_get, slice_index}
+use Rattle.std.proofs.Common.{◌≡◌, ℕ, ◌+◌, ◌-◌, ◌<◌, ◌≤◌, List, length, take, drop, true, IsTrue, Some, None, sym, ap, subst, ◌∙◌, arith, inl, inr, slice_get}
 use Rattle.std.proofs.lemmas.Bool.{cases_lt}
 use Rattle.std.proofs.lemmas.List.{take_all, take-take}
 use Rattle.rc_program.specs.Text.{Text, holds}
@@ -14,7 +14,7 @@ use Rattle.rc_needles.proofs.TrieLemmas.{read_behind, walk_more}
 use Rattle.rc_words.specs.Words.{Between, HasNoWord, IsEnded, IsOnlyWord, IsWord}
 use Rattle.rc_words.specs.Endings.{MayEndAt}
 use Rattle.rc_words.specs.declared.search.Ending.{Ending}
-use Rattle.rc_words.specs.declared.search.Ending.TheVariants.{Nowhere, Once, Several}
+use Rattle.rc_words.specs.declared.search.Ending.TheVariants.{Nowhere, Once}
 
 -- the first bytes of a literal that stands are those of the content from there on
 first_bytes : (content needle : List ℕ) (hi i d : ℕ) → StandsWithin content hi needle i → d ≤ length needle →

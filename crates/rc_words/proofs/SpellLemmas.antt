@@ -1,15 +1,13 @@
 -- What a pattern of literals between two assertions spells.
-use Rattle.std.proofs.Common.{◌≡◌, ◌↔◌, ℕ, zero, suc, ◌+◌, ◌≤◌, List, [], ◌∷◌, length, Bool, IsTrue, Some, All, sym, ap, subst, ◌∙◌, refl, arith, inl, inr, ⊎_elim, slice_get}
+use Rattle.std.proofs.Common.{◌≡◌, ◌↔◌, ℕ, zero, suc, ◌+◌, ◌≤◌, List, [], ◌∷◌, length, Bool, IsTrue, Some, All, sym, subst, ◌∙◌, refl, arith, inl, inr, slice_get}
 use Rattle.std.proofs.lemmas.Option.{none-some, same_Some}
-use Rattle.rc_text.specs.Found.{Found}
-use Rattle.rc_text.specs.Text.{Searched, high}
+use Rattle.rc_text.specs.Text.{high}
 use Rattle.rc_pattern.specs.Re.{Re, empty, literal, byte_in, char_in, look, repeat, capture, cat, alt, none}
 use Rattle.rc_pattern.specs.WellFormed.{HasBounds}
 use Rattle.rc_program.specs.Text.{Text, holds}
 use Rattle.rc_program.specs.Spells.{Stands, Spells, SpelledBy}
 use Rattle.rc_program.specs.Program.{program, shown}
-use Rattle.rc_program.specs.Answer.{Search, IsStart}
-use Rattle.rc_program.specs.Greatest.{IsSpelledIn, AllowsPattern}
+use Rattle.rc_program.specs.Answer.{Search}
 use Rattle.rc_program.specs.Sought.{search_over, text_of}
 use Rattle.rc_program.proofs.GroupLemmas.{group_law}
 use Rattle.rc_program.proofs.GreatestLemmas.{greatest_law}
@@ -17,7 +15,7 @@ use Rattle.rc_needles.proofs.RelationLemmas.{range_of}
 use Rattle.rc_literals.specs.Literals.{literals_of}
 use Rattle.rc_literals.proofs.WayLemmas.{alternation}
 use Rattle.rc_literals.proofs.ExactLemmas.{IsList, one, many, literals_are}
-use Rattle.rc_words.specs.Words.{AreBetween, Between, IsEnded, IsWord, SpellWords, ungrouped}
+use Rattle.rc_words.specs.Words.{AreBetween, Between, IsWord, SpellWords, ungrouped}
 
 -- One of the literals stands from i to j.
 record IsOneOf (content : List ℕ) (ws : List (List ℕ)) (i j : ℕ) : Type 0 where

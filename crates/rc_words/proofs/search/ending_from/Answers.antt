@@ -1,4 +1,4 @@
-use Rattle.std.proofs.Common.{◌≡◌, ◌∙◌, ◌+◌, ◌<◌, ◌≤◌, true, false, true≢false, length, Some, ap, arith, subst, sym, slice_get}
+use Rattle.std.proofs.Common.{◌≡◌, ◌∙◌, ◌+◌, ◌<◌, true, false, true≢false, length, Some, ap, arith, subst, sym, slice_get}
 use Rattle.rc_text.specs.Text.{Keeps}
 use Rattle.rc_program.specs.Sought.{text_of}
 use Rattle.rc_program.specs.Text.{Text, holds}

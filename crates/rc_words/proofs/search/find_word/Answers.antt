@@ -1,11 +1,11 @@
-use Rattle.std.proofs.Common.{◌≡◌, ◌∙◌, ◌≤◌, ℕ, true, false, true≢false, IsTrue, Some, None, ap, ap₂, arith, subst, sym}
-use Rattle.rc_text.specs.Text.{Keeps, high, low}
+use Rattle.std.proofs.Common.{◌≡◌, ◌∙◌, ℕ, true≢false, IsTrue, Some, None, ap, arith, subst, sym}
+use Rattle.rc_text.specs.Text.{Keeps, low}
 use Rattle.rc_program.specs.Sought.{text_of}
 use Rattle.rc_program.specs.Text.{Text, holds}
 use Rattle.rc_needles.specs.Needles.{find_needle}
 use Rattle.rc_needles.proofs.FindLemmas.{keeps_on}
 use Rattle.rc_words.specs.Endings.{EndsWhere, MayEndAt}
-use Rattle.rc_words.specs.Words.{HasNoWord, IsEnded, IsOnlyWord, IsWord, between_in}
+use Rattle.rc_words.specs.Words.{HasNoWord, IsEnded, IsOnlyWord, between_in}
 use Rattle.rc_words.proofs.EndingLemmas.{none_left, none_there, one_there}
 use Rattle.rc_words.proofs.LookLemmas.{same_text}
 use Rattle.rc_words.proofs.search.find_word.Goals.{then-holds_at+in-Nowhere, else-holds_at}
