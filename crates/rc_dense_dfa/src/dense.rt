@@ -11,7 +11,7 @@ use crate::table::Table;
 use rc_dfa::automaton::{Automaton, Direction};
 use rc_dfa::ended::{Ended, Reading};
 use rc_dfa::halves::{Halves, Run};
-use rc_dfa::trail::Trail;
+use rc_dfa::memo::Memo;
 use rc_table_search::again::search_again;
 use rc_table_search::run::Extent;
 use rc_table_search::search::{Request, search};
@@ -101,8 +101,8 @@ impl Dense {
 
 impl Halves for Dense {
     ghost use Rattle.std.specs.Prelude.{false};
-    ghost use Rattle.rc_table_search.specs.TrailLaws.{bare_trail, trail_kept};
-    ghost use Rattle.rc_table_search.specs.Trails.{IsTrail};
+    ghost use Rattle.rc_table_search.specs.MemoLaws.{bare_memo, memo_kept};
+    ghost use Rattle.rc_table_search.specs.Memos.{IsMemo};
     ghost use Rattle.rc_dense_dfa.specs.Searches.{view_of};
 
     type Cache = NoCache;
@@ -115,7 +115,7 @@ impl Halves for Dense {
 
     ghost GivesUp = { λ d a b n memory. ⊥ };
 
-    ghost IsTrail = { λ d c. IsTrail (view_of d false) c };
+    ghost IsMemo = { λ d c. IsMemo (view_of d false) c };
 
     #[inline(always)]
     fn run_forwards<C: Cursor>(
@@ -143,7 +143,7 @@ impl Halves for Dense {
         cache: &mut NoCache,
         input: &mut Input<C>,
         run: Run,
-        trail: &mut Trail,
+        memo: &mut Memo,
     ) -> Reading {
         let extent = Extent {
             earliest: run.earliest,
@@ -156,7 +156,7 @@ impl Halves for Dense {
             end: run.high,
             extent,
         };
-        search_again::<Dense, C>(self, cache, input, &request, trail)
+        search_again::<Dense, C>(self, cache, input, &request, memo)
     }
 
     #[inline(always)]
@@ -189,7 +189,7 @@ impl Halves for Dense {
 
     ghost spends_within = { λ h a b n k x y. tt };
 
-    ghost bare_trail = { λ d c. bare_trail (view_of d false) c };
+    ghost bare_memo = { λ d c. bare_memo (view_of d false) c };
 
-    ghost trail_kept = { λ d c. trail_kept (view_of d false) c };
+    ghost memo_kept = { λ d c. memo_kept (view_of d false) c };
 }

@@ -21,4 +21,4 @@ pub mod NumberLemmas
 pub mod ListLemmas
 pub mod SideLemmas
 pub mod ReadLemmas
-mod TrailLemmas
+mod MemoLemmas

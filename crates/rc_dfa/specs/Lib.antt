@@ -9,4 +9,4 @@ pub mod Laws
 pub mod Ended
 pub mod Keys
 pub mod Reads
-pub mod Trails
+pub mod Memos

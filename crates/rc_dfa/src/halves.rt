@@ -5,11 +5,11 @@ ghost use Rattle.rc_program.specs.Sought.{text_of};
 ghost use Rattle.rc_dfa.specs.Machine.{Machine, IsAsked};
 ghost use Rattle.rc_dfa.specs.Ended.{HasEndedDown, gave_up};
 ghost use Rattle.rc_dfa.specs.Reads.{HasEndedBelow};
-ghost use Rattle.rc_dfa.specs.Trails.{Has, IsBare};
-ghost use Rattle.rc_dfa.specs.declared.trail.Trail as trails;
+ghost use Rattle.rc_dfa.specs.Memos.{Has, IsBare};
+ghost use Rattle.rc_dfa.specs.declared.memo.Memo as memos;
 
 use crate::ended::{Ended, Reading};
-use crate::trail::Trail;
+use crate::memo::Memo;
 use rc_text::cursor::Cursor;
 use rc_text::input::Input;
 use rc_text::types::Anchored;
@@ -42,9 +42,9 @@ pub trait Halves {
     // A search that found the first cache and left the second added at most this many states, and
     // may have given up, out of memory or not.
     ghost GivesUp: { Self → Self.Cache → Self.Cache → ℕ → Bool → Type 0 };
-    // By this cache, what the trail says is true of runs over the text up to the bound, which end at
+    // By this cache, what the memo says is true of runs over the text up to the bound, which end at
     // their first find or not.
-    ghost IsTrail: { Self → Self.Cache → Searched → ℕ → Bool → trails.Trail → Type 0 };
+    ghost IsMemo: { Self → Self.Cache → Searched → ℕ → Bool → memos.Memo → Type 0 };
 
     /// Runs forwards, up to the end of the input's bounds. If it is to return what it finds first, it
     /// reads nothing beyond that. If there is a `rest_from`, the run may also return at a position
@@ -70,20 +70,20 @@ pub trait Halves {
         ensures gives_up { (memory : Bool) → gave_up result.ended ≡ Some memory
             → GivesUp self.now cache.old cache.new (high input.old - run.low + 2) memory };
 
-    /// Runs forwards as `run_forwards` does, and never rests. If it comes to a mark of the trail, it
+    /// Runs forwards as `run_forwards` does, and never rests. If it comes to a mark of the memo, it
     /// ends as the run did that left it. It leaves marks of its own.
     fn run_again<C: Cursor>(
         &self,
         cache: &mut Self::Cache,
         input: &mut Input<C>,
         run: Run,
-        trail: &mut Trail,
+        memo: &mut Memo,
     ) -> Reading
         requires cache { IsCache self.now cache.old }
         requires low { low input.old ≤ run.low }
         requires ordered { run.low ≤ run.high }
         requires high { run.high ≡ high input.old }
-        requires trail { IsTrail self.now cache.old input.old run.high run.earliest trail.old }
+        requires memo { IsMemo self.now cache.old input.old run.high run.earliest memo.old }
         ensures cache { IsCache self.now cache.new }
         ensures keeps { Keeps input.old input.new }
         ensures ended { (m n : Machine) → AreOf self.now m n → IsAsked m run.anchored
@@ -92,7 +92,7 @@ pub trait Halves {
         ensures spends { Spends self.now cache.old cache.new (high input.old - run.low + 2) }
         ensures gives_up { (memory : Bool) → gave_up result.ended ≡ Some memory
             → GivesUp self.now cache.old cache.new (high input.old - run.low + 2) memory }
-        ensures trail { IsTrail self.now cache.new input.new run.high run.earliest trail.new };
+        ensures memo { IsMemo self.now cache.new input.new run.high run.earliest memo.new };
 
     /// Runs backwards. What it finds last is what it finds at the least position.
     fn run_backwards<C: Cursor>(
@@ -128,10 +128,10 @@ pub trait Halves {
     ghost spends_within: { (h : Self) (a b : Self.Cache) (n k : ℕ) → n ≤ k → Spends h a b n
         → Spends h a b k };
 
-    ghost bare_trail: { (h : Self) (c : Self.Cache) (s : Searched) (bound : ℕ) (early : Bool)
-        (t : trails.Trail) → IsBare t → IsTrail h c s bound early t };
+    ghost bare_memo: { (h : Self) (c : Self.Cache) (s : Searched) (bound : ℕ) (early : Bool)
+        (t : memos.Memo) → IsBare t → IsMemo h c s bound early t };
 
-    ghost trail_kept: { (h : Self) (c : Self.Cache) (s b : Searched) (bound : ℕ) (early : Bool)
-        (t : trails.Trail) → Keeps s b → IsTrail h c s bound early t
-        → IsTrail h c b bound early t };
+    ghost memo_kept: { (h : Self) (c : Self.Cache) (s b : Searched) (bound : ℕ) (early : Bool)
+        (t : memos.Memo) → Keeps s b → IsMemo h c s bound early t
+        → IsMemo h c b bound early t };
 }

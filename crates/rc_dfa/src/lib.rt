@@ -7,7 +7,7 @@ pub mod ended;
 pub mod halves;
 pub mod laws;
 mod matches;
+pub mod memo;
 mod samples;
 pub mod sides;
 pub mod states;
-pub mod trail;

@@ -13,12 +13,12 @@ ghost use Rattle.rc_dfa_search.specs.Faults.{IsFault};
 use crate::search::{Aim, Bounds, End, is_early, may_end, told};
 use rc_dfa::ended::Met;
 use rc_dfa::halves::{Halves, Run};
-use rc_dfa::trail::Trail;
+use rc_dfa::memo::Memo;
 use rc_text::cursor::Cursor;
 use rc_text::input::Input;
 use rc_text::types::MatchError;
 
-/// Runs forwards from the lower bound, along the trail, and returns what it found.
+/// Runs forwards from the lower bound, with the memo of earlier runs, and returns what it found.
 #[inline(always)]
 fn run_along<H: Halves, C: Cursor>(
     halves: &H,
@@ -26,14 +26,14 @@ fn run_along<H: Halves, C: Cursor>(
     input: &mut Input<C>,
     aim: Aim,
     bounds: Bounds,
-    trail: &mut Trail,
+    memo: &mut Memo,
 ) -> Result<Option<Met>, MatchError>
     requires cache { H.IsCache halves.now cache.old }
     requires low { low input.old ≤ bounds.low }
     requires ordered { bounds.low ≤ bounds.high }
     requires high { bounds.high ≡ high input.old }
     requires asked { Asks aim.patterns input.old.anchored }
-    requires trail { H.IsTrail halves.now cache.old input.old bounds.high (is_early aim) trail.old }
+    requires memo { H.IsMemo halves.now cache.old input.old bounds.high (is_early aim) memo.old }
     ensures cache { H.IsCache halves.now cache.new }
     ensures keeps { Keeps input.old input.new }
     ensures met { (hs : List Re) (terminator : ℕ)
@@ -45,7 +45,7 @@ fn run_along<H: Halves, C: Cursor>(
         → IfErr result (IsFault hs (search_for aim hs terminator input.old)
         (H.GivesUp halves.now cache.old cache.new (high input.old - bounds.low + 2))) }
     ensures spends { H.Spends halves.now cache.old cache.new (high input.old - bounds.low + 2) }
-    ensures trail { H.IsTrail halves.now cache.new input.new bounds.high (is_early aim) trail.new }
+    ensures memo { H.IsMemo halves.now cache.new input.new bounds.high (is_early aim) memo.new }
 {
     let run = Run {
         anchored: input.get_anchored(),
@@ -53,7 +53,7 @@ fn run_along<H: Halves, C: Cursor>(
         high: bounds.high,
         earliest: is_early(aim),
     };
-    told(halves.run_again(cache, input, run, trail).ended)
+    told(halves.run_again(cache, input, run, memo).ended)
 }
 
 /// Whether a match of the kind may end here, if none may at the position `refused`. It looks at no
@@ -79,8 +79,8 @@ fn may_end_past<C: Cursor>(
 }
 
 /// Returns what `seek_end` does, where all starts before `start` were passed over. Each run ends
-/// where it comes to the trail of those before, and the last end that was passed over isn't looked at
-/// again. A trail is large, so this isn't inlined.
+/// where it meets a mark of those before, and the last end that was passed over isn't looked at
+/// again. A memo is large, so this isn't inlined.
 #[inline(never)]
 pub(crate) fn seek_later<H: Halves, C: Cursor>(
     halves: &H,
@@ -122,11 +122,11 @@ pub(crate) fn seek_later<H: Halves, C: Cursor>(
     let anchored = input.get_anchored().is_anchored();
     let high = bounds.high;
     let mut from = start;
-    let mut trail = Trail::new(0);
+    let mut memo = Memo::new(0);
     let mut refused = None;
     'starts: loop {
         let left = Bounds { low: from, high };
-        let Some(met) = run_along(halves, cache, input, aim, left, &mut trail)? else {
+        let Some(met) = run_along(halves, cache, input, aim, left, &mut memo)? else {
             return Ok(None);
         };
         if may_end_past(input, aim, met.at, refused) {

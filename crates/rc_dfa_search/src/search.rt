@@ -25,7 +25,7 @@ use rc_text::cursor::Cursor;
 use rc_text::input::{Input, high, is_boundary_at, low};
 use rc_text::types::{Anchored, HalfMatch, Match, MatchError, MatchKind, PatternID, Span};
 
-/// So many starts are passed over before trails of runs are kept.
+/// So many starts are passed over before memos of runs are kept.
 const FEW_STARTS: usize = 16;
 
 /// The aim of a search.
@@ -200,7 +200,7 @@ pub(crate) fn may_end<C: Cursor>(input: &mut Input<C>, aim: Aim, at: usize) -> b
 }
 
 /// Returns the end of the match from the lower bound on: a run from there finds it, or, if matches
-/// are passed over, a run from a later start. Once a few were passed over, trails of such runs are
+/// are passed over, a run from a later start. Once a few were passed over, memos of such runs are
 /// kept.
 #[inline(always)]
 fn seek_end<H: Halves, C: Cursor>(

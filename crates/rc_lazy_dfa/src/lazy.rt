@@ -11,7 +11,7 @@ use crate::which::Ends;
 use rc_dfa::automaton::{Automaton, Direction};
 use rc_dfa::ended::{Ended, Reading};
 use rc_dfa::halves::{Halves, Run};
-use rc_dfa::trail::Trail;
+use rc_dfa::memo::Memo;
 use rc_pattern_set::sets::PatternSet;
 use rc_table_search::again::search_again;
 use rc_table_search::run::Extent;
@@ -222,8 +222,8 @@ impl Cache {
 impl Halves for Lazy {
     ghost use Rattle.rc_lazy_dfa.specs.Caches.{AreHalves, IsCacheOf, MayGiveUpEither, SpendsBoth};
     ghost use Rattle.std.specs.Prelude.{false};
-    ghost use Rattle.rc_table_search.specs.TrailLaws.{bare_trail, trail_kept};
-    ghost use Rattle.rc_table_search.specs.Trails.{IsTrail};
+    ghost use Rattle.rc_table_search.specs.MemoLaws.{bare_memo, memo_kept};
+    ghost use Rattle.rc_table_search.specs.Memos.{IsMemo};
     ghost use Rattle.rc_lazy_dfa.specs.Courses.{view_of};
     ghost use Rattle.rc_lazy_dfa.specs.CacheLaws.{nothing_spent, both_spent, given_up_later, given_up_within, spent_within};
 
@@ -237,7 +237,7 @@ impl Halves for Lazy {
 
     ghost GivesUp = { MayGiveUpEither };
 
-    ghost IsTrail = { λ l c. IsTrail (view_of l false) c.forward };
+    ghost IsMemo = { λ l c. IsMemo (view_of l false) c.forward };
 
     #[inline(always)]
     fn run_forwards<C: Cursor>(
@@ -265,7 +265,7 @@ impl Halves for Lazy {
         cache: &mut Cache,
         input: &mut Input<C>,
         run: Run,
-        trail: &mut Trail,
+        memo: &mut Memo,
     ) -> Reading {
         let extent = Extent {
             earliest: run.earliest,
@@ -278,7 +278,7 @@ impl Halves for Lazy {
             end: run.high,
             extent,
         };
-        search_again::<Lazy, C>(self, &mut cache.forward, input, &request, trail)
+        search_again::<Lazy, C>(self, &mut cache.forward, input, &request, memo)
     }
 
     #[inline(always)]
@@ -306,7 +306,7 @@ impl Halves for Lazy {
 
     ghost spends_within = { spent_within };
 
-    ghost bare_trail = { λ l c. bare_trail (view_of l false) c.forward };
+    ghost bare_memo = { λ l c. bare_memo (view_of l false) c.forward };
 
-    ghost trail_kept = { λ l c. trail_kept (view_of l false) c.forward };
+    ghost memo_kept = { λ l c. memo_kept (view_of l false) c.forward };
 }

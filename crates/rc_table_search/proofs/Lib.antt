@@ -2,4 +2,4 @@ pub mod RunLemmas
 pub mod WayLemmas
 pub mod SpanLemmas
 mod SearchLemmas
-mod TrailLemmas
+mod MemoLemmas

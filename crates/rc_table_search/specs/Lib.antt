@@ -3,5 +3,5 @@ pub mod Ways
 pub mod Views
 pub mod Refusals
 pub mod Searches
-pub mod Trails
-pub mod TrailLaws
+pub mod Memos
+pub mod MemoLaws

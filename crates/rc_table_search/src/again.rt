@@ -6,7 +6,7 @@ ghost use Rattle.rc_dfa.specs.declared.ended.Ended.TheVariants as ends;
 ghost use Rattle.rc_table_search.specs.declared.run.Stand as stands;
 ghost use Rattle.rc_table_search.specs.declared.search.Progress.TheVariants as progress;
 ghost use Rattle.rc_table_search.specs.Searches.{HasRun, IsAt, IsLeg, IsOver, Origin, Outset};
-ghost use Rattle.rc_table_search.specs.Trails.{IsMark, IsTrail, Joins};
+ghost use Rattle.rc_table_search.specs.Memos.{IsMark, IsMemo, Joins};
 
 use crate::run::Stand;
 use crate::search::{Progress, Request, begin, cross, finish, told};
@@ -14,30 +14,30 @@ use crate::sides::byte_beside;
 use crate::transitions::Transitions;
 use crate::way::Forwards;
 use rc_dfa::ended::{Ended, Reading};
-use rc_dfa::trail::{Mark, Trail, next_mark};
+use rc_dfa::memo::{Mark, Memo, next_mark};
 use rc_text::cursor::Cursor;
 use rc_text::input::{Input, content_fits};
 
-/// Whether the rows of the trail's marks are still those of their states.
+/// Whether the rows of the memo's marks are still those of their states.
 #[inline(always)]
-fn is_current<T: Transitions>(table: &T, cache: &T::Cache, trail: &Trail) -> bool
-    ensures { IsTrue result → ((T.view table.now false).era cache.now ≡ trail.now.era)
-        × (trail.now.era < usize.MAX) }
+fn is_current<T: Transitions>(table: &T, cache: &T::Cache, memo: &Memo) -> bool
+    ensures { IsTrue result → ((T.view table.now false).era cache.now ≡ memo.now.era)
+        × (memo.now.era < usize.MAX) }
 {
     let era = table.era::<Forwards>(cache);
-    era == trail.era && era < usize::MAX
+    era == memo.era && era < usize::MAX
 }
 
 /// Drops all marks if the rows are those of other states by now.
-fn renew<T: Transitions>(table: &T, cache: &T::Cache, trail: &mut Trail)
+fn renew<T: Transitions>(table: &T, cache: &T::Cache, memo: &mut Memo)
     ensures { (seen : Searched) (bound : ℕ) (early : Bool)
-        → IsTrail (T.view table.now false) cache.now seen bound early trail.old
-        → IsTrail (T.view table.now false) cache.now seen bound early trail.new }
+        → IsMemo (T.view table.now false) cache.now seen bound early memo.old
+        → IsMemo (T.view table.now false) cache.now seen bound early memo.new }
 {
-    if is_current(table, cache, trail) {
+    if is_current(table, cache, memo) {
         return;
     }
-    *trail = Trail::new(table.era::<Forwards>(cache));
+    *memo = Memo::new(table.era::<Forwards>(cache));
 }
 
 /// Returns the mark of the position and the row, if there is one.
@@ -45,50 +45,50 @@ fn renew<T: Transitions>(table: &T, cache: &T::Cache, trail: &mut Trail)
 fn recall<T: Transitions>(
     table: &T,
     cache: &T::Cache,
-    trail: &Trail,
+    memo: &Memo,
     at: usize,
     row: usize,
 ) -> Option<Mark>
     ensures { IfSome result (λ k. (k.at ≡ at) × (k.row ≡ row)
         × ((seen : Searched) (bound : ℕ) (early : Bool)
-        → IsTrail (T.view table.now false) cache.now seen bound early trail.now
+        → IsMemo (T.view table.now false) cache.now seen bound early memo.now
         → IsMark (T.view table.now false) cache.now seen bound early k)) }
 {
-    if !is_current(table, cache, trail) {
+    if !is_current(table, cache, memo) {
         return None;
     }
-    trail.find(at, row)
+    memo.find(at, row)
 }
 
 /// Leaves a mark where a run stood in the row, with how it ended. `known` says whether the row was
-/// of the trail's era then.
+/// of the memo's era then.
 #[inline(always)]
 fn leave<T: Transitions>(
     table: &T,
     cache: &T::Cache,
-    trail: &mut Trail,
+    memo: &mut Memo,
     known: bool,
     at: usize,
     row: usize,
     rest: Reading,
 )
-    ensures era { trail.new.era ≡ trail.old.era }
-    ensures trail { (seen : Searched) (bound : ℕ) (early : Bool)
-        → IsTrail (T.view table.now false) cache.now seen bound early trail.old
-        → (known ≡ true → (T.view table.now false).era cache.now ≡ trail.old.era
-        → trail.old.era < usize.MAX → (k : Mark) → (k.at ≡ at) × (k.row ≡ row)
+    ensures era { memo.new.era ≡ memo.old.era }
+    ensures memo { (seen : Searched) (bound : ℕ) (early : Bool)
+        → IsMemo (T.view table.now false) cache.now seen bound early memo.old
+        → (known ≡ true → (T.view table.now false).era cache.now ≡ memo.old.era
+        → memo.old.era < usize.MAX → (k : Mark) → (k.at ≡ at) × (k.row ≡ row)
         × (k.read ≡ rest.read) × (rest.ended ≡ ends.Found k.found)
         → IsMark (T.view table.now false) cache.now seen bound early k)
-        → IsTrail (T.view table.now false) cache.now seen bound early trail.new }
+        → IsMemo (T.view table.now false) cache.now seen bound early memo.new }
 {
-    if !known || !is_current(table, cache, trail) {
+    if !known || !is_current(table, cache, memo) {
         return;
     }
     let Ended::Found(found) = rest.ended else {
         return;
     };
     let read = rest.read;
-    trail.insert(Mark {
+    memo.insert(Mark {
         at,
         row,
         found,
@@ -189,14 +189,14 @@ fn stretch_from<T: Transitions, C: Cursor>(
 }
 
 /// Runs forwards from the row, from where the search begins to where it ends, or to a mark of the
-/// trail. It leaves marks where it stops.
+/// memo. It leaves marks where it stops.
 fn run_on<T: Transitions, C: Cursor>(
     table: &T,
     cache: &mut T::Cache,
     input: &mut Input<C>,
     request: &Request,
     row: usize,
-    trail: &mut Trail,
+    memo: &mut Memo,
 ) -> Reading
     requires cache { (T.view table.now false).IsCache cache.old }
     requires row { (T.view table.now false).IsRow cache.old row }
@@ -205,15 +205,15 @@ fn run_on<T: Transitions, C: Cursor>(
     requires high { request.now.end ≤ slice_end input.old }
     requires fits { length input.old.content + 1 < 2 ^ 64 }
     requires rests { request.now.extent.may_rest ≡ false }
-    requires trail { IsTrail (T.view table.now false) cache.old input.old request.now.end
-        request.now.extent.earliest trail.old }
+    requires memo { IsMemo (T.view table.now false) cache.old input.old request.now.end
+        request.now.extent.earliest memo.old }
     ensures keeps { Keeps input.old input.new }
     ensures over { HasRun (T.view table.now false) false
         (record { seen = input.old; begun = cache.old; row = row }) request.now cache.new
         result.read result.ended }
-    ensures era { trail.new.era ≡ trail.old.era }
-    ensures trail { IsTrail (T.view table.now false) cache.new input.new request.now.end
-        request.now.extent.earliest trail.new }
+    ensures era { memo.new.era ≡ memo.old.era }
+    ensures memo { IsMemo (T.view table.now false) cache.new input.new request.now.end
+        request.now.extent.earliest memo.new }
 {
     let until = stop_after(request.from, request.end);
     let last = match stretch_from::<T, C>(table, cache, input, request, until, row) {
@@ -221,24 +221,24 @@ fn run_on<T: Transitions, C: Cursor>(
         Progress::Over(reading) => return reading,
     };
     let noted = last.noted;
-    if let Some(mark) = recall::<T>(table, cache, trail, until, last.row) {
+    if let Some(mark) = recall::<T>(table, cache, memo, until, last.row) {
         let ended = Ended::Found(mark.found);
         let read = mark.read;
         return joined::<T>(table, noted, Reading { ended, read });
     }
-    let known = is_current::<T>(table, cache, trail);
+    let known = is_current::<T>(table, cache, memo);
     let on = Request {
         anchored: request.anchored,
         from: until,
         end: request.end,
         extent: request.extent,
     };
-    let rest = run_on::<T, C>(table, cache, input, &on, last.row, trail);
-    leave::<T>(table, cache, trail, known, until, last.row, rest);
+    let rest = run_on::<T, C>(table, cache, input, &on, last.row, memo);
+    leave::<T>(table, cache, memo, known, until, last.row, rest);
     joined::<T>(table, noted, rest)
 }
 
-/// Searches forwards as `search` does, and never rests. If it stands at a mark of the trail, it ends
+/// Searches forwards as `search` does, and never rests. If it stands at a mark of the memo, it ends
 /// as the search did that left the mark. It leaves marks of its own: the farther from its start, the
 /// fewer.
 pub fn search_again<T: Transitions, C: Cursor>(
@@ -246,7 +246,7 @@ pub fn search_again<T: Transitions, C: Cursor>(
     cache: &mut T::Cache,
     input: &mut Input<C>,
     request: &Request,
-    trail: &mut Trail,
+    memo: &mut Memo,
 ) -> Reading
     ghost origin: { Origin T.Cache }
     requires origin { origin ≡ record { seen = input.old; begun = cache.old } }
@@ -255,13 +255,13 @@ pub fn search_again<T: Transitions, C: Cursor>(
     requires ordered { request.now.from ≤ request.now.end }
     requires high { request.now.end ≤ slice_end input.old }
     requires rests { request.now.extent.may_rest ≡ false }
-    requires trail { IsTrail (T.view table.now false) cache.old input.old request.now.end
-        request.now.extent.earliest trail.old }
+    requires memo { IsMemo (T.view table.now false) cache.old input.old request.now.end
+        request.now.extent.earliest memo.old }
     ensures keeps { Keeps input.old input.new }
     ensures over { IsOver (T.view table.now false) false origin request.now cache.new result.read
         result.ended }
-    ensures trail { IsTrail (T.view table.now false) cache.new input.new request.now.end
-        request.now.extent.earliest trail.new }
+    ensures memo { IsMemo (T.view table.now false) cache.new input.new request.now.end
+        request.now.extent.earliest memo.new }
 {
     content_fits(input);
     let beside = byte_beside(input, request.from, true);
@@ -269,6 +269,6 @@ pub fn search_again<T: Transitions, C: Cursor>(
         Progress::Through(stand) => stand,
         Progress::Over(reading) => return reading,
     };
-    renew::<T>(table, cache, trail);
-    run_on::<T, C>(table, cache, input, request, stand.row, trail)
+    renew::<T>(table, cache, memo);
+    run_on::<T, C>(table, cache, input, request, stand.row, memo)
 }

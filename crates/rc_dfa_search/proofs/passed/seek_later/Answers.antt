@@ -30,8 +30,8 @@ starts-init g c = record {
   stands = c.requires.stands;
   spends = g.met.H.Halves.spends_nothing c.args.halves.now c.args.cache.now
       ((c.args.start - c.args.start) * (high c.args.input.now - low c.args.input.now + 2));
-  trail = g.met.H.Halves.bare_trail c.args.halves.now c.args.cache.now c.args.input.now c.args.bounds.high (is_early c.args.aim) c.new-trail.result
-      (record { era = c.new-trail.ensures.era; empty = c.new-trail.ensures.empty });
+  memo = g.met.H.Halves.bare_memo c.args.halves.now c.args.cache.now c.args.input.now c.args.bounds.high (is_early c.args.aim) c.new-memo.result
+      (record { era = c.new-memo.ensures.era; empty = c.new-memo.ensures.empty });
   refused = tt;
 }
 
@@ -108,8 +108,8 @@ starts-preserved g c =
           (next_later s c.starts.input c.args.start c.starts.from i.keeps (omega (arith, i.above.0, i.above.1)) (omega (arith, i.above.2)) (omega (arith, i.below)))
           (g.met.H.Halves.spends_both c.args.halves.now c.args.cache.now c.starts.cache c.run_along.new.cache
           ((c.starts.from - c.args.start) * (high s - low s + 2)) (high c.starts.input - c.starts.from + 2) i.spends c.in_ok-met.ensures.spends);
-      trail = g.met.H.Halves.trail_kept c.args.halves.now c.run_along.new.cache c.run_along.new.input c.may_end_past.new.input c.args.bounds.high (is_early c.args.aim)
-          c.run_along.new.trail c.may_end_past.ensures.keeps c.in_ok-met.ensures.trail;
+      memo = g.met.H.Halves.memo_kept c.args.halves.now c.run_along.new.cache c.run_along.new.input c.may_end_past.new.input c.args.bounds.high (is_early c.args.aim)
+          c.run_along.new.memo c.may_end_past.ensures.keeps c.in_ok-met.ensures.memo;
       refused = ap (λ bytes. may_end c.args.aim.kind c.args.aim.passes_over bytes c.in-Some.met.at) (sym content) ∙ sym c.may_end_past.ensures.value
           ∙ c.if-may_end_past.false;
     }

@@ -14,7 +14,7 @@ invariant-starts g l = record {
   stands : (hs : List Re) (terminator : ℕ) (of : AreHalvesOf (g.H.Halves.AreOf l.halves) l.aim hs terminator) →
       Stands hs l.aim.kind (is_early l.aim) of.ahead of.back l.fn.input.anchored (search_from l.aim hs terminator l.fn.input l.fn.bounds.low) l.from;
   spends : g.H.Halves.Spends l.halves l.fn.cache l.cache ((l.from - l.fn.start) * (high l.fn.input - low l.fn.input + 2));
-  trail : g.H.Halves.IsTrail l.halves l.cache l.input l.high (is_early l.aim) l.trail;
+  memo : g.H.Halves.IsMemo l.halves l.cache l.input l.high (is_early l.aim) l.memo;
   refused : IfSome l.refused (λ x. may_end l.aim.kind l.aim.passes_over l.fn.input.content x ≡ false);
 }
 

@@ -1,5 +1,5 @@
 use Rattle.std.proofs.Common.{false, refl}
-use Rattle.rc_table_search.proofs.TrailLemmas.{is_none, joins_none, joins_same, not_found, not_none}
+use Rattle.rc_table_search.proofs.MemoLemmas.{is_none, joins_none, joins_same, not_found, not_none}
 use Rattle.rc_table_search.proofs.again.joined.Goals as goal
 
 pub returns-then-is_some : goal.returns-then-is_some

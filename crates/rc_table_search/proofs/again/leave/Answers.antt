@@ -1,9 +1,9 @@
 use Rattle.std.proofs.Common.{false, refl, sym, subst, ⊎_elim, arith}
-use Rattle.rc_table_search.specs.Trails.{IsMark}
+use Rattle.rc_table_search.specs.Memos.{IsMark}
 use Rattle.rc_table_search.proofs.again.leave.Goals as goal
 
-pub returns-clause-trail : goal.returns-clause-trail
-returns-clause-trail g c seen bound enough t mark =
+pub returns-clause-memo : goal.returns-clause-memo
+returns-clause-memo g c seen bound enough t mark =
     let v = g.T.Transitions.view c.args.table.now false in
     let e = c.is_current.ensures c.if-not-is_current.false in record {
       past = let past = t.past in let era = c.insert.ensures.era in omega (arith, past, era);

@@ -2,19 +2,19 @@ use Rattle.std.proofs.Common.{◌≡◌, ◌-◌, false, sym, subst, ap}
 use Rattle.rc_text.specs.Text.{Searched}
 use Rattle.rc_table_search.specs.Searches.{HasRun, Origin}
 use Rattle.rc_table_search.proofs.SearchLemmas.{over_run}
-use Rattle.rc_table_search.proofs.TrailLemmas.{run_kept, trail_on}
-use Rattle.rc_table_search.specs.TrailLaws.{trail_kept}
+use Rattle.rc_table_search.proofs.MemoLemmas.{run_kept, memo_on}
+use Rattle.rc_table_search.specs.MemoLaws.{memo_kept}
 use Rattle.rc_table_search.proofs.again.search_again.Goals as goal
 
-pub run_on-requires-clause-trail : goal.run_on-requires-clause-trail
-run_on-requires-clause-trail g c =
+pub run_on-requires-clause-memo : goal.run_on-requires-clause-memo
+run_on-requires-clause-memo g c =
     let v = g.T.Transitions.view c.args.table.now false in
     let q = c.args.request.now in
     let begun : g.origin.begun ≡ c.args.cache.now = ap (λ (o : Origin _). o.begun) c.requires.1.1.1.0 in
     c.renew.ensures c.byte_beside-beside.new.input q.end q.extent.earliest
-    (trail_kept v c.begin.new.cache c.args.input.now c.byte_beside-beside.new.input q.end q.extent.earliest c.args.trail.now
+    (memo_kept v c.begin.new.cache c.args.input.now c.byte_beside-beside.new.input q.end q.extent.earliest c.args.memo.now
     c.byte_beside-beside.ensures.keeps
-    (trail_on _ v (g.met.T.Transitions.lawful c.args.table.now false) c.args.cache.now c.begin.new.cache 1 c.args.input.now q.end q.extent.earliest c.args.trail.now
+    (memo_on _ v (g.met.T.Transitions.lawful c.args.table.now false) c.args.cache.now c.begin.new.cache 1 c.args.input.now q.end q.extent.earliest c.args.memo.now
     c.requires.1.1.1.1.0 (subst (λ k. v.Spends k c.begin.new.cache 1) begun c.in-Through.ensures.spends) c.requires.1.1.1.1.1.1.1.1.1))
 
 pub returns-clause-over : goal.returns-clause-over

@@ -1,6 +1,6 @@
 use Rattle.std.proofs.Common.{rules, None, false, refl}
 use Rattle.rc_table_search.proofs.SearchLemmas.{stands_first}
-use Rattle.rc_table_search.proofs.TrailLemmas.{kept_same}
+use Rattle.rc_table_search.proofs.MemoLemmas.{kept_same}
 use Rattle.rc_table_search.proofs.again.stretch_from.Goals as goal
 
 pub stretch-requires : goal.stretch-requires

@@ -9,19 +9,19 @@ use Rattle.rc_determinize.specs.States.{State, best_at}
 use Rattle.rc_dfa.specs.Machine.{Machine}
 use Rattle.rc_dfa.specs.Runs.{RunsOver, Runs, RunEnd, met_last, stopped_at, idle_at, begun, goes_on}
 use Rattle.rc_dfa.specs.Reads.{EndsBelowOver, EndsBelow, at_bound, dead, early, quit, rests}
-use Rattle.rc_dfa.specs.Trails.{Has}
+use Rattle.rc_dfa.specs.Memos.{Has}
 use Rattle.rc_dfa.specs.declared.ended.Ended.{Ended}
 use Rattle.rc_dfa.specs.declared.ended.Ended.TheVariants.{Found, Idle, Quit, GaveUp}
 use Rattle.rc_dfa.specs.declared.ended.Met.{Met}
 use Rattle.rc_dfa.specs.declared.ended.Reading.{Reading}
 use Rattle.rc_dfa.specs.Ended.{gave_up}
-use Rattle.rc_dfa.specs.declared.trail.Mark.{Mark}
-use Rattle.rc_dfa.specs.declared.trail.Trail.{Trail}
+use Rattle.rc_dfa.specs.declared.memo.Mark.{Mark}
+use Rattle.rc_dfa.specs.declared.memo.Memo.{Memo}
 use Rattle.rc_table_search.specs.Views.{View, Holds, IsLawful, IsNoted}
 use Rattle.rc_table_search.specs.Ways.{Course, HasEndedFrom}
 use Rattle.rc_table_search.specs.Searches.{HasRun, IsAt, Says, course_of, run_spent, text_in}
-use Rattle.rc_table_search.specs.Trails.{FindsBelow, IsMark, IsTrail, Joins}
-use Rattle.rc_table_search.specs.TrailLaws.{kept_text}
+use Rattle.rc_table_search.specs.Memos.{FindsBelow, IsMark, IsMemo, Joins}
+use Rattle.rc_table_search.specs.MemoLaws.{kept_text}
 use Rattle.rc_table_search.specs.declared.run.Stand.{Stand}
 use Rattle.rc_table_search.specs.declared.search.Request.{Request}
 use Rattle.rc_table_search.proofs.WayLemmas.{none_of}
@@ -137,10 +137,10 @@ module _ (C : Type 0) (v : View C) (laws : IsLawful v) where
     ends = λ m of s has. x.ends m of s (h.has_state m k.row s x.is_row has);
   }
 
-  -- a trail stays true while states are added
-  pub trail_on : (a b : C) (n : ℕ) (seen : Searched) (bound : ℕ) (enough : Bool) (t : Trail) → v.IsCache a → v.Spends a b n → IsTrail v a seen bound enough t →
-      IsTrail v b seen bound enough t
-  trail_on a b n seen bound enough t cache spends x =
+  -- a memo stays true while states are added
+  pub memo_on : (a b : C) (n : ℕ) (seen : Searched) (bound : ℕ) (enough : Bool) (t : Memo) → v.IsCache a → v.Spends a b n → IsMemo v a seen bound enough t →
+      IsMemo v b seen bound enough t
+  memo_on a b n seen bound enough t cache spends x =
       let past = x.past in
       let rises = laws.era_rises a b n spends in record {
         past = omega (arith, past, rises);

@@ -1,12 +1,12 @@
-//! Trails: what earlier runs over a text found from some of their positions on. A run that stands at
+//! Memos: what earlier runs over a text found from some of their positions on. A run that stands at
 //! such a position in the same row ends as they did.
 ghost use Rattle.std.specs.Prelude.{◌≡◌, ◌⊎◌, ◌<◌, IfSome};
-ghost use Rattle.rc_dfa.specs.declared.trail.Mark.{Mark};
-ghost use Rattle.rc_dfa.specs.Trails.{Has};
+ghost use Rattle.rc_dfa.specs.declared.memo.Mark.{Mark};
+ghost use Rattle.rc_dfa.specs.Memos.{Has};
 
 use crate::ended::Met;
 
-/// The number of slots of a trail.
+/// The number of slots of a memo.
 const SLOTS: usize = 128;
 
 /// The number of slots that positions of one alignment share, by their rows.
@@ -27,7 +27,7 @@ pub struct Mark {
 
 /// Marks of runs over one text up to one bound. A later mark takes the slot of an earlier one.
 #[derive(Drop)]
-pub struct Trail {
+pub struct Memo {
     /// The era of the cache in which the rows of the marks are those of their states.
     pub era: usize,
     /// The marks.
@@ -43,13 +43,13 @@ fn slot_of(at: usize, row: usize) -> usize
     (at.trailing_zeros() as usize * WAYS + rows % WAYS) % SLOTS
 }
 
-impl Trail {
-    /// A trail with no marks.
-    pub fn new(era: usize) -> Trail
+impl Memo {
+    /// A memo with no marks.
+    pub fn new(era: usize) -> Memo
         ensures era { result.era ≡ era }
         ensures empty { (k : Mark) → ¬ Has result k }
     {
-        Trail {
+        Memo {
             era,
             marks: [None; SLOTS],
         }

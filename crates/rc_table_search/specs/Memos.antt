@@ -1,5 +1,5 @@
 -- Only proofs use this file.
--- Trails over a table: what their marks say.
+-- Memos over a table: what their marks say.
 use Rattle.std.specs.Prelude.{◌≡◌, ℕ, ◌<◌, ◌≤◌, Bool, true, false, Option, Some, None}
 use Rattle.rc_text.specs.Text.{Searched}
 use Rattle.rc_program.specs.Text.{Text}
@@ -11,12 +11,12 @@ use Rattle.rc_dfa.specs.Machine.{Machine}
 use Rattle.rc_dfa.specs.Ended.{gave_up}
 use Rattle.rc_dfa.specs.Runs.{Runs, met_last}
 use Rattle.rc_dfa.specs.Reads.{EndsBelow}
-use Rattle.rc_dfa.specs.Trails.{Has}
+use Rattle.rc_dfa.specs.Memos.{Has}
 use Rattle.rc_dfa.specs.declared.ended.Ended.TheVariants.{Found}
 use Rattle.rc_dfa.specs.declared.ended.Met.{Met}
 use Rattle.rc_dfa.specs.declared.ended.Reading.{Reading}
-use Rattle.rc_dfa.specs.declared.trail.Mark.{Mark}
-use Rattle.rc_dfa.specs.declared.trail.Trail.{Trail}
+use Rattle.rc_dfa.specs.declared.memo.Mark.{Mark}
+use Rattle.rc_dfa.specs.declared.memo.Memo.{Memo}
 use Rattle.rc_table_search.specs.Views.{View, IsNoted}
 use Rattle.rc_table_search.specs.Ways.{Course, HasEndedFrom}
 
@@ -33,8 +33,8 @@ pub record IsMark {C : Type 0} (v : View C) (c : C) (seen : Searched) (bound : �
   pub ends : (m : Machine) → v.IsOf m → (s : State) → v.HasState c m k.row s →
       FindsBelow m (text_of m.setting.terminator seen) bound k.at s early k.found k.read
 
--- What the trail says is true, unless its era is over.
-pub record IsTrail {C : Type 0} (v : View C) (c : C) (seen : Searched) (bound : ℕ) (early : Bool) (t : Trail) : Type 0 where
+-- What the memo says is true, unless its era is over.
+pub record IsMemo {C : Type 0} (v : View C) (c : C) (seen : Searched) (bound : ℕ) (early : Bool) (t : Memo) : Type 0 where
   pub past : t.era ≤ v.era c
   pub marks : v.era c ≡ t.era → t.era < 18446744073709551615 → (k : Mark) → Has t k → IsMark v c seen bound early k
 
