@@ -11,8 +11,8 @@ const CAP: u128 = 0x1_0000_0000_0000_0000;
 /// the limit.
 #[derive(Clone, Copy, Debug, PartialEq, Eq)]
 pub struct Oversize {
-    /// The weight of the patterns by their grammar, or 2 to the power of 64 if it is above that. The size is 32
-    /// times the weight, in bytes.
+    /// The weight of the patterns by their grammar, or 2 to the power of 64 if it is above that. The
+    /// size is 32 times the weight, in bytes.
     pub weight: u128,
     /// The size limit, in bytes.
     pub limit: usize,
