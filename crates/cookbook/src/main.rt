@@ -12,6 +12,7 @@ mod lent;
 mod lines;
 mod parts;
 mod places;
+mod ranges;
 mod replacing;
 mod rules;
 mod tokens;
@@ -27,6 +28,7 @@ use crate::lent::count_in_both;
 use crate::lines::{group_named, lines_with_a_match};
 use crate::parts::{Part, first_in_pieces};
 use crate::places::line_of;
+use crate::ranges::{add_range, matches_of_range};
 use crate::replacing::replaced;
 use crate::rules::rules_met;
 use crate::tokens::{KINDS, next_token, words};
@@ -238,6 +240,43 @@ fn ask(rt: &HostRuntime, text: ChunkCursor<'_>) {
     }
 }
 
+/// The matches of a text by three of its ranges.
+fn matches_by_ranges(
+    alloc: Global,
+    regex: &Regex,
+    text: ChunkCursor<'_>,
+) -> Result<Vec<Match>, AllocError> {
+    let first = Span { start: 0, end: 11 };
+    let second = Span { start: 11, end: 20 };
+    let third = Span {
+        start: 20,
+        end: usize::MAX,
+    };
+    let mut matches = matches_of_range(alloc, regex, text, first)?;
+    for range in [second, third] {
+        let next = matches_of_range(alloc, regex, text, range)?;
+        add_range(alloc, regex, text, &mut matches, range, &next)?;
+    }
+    Ok(matches)
+}
+
+/// A text that is searched by ranges.
+fn divide(rt: &HostRuntime) {
+    let chunks: [&[u8]; 2] = [b"'one' and 't", b"wo', 'three'; 'four'"];
+    let Ok(text) = ChunkCursor::new(&chunks) else {
+        return;
+    };
+    let Ok(quoted) = Regex::new(rt.alloc(), "'[^']*'") else {
+        return;
+    };
+    show(
+        rt,
+        "by ranges",
+        &matches_by_ranges(rt.alloc(), &quoted, text),
+    );
+    drop(quoted);
+}
+
 fn main(rt: HostRuntime) {
     let chunks: [&[u8]; 4] = [b"let to", b"tal = 4", b"2;\nprint(total", b");\n"];
     let Ok(text) = ChunkCursor::new(&chunks) else {
@@ -249,4 +288,5 @@ fn main(rt: HostRuntime) {
     replace(&rt, &chunks);
     ask(&rt, text);
     grow(&rt);
+    divide(&rt);
 }
