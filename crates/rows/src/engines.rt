@@ -25,7 +25,8 @@ use std::alloc::Global;
 /// More patterns than this are refused by the condition of a build.
 pub const MOST_PATTERNS: usize = 2147483647;
 
-/// The assertions that are decided by characters: searches by tables can't decide them beside a byte above 127.
+/// The assertions that are decided by characters: searches by tables can't decide them beside a
+/// byte above 127.
 const WORDS: [Look; 6] = [
     Look::WordUnicode,
     Look::WordUnicodeNegate,
@@ -38,18 +39,10 @@ const WORDS: [Look; 6] = [
 /// A list of patterns, built for every engine.
 #[derive(Drop)]
 pub struct Engines {
-    /// The regex.
-    pub regex: Regex,
-    /// The regex that looks for no needles of its own, and has no tables.
-    pub unfiltered: Regex,
-    /// The regex that looks for no needles of its own, and has tables however large.
-    pub tabled: Regex,
-    /// The DFA, unless the row wants none.
-    pub dfa: Option<api_dfa::regex::Regex>,
-    /// A hybrid with the cache that it has by default.
-    pub hybrid: Hybrid,
-    /// A hybrid with the least cache.
-    pub small: Hybrid,
+    /// The regexes.
+    pub regexes: Regexes,
+    /// The engines that search by tables.
+    pub tables: TableEngines,
     /// The `PikeVM`.
     pub vm: PikeVM,
     /// The program that the walker may go through.
@@ -58,12 +51,80 @@ pub struct Engines {
     pub known: Known,
 }
 
+/// The regexes of a list of patterns.
+#[derive(Drop)]
+pub struct Regexes {
+    /// The one that the row's settings ask for.
+    pub plain: Regex,
+    /// The one that looks for no needles of its own, and has no tables.
+    pub unfiltered: Regex,
+    /// The one that looks for no needles of its own, and has tables however large.
+    pub tabled: Regex,
+}
+
+/// The engines of a list of patterns that search by tables.
+#[derive(Drop)]
+pub struct TableEngines {
+    /// The DFA, unless the row wants none.
+    pub dfa: Option<api_dfa::regex::Regex>,
+    /// A hybrid with the cache that it has by default.
+    pub hybrid: Hybrid,
+    /// A hybrid with the least cache.
+    pub small: Hybrid,
+}
+
+impl Regexes {
+    /// The three regexes, where hybrids have this least capacity of a cache.
+    fn build(
+        alloc: Global,
+        patterns: &[&str],
+        settings: &Settings,
+        least: usize,
+    ) -> Result<Regexes, BuildError>
+        requires { length patterns.now ≤ most_patterns }
+    {
+        let capacity = match settings.capacity {
+            Some(capacity) => Some(capacity.bytes(least)),
+            None => None,
+        };
+        let plain = settings.regex(alloc, patterns, Asked::Capacity(capacity))?;
+        let built = both(plain, settings.regex(alloc, patterns, Asked::Unfiltered))?;
+        let (built, tabled) = both(built, settings.regex(alloc, patterns, Asked::Tabled))?;
+        let (plain, unfiltered) = built;
+        Ok(Regexes {
+            plain,
+            unfiltered,
+            tabled,
+        })
+    }
+}
+
+impl TableEngines {
+    /// The engines that search by tables: the DFA, unless the row wants none, a hybrid, and one with
+    /// the least capacity.
+    fn build(
+        alloc: Global,
+        patterns: &[&str],
+        settings: &Settings,
+    ) -> Result<TableEngines, BuildError>
+        requires { length patterns.now ≤ most_patterns }
+    {
+        let dfa = dfa_of(alloc, patterns, settings)?;
+        let (dfa, hybrid) = both(dfa, hybrid_of(alloc, patterns, settings, None))?;
+        let least = Some(hybrid.least());
+        let built = both((dfa, hybrid), hybrid_of(alloc, patterns, settings, least))?;
+        let ((dfa, hybrid), small) = built;
+        Ok(TableEngines { dfa, hybrid, small })
+    }
+}
+
 /// What is known of patterns.
 #[derive(Clone, Copy)]
 pub struct Known {
     /// Whether an assertion of theirs is decided by the characters around it.
     pub has_words: bool,
-    /// Whether matches may be passed over: empty ones stand on boundaries of characters alone, and some pattern may be empty.
+    /// Whether matches may be passed over: empty ones stand on boundaries of characters alone, and
+    /// some pattern may be empty.
     pub passes_over: bool,
 }
 
@@ -78,20 +139,16 @@ impl Engines {
     {
         let built = both(
             read(alloc, patterns, settings)?,
-            tables(alloc, patterns, settings),
+            TableEngines::build(alloc, patterns, settings),
         )?;
         let built = both(built, settings.vm(alloc, patterns))?;
-        let least = built.0.1.1.least();
-        let regexes = regexes(alloc, patterns, settings, least);
-        let (rest, ((regex, unfiltered), tabled)) = both(built, regexes)?;
-        let (((known, program), ((dfa, hybrid), small)), vm) = rest;
+        let least = built.0.1.small.least();
+        let regexes = Regexes::build(alloc, patterns, settings, least);
+        let (built, regexes) = both(built, regexes)?;
+        let (((known, program), tables), vm) = built;
         Ok(Engines {
-            regex,
-            unfiltered,
-            tabled,
-            dfa,
-            hybrid,
-            small,
+            regexes,
+            tables,
             vm,
             program,
             known,
@@ -107,40 +164,8 @@ fn both<A: Drop, B: Drop>(first: A, second: Result<B, BuildError>) -> Result<(A,
     }
 }
 
-/// The three regexes, where hybrids have this least capacity of a cache.
-fn regexes(
-    alloc: Global,
-    patterns: &[&str],
-    settings: &Settings,
-    least: usize,
-) -> Result<((Regex, Regex), Regex), BuildError>
-    requires { length patterns.now ≤ most_patterns }
-{
-    let capacity = match settings.capacity {
-        Some(capacity) => Some(capacity.bytes(least)),
-        None => None,
-    };
-    let regex = settings.regex(alloc, patterns, Asked::Capacity(capacity))?;
-    let built = both(regex, settings.regex(alloc, patterns, Asked::Unfiltered))?;
-    both(built, settings.regex(alloc, patterns, Asked::Tabled))
-}
-
-/// The engines that search by tables: the DFA, unless the row wants none, a hybrid, and one with the least capacity.
-fn tables(
-    alloc: Global,
-    patterns: &[&str],
-    settings: &Settings,
-) -> Result<((Option<api_dfa::regex::Regex>, Hybrid), Hybrid), BuildError>
-    requires { length patterns.now ≤ most_patterns }
-{
-    let dfa = dfa(alloc, patterns, settings)?;
-    let built = both(dfa, hybrid(alloc, patterns, settings, None))?;
-    let least = built.1.least();
-    both(built, hybrid(alloc, patterns, settings, Some(least)))
-}
-
 /// The DFA, unless the row wants none.
-fn dfa(
+fn dfa_of(
     alloc: Global,
     patterns: &[&str],
     settings: &Settings,
@@ -157,7 +182,7 @@ fn dfa(
 }
 
 /// A hybrid with this capacity of a cache, or with the one that it has by default.
-fn hybrid(
+fn hybrid_of(
     alloc: Global,
     patterns: &[&str],
     settings: &Settings,
@@ -219,7 +244,8 @@ pub fn may_be_empty(hirs: &[Hir]) -> bool {
     false
 }
 
-/// The program of these patterns, where the walker goes through it: it finds preferred matches alone.
+/// The program of these patterns, where the walker goes through it: it finds preferred matches
+/// alone.
 fn program(
     alloc: Global,
     hirs: &[Hir],

@@ -2,7 +2,8 @@
 
 use std::alloc::AllocError;
 
-/// Why a row is told of: a part of it that isn't read, out of memory, or an answer that isn't the one wanted.
+/// Why a row is told of: a part of it that isn't read, out of memory, or an answer that isn't the
+/// one wanted.
 #[derive(Clone, Copy)]
 pub struct Fault {
     /// Who answers. It is `unread` for a part that isn't read, and `row` where no engine answers.

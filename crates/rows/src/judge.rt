@@ -3,7 +3,7 @@ ghost use Rattle.rc_text.specs.Limits.{most_patterns};
 ghost use Rattle.std.specs.Prelude.{◌≤◌, length};
 
 use crate::calls::{Call, List, spans_by, told_by};
-use crate::cursors::{CUTTINGS, Recut, chunks_of};
+use crate::cursors::{CUTTINGS, Cut, Recut, chunks_of};
 use crate::engines::{Engines, MOST_PATTERNS};
 use crate::faults::{Fault, Verdict};
 use crate::inputs::input;
@@ -12,10 +12,10 @@ use crate::slots::Asker;
 use crate::{parses, searches, streams, which};
 use rc_settings::error::BuildError;
 use rc_text::chunks::ChunkCursor;
-use rc_text::cursor::Cursor;
 use std::alloc::Global;
 
-/// Where engines are to answer alike, a DFA's tables for a direction are left out where they are larger than this, in bytes.
+/// Where engines are to answer alike, a DFA's tables for a direction are left out where they are
+/// larger than this, in bytes.
 const TABLES_LIMIT: usize = 65536;
 
 /// The walker goes there through programs of at most so many places.
@@ -24,7 +24,8 @@ const WALKER_PLACES: usize = 30;
 /// The walker goes there through texts of at most so many bytes.
 const WALKER_BYTES: usize = 8;
 
-/// The row is answered as it wants to be. Where it wants that engines answer alike, what is wanted is set to what they find.
+/// The row is answered as it wants to be. Where it wants that engines answer alike, what is wanted
+/// is set to what they find.
 pub fn judge(alloc: Global, row: &mut Row) -> Result<(), Fault> {
     if row.patterns.len() > MOST_PATTERNS {
         return Err(Fault {
@@ -61,7 +62,8 @@ fn judge_wanted(asker: &mut Asker, row: &mut Row)
     }
 }
 
-/// The engines answer the row alike, or its patterns are refused. Where its tables are too large it is answered without the DFA.
+/// The engines answer the row alike, or its patterns are refused. Where its tables are too large it
+/// is answered without the DFA.
 fn judge_alike(asker: &mut Asker, row: &mut Row)
     requires { length row.old.patterns.items ≤ most_patterns }
 {
@@ -91,7 +93,8 @@ fn answer_alike(asker: &mut Asker, row: &mut Row) -> Option<BuildError>
     }
 }
 
-/// The engines answer the row over every cutting as the pass does over one chunk: all matches, and the groups of the first.
+/// The engines answer the row over every cutting as the pass does over one chunk: all matches, and
+/// the groups of the first.
 fn agree(asker: &mut Asker, engines: &mut Engines, row: &mut Row)
     requires { length row.old.patterns.items ≤ most_patterns }
     ensures { length row.new.patterns.items ≤ most_patterns }
@@ -114,10 +117,10 @@ fn want_found(asker: &mut Asker, engines: &Engines, row: &mut Row, list: List)
     requires { length row.old.patterns.items ≤ most_patterns }
     ensures { length row.new.patterns.items ≤ most_patterns }
 {
-    let regex = &engines.unfiltered;
-    let over = input(row, Recut::whole(&row.text));
+    let regex = &engines.regexes.unfiltered;
+    let over = input(row, Cut::whole(&row.text));
     let told = told_by(asker.alloc, regex, Call::Find, over, &mut asker.verdict);
-    let over = input(row, Recut::whole(&row.text));
+    let over = input(row, Cut::whole(&row.text));
     let spans = spans_by(asker.alloc, regex, list, over);
     asker.verdict.expect(spans.is_whole, "row", "memory");
     row.number = match told.found() {
@@ -139,39 +142,35 @@ fn over_all_cuttings(asker: &mut Asker, engines: &mut Engines, row: &Row)
     }
 }
 
-/// The engines answer the row over each cutting of its text.
+/// The engines answer the row over each cutting of its text: anew at each move, and as a list of
+/// chunks, whose cursor begins at its start and in its middle.
 fn over_each_cutting(asker: &mut Asker, engines: &mut Engines, row: &Row) {
     for cutting in &CUTTINGS {
-        over(asker, engines, row, Recut::new(&row.text, *cutting));
+        over(
+            asker,
+            engines,
+            row,
+            Cut::Anew(Recut::new(&row.text, *cutting)),
+        );
     }
     let chunks = chunks_of(asker, &row.text);
-    over_chunks(asker, engines, row, &chunks, 0);
-    over_chunks(asker, engines, row, &chunks, row.text.len() / 2);
-}
-
-/// The engines answer the row over its text as a list of chunks, from this byte on.
-fn over_chunks<'a>(
-    asker: &mut Asker,
-    engines: &mut Engines,
-    row: &Row,
-    chunks: &'a [&'a [u8]],
-    at: usize,
-) {
-    match ChunkCursor::at(chunks, at) {
-        Ok(cursor) => over(asker, engines, row, cursor),
-        Err(_) => asker.verdict.note("row", "chunks"),
+    for at in [0, row.text.len() / 2] {
+        match ChunkCursor::at(&chunks, at) {
+            Ok(cursor) => over(asker, engines, row, Cut::List(cursor)),
+            Err(_) => asker.verdict.note("row", "chunks"),
+        }
     }
 }
 
-/// The engines answer the row over this cursor.
-fn over<C: Cursor + Copy + Drop>(asker: &mut Asker, engines: &mut Engines, row: &Row, cursor: C) {
+/// The engines answer the row over this cut.
+fn over(asker: &mut Asker, engines: &mut Engines, row: &Row, cut: Cut) {
     match row.want {
-        Want::First => searches::first(asker, engines, row, cursor),
-        Want::All => searches::all(asker, engines, row, cursor),
-        Want::Groups => searches::groups(asker, engines, row, cursor),
-        Want::Captured => searches::captured(asker, engines, row, cursor),
-        Want::Pieces => searches::pieces(asker, engines, row, cursor),
-        Want::Which => which::which(asker, engines, row, cursor),
+        Want::First => searches::first(asker, engines, row, cut),
+        Want::All => searches::all(asker, engines, row, cut),
+        Want::Groups => searches::groups(asker, engines, row, cut),
+        Want::Captured => searches::captured(asker, engines, row, cut),
+        Want::Pieces => searches::pieces(asker, engines, row, cut),
+        Want::Which => which::which(asker, engines, row, cut),
         Want::Refused(word) => asker.verdict.expect(word == "no", "row", "refused"),
         Want::Nothing | Want::Alike => asker.verdict.note("unread", "want"),
     }

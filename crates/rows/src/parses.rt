@@ -1,9 +1,10 @@
-//! The preferred match of plain patterns, by trying their parses in order: over the patterns alone, as docs/PREFERENCE.md tells it.
+//! The preferred match of plain patterns, by trying their parses in order: over the patterns alone,
+//! as docs/PREFERENCE.md tells it.
 
 ghost use Rattle.rc_text.specs.Limits.{most_patterns};
 ghost use Rattle.std.specs.Prelude.{◌≤◌, length};
 
-use crate::cursors::Recut;
+use crate::cursors::Cut;
 use crate::engines::{Engines, may_be_empty};
 use crate::faults::Verdict;
 use crate::inputs::{input, start_at};
@@ -36,7 +37,8 @@ struct Mark {
     before: Option<usize>,
 }
 
-/// A parse by some turns of a repetition, and whether a further turn is tried or it is taken as it is.
+/// A parse by some turns of a repetition, and whether a further turn is tried or it is taken as it
+/// is.
 #[derive(Clone, Copy)]
 struct Choice {
     turns: usize,
@@ -65,13 +67,16 @@ struct Parser<'a> {
     verdict: Verdict,
 }
 
-/// The engines answer a row of plain patterns as its parses say, from the row's start on and from each position behind it. Other rows aren't
-/// looked at, nor those that take the walker too long.
+/// The engines answer a row of plain patterns as its parses say, from the row's start on and from
+/// each position behind it. Other rows aren't looked at, nor those that take the walker too long.
 pub fn agree(asker: &mut Asker, engines: &Engines, row: &Row)
     requires { length row.now.patterns.items ≤ most_patterns }
 {
     let settings = &row.settings;
-    if settings.kind != MatchKind::LeftmostFirst || !settings.walker || !engines.regex.is_plain() {
+    if settings.kind != MatchKind::LeftmostFirst
+        || !settings.walker
+        || !engines.regexes.plain.is_plain()
+    {
         return;
     }
     // The patterns were read when the engines were built.
@@ -94,9 +99,9 @@ fn from_each_start(asker: &mut Asker, engines: &Engines, hirs: &[Hir], row: &Row
 
 /// The regex gives the match and the groups that the parses from this start on say.
 fn from_start(asker: &mut Asker, engines: &Engines, hirs: &[Hir], row: &Row, start: usize) {
-    let mut input = input(row, Recut::whole(&row.text));
+    let mut input = input(row, Cut::whole(&row.text));
     start_at(&mut input, start);
-    match engines.regex.captures(asker.alloc, input) {
+    match engines.regexes.plain.captures(asker.alloc, input) {
         Ok(captures) => {
             are_preferred(asker, &captures, hirs, row, start);
             drop(captures);
@@ -228,8 +233,8 @@ impl<'a> Parser<'a> {
         }
     }
 
-    /// The parse that is preferred: the least parse of the least start that gives one. One that ends off a boundary is passed over where a
-    /// pattern may be empty.
+    /// The parse that is preferred: the least parse of the least start that gives one. One that
+    /// ends off a boundary is passed over where a pattern may be empty.
     fn preferred(&mut self, hirs: &[Hir]) -> Option<Preferred> {
         let (low, high) = self.bounds;
         let passes_over = self.row.settings.utf8_empty && may_be_empty(hirs);
@@ -247,7 +252,8 @@ impl<'a> Parser<'a> {
         None
     }
 
-    /// The least parse from a start: the first one of the first pattern that is looked for and has one.
+    /// The least parse from a start: the first one of the first pattern that is looked for and has
+    /// one.
     fn least(&mut self, hirs: &[Hir], start: usize) -> Option<Preferred> {
         let from = Parse {
             end: start,
@@ -296,14 +302,16 @@ impl<'a> Parser<'a> {
         None
     }
 
-    /// Adds a parse behind the others, unless one of them has its end: the same may follow each of them.
+    /// Adds a parse behind the others, unless one of them has its end: the same may follow each of
+    /// them.
     fn add(&mut self, found: &mut Vec<Parse>, parse: Parse) {
         if !has_end(found, parse.end) {
             self.verdict.push(found, parse);
         }
     }
 
-    /// Adds the parses of a pattern that go on from one, in order. Of those with one end the first alone is kept.
+    /// Adds the parses of a pattern that go on from one, in order. Of those with one end the first
+    /// alone is kept.
     #[cycle(parse)]
     fn parse(&mut self, hir: &Hir, from: Parse, found: &mut Vec<Parse>) {
         match hir.kind() {
@@ -350,7 +358,8 @@ impl<'a> Parser<'a> {
         }
     }
 
-    /// Adds the parses of patterns one after another: by the first one's choices before those of the others.
+    /// Adds the parses of patterns one after another: by the first one's choices before those of
+    /// the others.
     #[cycle(parse)]
     fn concat(&mut self, subs: &[Hir], from: Parse, found: &mut Vec<Parse>) {
         let mut all = Vec::new(self.alloc);
@@ -367,8 +376,9 @@ impl<'a> Parser<'a> {
         }
     }
 
-    /// Adds the parses of a repetition, turn by turn: greedy tries a further turn before it stops, lazy stops before. What was tried after so
-    /// many turns from one position isn't tried there again: it has the same ends.
+    /// Adds the parses of a repetition, turn by turn: greedy tries a further turn before it stops,
+    /// lazy stops before. What was tried after so many turns from one position isn't tried there
+    /// again: it has the same ends.
     #[cycle(parse)]
     fn repeat(&mut self, repetition: &Repetition, from: Parse, found: &mut Vec<Parse>) {
         let mut tried = Vec::new(self.alloc);
@@ -387,7 +397,8 @@ impl<'a> Parser<'a> {
         self.verdict.note("parses", "count");
     }
 
-    /// Puts the choices after each further turn uppermost, those of an earlier parse of it above those of a later one.
+    /// Puts the choices after each further turn uppermost, those of an earlier parse of it above
+    /// those of a later one.
     #[cycle(parse)]
     fn take_turn(
         &mut self,

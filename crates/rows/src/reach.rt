@@ -2,15 +2,24 @@
 
 use crate::engines::Engines;
 use crate::inputs::input;
-use crate::row::Row;
-use crate::slots::Asker;
+use crate::row::{Pair, Row};
+use crate::slots::{Asker, Engine, Question, answer_of};
 use api_meta::regex::Regex;
-use api_pikevm::reach::search_reach;
-use api_pikevm::vm::PikeVM;
 use rc_text::cursor::Cursor;
 use rc_text::types::Match;
 
-/// Where the row tells of a reach, each regex and the `PikeVM` tell one within it, of this match, and each regex one of its groups.
+/// What is wanted of a reach.
+#[derive(Clone, Copy)]
+struct Wanted<'w, 'a> {
+    row: &'w Row<'a>,
+    /// The least and the greatest number of bytes.
+    bounds: Pair,
+    /// The match that they settle.
+    found: Option<Match>,
+}
+
+/// Where the row tells of a reach, each regex and the `PikeVM` tell one within it, of this match,
+/// and each regex one of its groups.
 pub fn reaches<C: Cursor + Copy + Drop>(
     asker: &mut Asker,
     engines: &Engines,
@@ -18,88 +27,56 @@ pub fn reaches<C: Cursor + Copy + Drop>(
     found: &Option<Match>,
     cursor: C,
 ) {
-    groups_reach(asker, &engines.regex, row, found, cursor);
-    groups_reach(asker, &engines.unfiltered, row, found, cursor);
-    groups_reach(asker, &engines.tabled, row, found, cursor);
-    reach(asker, &engines.regex, "regex", row, found, cursor);
-    reach(asker, &engines.unfiltered, "unfiltered", row, found, cursor);
-    reach(asker, &engines.tabled, "tabled", row, found, cursor);
-    vm_reach(asker, &engines.vm, row, found, cursor);
+    let Some(bounds) = row.reach else {
+        return;
+    };
+    let wanted = Wanted {
+        row,
+        bounds,
+        found: *found,
+    };
+    both(asker, &engines.regexes.plain, "regex", &wanted, cursor);
+    both(
+        asker,
+        &engines.regexes.unfiltered,
+        "unfiltered",
+        &wanted,
+        cursor,
+    );
+    both(asker, &engines.regexes.tabled, "tabled", &wanted, cursor);
+    reach(
+        asker,
+        &engines.vm,
+        "PikeVM",
+        Question::Reach,
+        &wanted,
+        cursor,
+    );
 }
 
-/// Where the row tells of a reach, the regex finds this match, and tells a reach within the row's.
-fn reach<C: Cursor + Drop>(
+/// The regex tells a reach within the row's, of the match and of its groups.
+fn both<C: Cursor + Copy + Drop>(
     asker: &mut Asker,
     regex: &Regex,
     by: &'static str,
-    row: &Row,
-    found: &Option<Match>,
-    mut cursor: C,
+    wanted: &Wanted,
+    cursor: C,
 ) {
-    let Some((least, most)) = row.reach else {
-        return;
-    };
-    match regex.create_cache(asker.alloc) {
-        Ok(mut cache) => {
-            let mut input = input(row, &mut cursor);
-            let told = regex.search_reach_with(&mut cache, &mut input);
-            drop(cache);
-            let is_told = told.found == *found && least <= told.reach && told.reach <= most;
-            asker.verdict.expect(is_told, by, "reach");
-        }
-        Err(_) => asker.verdict.note("row", "memory"),
-    }
+    reach(asker, regex, by, Question::Reach, wanted, cursor);
+    reach(asker, regex, by, Question::GroupsReach, wanted, cursor);
 }
 
-/// Where the row tells of a reach, the regex finds this match with its groups, and tells a reach within the row's.
-fn groups_reach<C: Cursor + Drop>(
+/// The engine finds the match, and tells a reach within the row's.
+fn reach<E: Engine, C: Cursor + Drop>(
     asker: &mut Asker,
-    regex: &Regex,
-    row: &Row,
-    found: &Option<Match>,
+    engine: &E,
+    by: &'static str,
+    question: Question,
+    wanted: &Wanted,
     mut cursor: C,
 ) {
-    let Some((least, most)) = row.reach else {
-        return;
-    };
-    match regex.create_cache(asker.alloc) {
-        Ok(mut cache) => {
-            match regex.create_captures(asker.alloc) {
-                Ok(mut caps) => {
-                    let mut input = input(row, &mut cursor);
-                    let told = regex.search_captures_reach_with(&mut cache, &mut input, &mut caps);
-                    let is_told = caps.get_match() == *found && least <= told && told <= most;
-                    asker.verdict.expect(is_told, "regex", "reach of groups");
-                    drop(caps);
-                }
-                Err(_) => asker.verdict.note("row", "memory"),
-            }
-            drop(cache);
-        }
-        Err(_) => asker.verdict.note("row", "memory"),
-    }
-}
-
-/// Where the row tells of a reach, the `PikeVM` finds this match, and tells a reach within the
-/// row's.
-fn vm_reach<C: Cursor + Drop>(
-    asker: &mut Asker,
-    vm: &PikeVM,
-    row: &Row,
-    found: &Option<Match>,
-    mut cursor: C,
-) {
-    let Some((least, most)) = row.reach else {
-        return;
-    };
-    match vm.create_cache(asker.alloc) {
-        Ok(mut cache) => {
-            let mut input = input(row, &mut cursor);
-            let told = search_reach(vm, &mut cache, &mut input);
-            drop(cache);
-            let is_told = told.found == *found && least <= told.reach && told.reach <= most;
-            asker.verdict.expect(is_told, "PikeVM", "reach");
-        }
-        Err(_) => asker.verdict.note("row", "memory"),
-    }
+    let mut input = input(wanted.row, &mut cursor);
+    let told = answer_of(asker, engine, question, &mut input).told;
+    let is_told = told.is_of(&wanted.found) && told.is_settled_by(wanted.bounds);
+    asker.verdict.expect(is_told, by, "reach");
 }

@@ -61,7 +61,8 @@ pub struct Row<'a> {
     pub anchored: Anchored,
     /// What is wanted.
     pub want: Want<'a>,
-    /// The number that stands before the spans: of the first match's pattern, or of the pieces at most.
+    /// The number that stands before the spans: of the first match's pattern, or of the pieces at
+    /// most.
     pub number: Option<usize>,
     /// The spans that are wanted. `None` is a group that took no part.
     pub spans: Vec<Option<Pair>>,
@@ -75,7 +76,8 @@ pub struct Row<'a> {
     pub early: usize,
     /// The text, as it stands.
     escaped: &'a str,
-    /// How many bytes stand before the text, each `a` where its offset has an even number of binary ones, else `b`.
+    /// How many bytes stand before the text, each `a` where its offset has an even number of binary
+    /// ones, else `b`.
     parities: usize,
 }
 
@@ -91,7 +93,10 @@ impl<'a> Row<'a> {
         put_unescaped(row.escaped, &mut row.text, &mut verdict);
         match verdict.result() {
             Ok(()) => Ok(row),
-            Err(fault) => Err(fault),
+            Err(fault) => {
+                drop(row);
+                Err(fault)
+            }
         }
     }
 
@@ -143,7 +148,7 @@ impl<'a> Row<'a> {
             "pieces" => self.wants(Want::Pieces, value, verdict),
             "which" => {
                 self.wants(Want::Which, "none", verdict);
-                put_numbers(value, &mut self.members, verdict);
+                put_words(value, &mut self.members, verdict);
             }
             "refused" => self.wants(Want::Refused(value), "none", verdict),
             "alike" => self.wants(Want::Alike, "none", verdict),
@@ -158,10 +163,10 @@ impl<'a> Row<'a> {
         verdict.expect(matches!(self.want, Want::Nothing), "unread", "want");
         self.want = want;
         match value.split_once(": ") {
-            None => put_spans(value, &mut self.spans, verdict),
+            None => put_words(value, &mut self.spans, verdict),
             Some((before, after)) => {
                 self.number = Some(number(before, verdict));
-                put_spans(after, &mut self.spans, verdict);
+                put_words(after, &mut self.spans, verdict);
             }
         }
     }
@@ -210,34 +215,37 @@ fn quitting(word: &str, verdict: &mut Verdict) -> Quits {
     }
 }
 
-/// Adds spans between blanks, `.` for one that isn't there, or `none`.
-fn put_spans(text: &str, spans: &mut Vec<Option<Pair>>, verdict: &mut Verdict) {
-    if text == "none" {
-        return;
-    }
-    for word in text.split(' ') {
-        let span = span(word, verdict);
-        verdict.push(spans, span);
-    }
+/// What a word of a list says.
+trait Word {
+    /// Reads the word.
+    fn read(word: &str, verdict: &mut Verdict) -> Self;
 }
 
-/// Adds numbers between blanks, or `none`.
-fn put_numbers(text: &str, numbers: &mut Vec<usize>, verdict: &mut Verdict) {
-    if text == "none" {
-        return;
-    }
-    for word in text.split(' ') {
-        let number = number(word, verdict);
-        verdict.push(numbers, number);
+impl Word for usize {
+    fn read(word: &str, verdict: &mut Verdict) -> usize {
+        number(word, verdict)
     }
 }
 
 /// A pair, or `.` for one that isn't there.
-fn span(word: &str, verdict: &mut Verdict) -> Option<Pair> {
-    if word == "." {
-        None
-    } else {
-        pair(word, verdict)
+impl Word for Option<Pair> {
+    fn read(word: &str, verdict: &mut Verdict) -> Option<Pair> {
+        if word == "." {
+            None
+        } else {
+            pair(word, verdict)
+        }
+    }
+}
+
+/// Adds what the words between blanks say, or nothing for `none`.
+fn put_words<T: Word + Drop>(text: &str, list: &mut Vec<T>, verdict: &mut Verdict) {
+    if text == "none" {
+        return;
+    }
+    for word in text.split(' ') {
+        let item = T::read(word, verdict);
+        verdict.push(list, item);
     }
 }
 
@@ -298,7 +306,8 @@ fn put_parities(count: usize, text: &mut Vec<u8>, verdict: &mut Verdict) {
     }
 }
 
-/// Adds the bytes of a text, where `\n`, `\r`, `\t`, `\\` and `\x00` to `\xFF` stand for one byte each.
+/// Adds the bytes of a text, where `\n`, `\r`, `\t`, `\\` and `\x00` to `\xFF` stand for one byte
+/// each.
 fn put_unescaped(escaped: &str, text: &mut Vec<u8>, verdict: &mut Verdict) {
     let mut state = State::Plain;
     for byte in escaped.as_bytes() {

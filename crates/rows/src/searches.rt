@@ -3,7 +3,7 @@ ghost use Rattle.rc_captures.specs.Captures.{IsCapturesFor};
 ghost use Rattle.api_meta.specs.Views.{regex_names};
 
 use crate::calls::{Call, List, Spans, put_groups_of, put_pieces, spans_by, told_by};
-use crate::engines::Engines;
+use crate::engines::{Engines, Regexes};
 use crate::inputs::{Request, end_at, input, pair_of, start_at};
 use crate::reach::reaches;
 use crate::row::{Pair, Quits, Row, Want};
@@ -25,7 +25,8 @@ struct Wanted<'w, 'a> {
     passes_over: bool,
 }
 
-/// The first match is the one wanted, by each engine: in a cache that is made once, and in one that is made for the call.
+/// The first match is the one wanted, by each engine: in a cache that is made once, and in one that
+/// is made for the call.
 pub fn first<C: Cursor + Copy + Drop>(
     asker: &mut Asker,
     engines: &mut Engines,
@@ -42,16 +43,16 @@ pub fn first<C: Cursor + Copy + Drop>(
         .verdict
         .expect(is_wanted, "regex", "search_captures_with");
     reaches(asker, engines, row, &wanted.found, cursor);
-    by_calls(asker, engines, &wanted, cursor);
-    by_value(asker, &engines.regex, &wanted, cursor);
-    early(asker, &engines.regex, row, cursor);
-    early(asker, &engines.unfiltered, row, cursor);
-    early(asker, &engines.tabled, row, cursor);
-    if let Some(dfa) = &mut engines.dfa {
+    by_calls(asker, &engines.regexes, &wanted, cursor);
+    by_value(asker, &engines.regexes.plain, &wanted, cursor);
+    early(asker, &engines.regexes.plain, row, cursor);
+    early(asker, &engines.regexes.unfiltered, row, cursor);
+    early(asker, &engines.regexes.tabled, row, cursor);
+    if let Some(dfa) = &mut engines.tables.dfa {
         by_table(asker, dfa, &wanted, cursor);
     }
-    by_table(asker, &mut engines.hybrid, &wanted, cursor);
-    by_table(asker, &mut engines.small, &wanted, cursor);
+    by_table(asker, &mut engines.tables.hybrid, &wanted, cursor);
+    by_table(asker, &mut engines.tables.small, &wanted, cursor);
 }
 
 /// The match is the one that the row wants.
@@ -89,11 +90,11 @@ const CALLS: [(Call, &str); 5] = [
 /// The calls of the regexes that make a cache of their own tell of the match.
 fn by_calls<C: Cursor + Copy + Drop>(
     asker: &mut Asker,
-    engines: &Engines,
+    regexes: &Regexes,
     wanted: &Wanted,
     cursor: C,
 ) {
-    let regex = &engines.regex;
+    let regex = &regexes.plain;
     for one in &CALLS {
         let (call, what) = *one;
         lent(asker, regex, call, "regex", what, wanted, cursor);
@@ -101,14 +102,14 @@ fn by_calls<C: Cursor + Copy + Drop>(
     let (call, what) = CALLS[0];
     lent(
         asker,
-        &engines.unfiltered,
+        &regexes.unfiltered,
         call,
         "unfiltered",
         what,
         wanted,
         cursor,
     );
-    lent(asker, &engines.tabled, call, "tabled", what, wanted, cursor);
+    lent(asker, &regexes.tabled, call, "tabled", what, wanted, cursor);
 }
 
 /// The call tells of the match over the cursor, which is lent.
@@ -156,7 +157,8 @@ fn is_as_wanted(row: &Row, told: &Told) -> bool {
     told.is_match() != row.spans.is_empty()
 }
 
-/// An engine that searches by tables finds the match, its end and its start, or stops where the row says so.
+/// An engine that searches by tables finds the match, its end and its start, or stops where the row
+/// says so.
 fn by_table<E: Tables, C: Cursor + Copy + Drop>(
     asker: &mut Asker,
     engine: &mut E,
@@ -202,7 +204,8 @@ fn early_by_table<E: Tables, C: Cursor + Drop>(
     tells(asker, engine, Seek::End, wanted, &mut input);
 }
 
-/// What the engine tells is right, or it stops where the row says so. Tells whether it finds anything.
+/// What the engine tells is right, or it stops where the row says so. Tells whether it finds
+/// anything.
 fn tells<E: Tables, C: Cursor>(
     asker: &mut Asker,
     engine: &mut E,
@@ -284,8 +287,9 @@ impl Wanted<'_, '_> {
         }
     }
 
-    /// The match begins here, or with the earliest flag on another that ends there. Where matches may be passed over, one that was may begin
-    /// below it and end where it does, and none may be told that ends inside a character.
+    /// The match begins here, or with the earliest flag on another that ends there. Where matches
+    /// may be passed over, one that was may begin below it and end where it does, and none may be
+    /// told that ends inside a character.
     fn is_start(&self, is_early: bool, half: &Option<HalfMatch>) -> bool {
         match (half, &self.found) {
             (Some(half), Some(found)) => {
@@ -322,12 +326,12 @@ pub fn captured<C: Cursor + Copy + Drop>(
     cursor: C,
 ) {
     let list = List::Groups;
-    lists(asker, engines, list, "captures", row, cursor);
-    again(asker, &engines.regex, row, cursor);
+    lists(asker, &engines.regexes, list, "captures", row, cursor);
+    again(asker, &engines.regexes.plain, row, cursor);
 }
 
-/// The groups that a search fills in where those of the same match stand are those wanted, over the same cursor, wherever the search before
-/// left it.
+/// The groups that a search fills in where those of the same match stand are those wanted, over the
+/// same cursor, wherever the search before left it.
 fn again<C: Cursor + Drop>(asker: &mut Asker, regex: &Regex, row: &Row, mut cursor: C) {
     match regex.captures(asker.alloc, input(row, &mut cursor)) {
         Ok(mut captures) => {
@@ -355,8 +359,8 @@ fn filled_again<C: Cursor + Drop>(
     are_wanted(asker, row, &spans, "regex", "search_captures");
 }
 
-/// All matches are those wanted: those of `find_iter`, with and without prefilters, those of `captures_iter`, and those that each
-/// engine finds one after another.
+/// All matches are those wanted: those of `find_iter`, with and without prefilters, those of
+/// `captures_iter`, and those that each engine finds one after another.
 pub fn all<C: Cursor + Copy + Drop>(
     asker: &mut Asker,
     engines: &mut Engines,
@@ -364,15 +368,22 @@ pub fn all<C: Cursor + Copy + Drop>(
     cursor: C,
 ) {
     first(asker, engines, row, cursor);
-    lists(asker, engines, List::Matches, "find_iter", row, cursor);
-    if let Some(dfa) = &engines.dfa {
+    lists(
+        asker,
+        &engines.regexes,
+        List::Matches,
+        "find_iter",
+        row,
+        cursor,
+    );
+    if let Some(dfa) = &engines.tables.dfa {
         list_by_table(asker, dfa, row, cursor);
     }
-    list_by_table(asker, &engines.hybrid, row, cursor);
-    list_by_table(asker, &engines.small, row, cursor);
+    list_by_table(asker, &engines.tables.hybrid, row, cursor);
+    list_by_table(asker, &engines.tables.small, row, cursor);
     listed(
         asker,
-        &engines.regex,
+        &engines.regexes.plain,
         List::Captures,
         "regex",
         "captures_iter",
@@ -385,23 +396,23 @@ pub fn all<C: Cursor + Copy + Drop>(
 /// The spans that the regexes give by these calls are those wanted.
 fn lists<C: Cursor + Copy + Drop>(
     asker: &mut Asker,
-    engines: &Engines,
+    regexes: &Regexes,
     list: List,
     what: &'static str,
     row: &Row,
     cursor: C,
 ) {
-    listed(asker, &engines.regex, list, "regex", what, row, cursor);
+    listed(asker, &regexes.plain, list, "regex", what, row, cursor);
     listed(
         asker,
-        &engines.unfiltered,
+        &regexes.unfiltered,
         list,
         "unfiltered",
         what,
         row,
         cursor,
     );
-    listed(asker, &engines.tabled, list, "tabled", what, row, cursor);
+    listed(asker, &regexes.tabled, list, "tabled", what, row, cursor);
 }
 
 /// The spans that a regex gives over the cursor, which is lent, are those wanted.
@@ -450,8 +461,8 @@ fn is_listed(asker: &mut Asker, kind: Kind, row: &Row, spans: &Spans) -> bool {
     }
 }
 
-/// The matches that each engine finds one after another are those wanted. Each search starts where the match before ended. At most one
-/// more than are wanted is looked for.
+/// The matches that each engine finds one after another are those wanted. Each search starts where
+/// the match before ended. At most one more than are wanted is looked for.
 fn in_turn<C: Cursor + Drop>(asker: &mut Asker, engines: &Engines, row: &Row, mut cursor: C) {
     let mut input = input(row, &mut cursor);
     let walks = row.settings.walker;
@@ -480,7 +491,8 @@ fn go_on<C: Cursor>(input: &mut Input<C>, span: Option<Pair>) -> Option<usize> {
     }
 }
 
-/// The next match. One that is empty and stands where the last ended gives way to the answer from a byte later.
+/// The next match. One that is empty and stands where the last ended gives way to the answer from a
+/// byte later.
 fn next_match<C: Cursor>(
     asker: &mut Asker,
     engines: &Engines,
@@ -501,8 +513,8 @@ fn next_match<C: Cursor>(
 /// The pieces between matches are those wanted: of the regexes, and over the cursor itself.
 pub fn pieces<C: Cursor + Copy + Drop>(asker: &mut Asker, engines: &Engines, row: &Row, cursor: C) {
     let list = List::Pieces(row.number);
-    lists(asker, engines, list, "pieces", row, cursor);
-    pieces_by_value(asker, &engines.regex, row, cursor);
+    lists(asker, &engines.regexes, list, "pieces", row, cursor);
+    pieces_by_value(asker, &engines.regexes.plain, row, cursor);
 }
 
 /// The pieces that a regex gives over the cursor itself are those wanted.

@@ -180,21 +180,20 @@ impl<'a> Settings<'a> {
     pub fn regex(&self, alloc: Global, patterns: &[&str], asked: Asked) -> Result<Regex, BuildError>
         requires { length patterns.now ≤ most_patterns }
     {
-        match self.with_needle(alloc, self.config(asked)) {
-            Ok(config) => {
-                let mut builder = Regex::builder();
-                builder.syntax(self.syntax).configure(config);
-                let built = builder.build_many(alloc, patterns);
-                drop(builder);
-                built
-            }
-            Err(_) => Err(BuildError::Memory),
-        }
+        let needle = self.needle(alloc)?;
+        let mut builder = Regex::builder();
+        builder
+            .syntax(self.syntax)
+            .configure(self.config(asked, needle));
+        let built = builder.build_many(alloc, patterns);
+        drop(builder);
+        built
     }
 
-    /// The settings of a regex, but for the caller's prefilter.
-    fn config(&self, asked: Asked) -> Config {
+    /// The settings of a regex with this prefilter, where there is one.
+    fn config(&self, asked: Asked, needle: Option<Prefilter>) -> Config {
         let config = Config::new()
+            .prefilter(needle)
             .match_kind(self.kind)
             .utf8_empty(self.utf8_empty)
             .which_captures(self.which)
@@ -213,17 +212,13 @@ impl<'a> Settings<'a> {
         }
     }
 
-    /// These settings, with the prefilter of the needle, where there is one.
-    fn with_needle(&self, alloc: Global, config: Config) -> Result<Config, AllocError> {
+    /// The prefilter of the needle, where there is one.
+    fn needle(&self, alloc: Global) -> Result<Option<Prefilter>, AllocError> {
         match self.needle {
-            None => Ok(config),
             Some(needle) => {
-                let needles = [needle.as_bytes()];
-                match Prefilter::new(alloc, MatchKind::LeftmostFirst, &needles) {
-                    Ok(prefilter) => Ok(config.prefilter(prefilter)),
-                    Err(error) => Err(error),
-                }
+                Prefilter::new(alloc, MatchKind::LeftmostFirst, &[needle.as_bytes()])
             }
+            None => Ok(None),
         }
     }
 
@@ -270,7 +265,8 @@ impl<'a> Settings<'a> {
         built
     }
 
-    /// The hybrid of these patterns, with this capacity of a cache, or with the one that it has by default.
+    /// The hybrid of these patterns, with this capacity of a cache, or with the one that it has by
+    /// default.
     pub fn hybrid(
         &self,
         alloc: Global,

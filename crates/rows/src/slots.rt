@@ -1,4 +1,5 @@
-//! Engines that search in a cache and fill slots: what each answers to questions, and whether all answer alike.
+//! Engines that search in a cache and fill slots: what each answers to questions, and whether all
+//! answer alike.
 
 ghost use Rattle.std.specs.Prelude.{◌≤◌, IfOk, length};
 ghost use Rattle.api_meta.specs.Caches as meta;
@@ -13,6 +14,7 @@ use crate::told::Told;
 use api_meta::cache;
 use api_meta::regex::Regex;
 use api_pikevm::cache::Cache;
+use api_pikevm::reach::search_reach;
 use api_pikevm::search;
 use api_pikevm::vm::PikeVM;
 use oracle_walker::walker;
@@ -36,6 +38,10 @@ pub enum Question {
     HalfSlots,
     /// The captures of the match.
     Captures,
+    /// The match, and how many bytes settle it.
+    Reach,
+    /// The match, and how many bytes settle its groups.
+    GroupsReach,
 }
 
 /// What an engine answers: of the match, and its slots.
@@ -84,7 +90,7 @@ impl Question {
     fn has_same(self, wanted: &[Option<usize>], slots: &[Option<usize>]) -> bool {
         match self {
             Question::Slots | Question::Captures => wanted == slots,
-            Question::Match | Question::End | Question::HalfSlots => wanted.starts_with(slots),
+            _ => wanted.starts_with(slots),
         }
     }
 }
@@ -156,6 +162,10 @@ impl Engine for Regex {
         match question {
             Question::Match => asker.plain(Told::Match(self.search_with(cache, input))),
             Question::End => asker.plain(Told::Half(self.search_half_with(cache, input))),
+            Question::Reach => {
+                let told = self.search_reach_with(cache, input);
+                asker.plain(Told::Reached(told.found, told.reach))
+            }
             Question::Slots | Question::HalfSlots => {
                 let len = question.count_of(self.group_info().slot_len());
                 let mut slots = asker.slots(len);
@@ -169,6 +179,15 @@ impl Engine for Regex {
                     let answer = asker.held_by(&captures);
                     drop(captures);
                     answer
+                }
+                Err(_) => asker.refused(),
+            },
+            Question::GroupsReach => match self.create_captures(asker.alloc) {
+                Ok(mut captures) => {
+                    let reach = self.search_captures_reach_with(cache, input, &mut captures);
+                    let found = captures.get_match();
+                    drop(captures);
+                    asker.plain(Told::Reached(found, reach))
                 }
                 Err(_) => asker.refused(),
             },
@@ -196,6 +215,10 @@ impl Engine for PikeVM {
             Question::Match | Question::End => {
                 asker.plain(Told::IsMatch(search::is_match(self, cache, input)))
             }
+            Question::Reach => {
+                let told = search_reach(self, cache, input);
+                asker.plain(Told::Reached(told.found, told.reach))
+            }
             Question::Slots | Question::HalfSlots => {
                 let len = question.count_of(self.get_group_info().slot_len());
                 let mut slots = asker.slots(len);
@@ -203,7 +226,7 @@ impl Engine for PikeVM {
                 let told = Told::Pattern(pattern);
                 Answer { told, slots }
             }
-            Question::Captures => match self.create_captures(asker.alloc) {
+            Question::Captures | Question::GroupsReach => match self.create_captures(asker.alloc) {
                 Ok(mut captures) => {
                     search::search(self, cache, input, &mut captures);
                     let answer = asker.held_by(&captures);
@@ -240,12 +263,12 @@ impl<'p> Engine for Walker<'p> {
         input: &mut Input<C>,
     ) -> Answer {
         match question {
-            Question::Match | Question::End => {
+            Question::Match | Question::End | Question::Reach => {
                 let found = walker::find(asker.alloc, input, self.program);
                 let found = asker.verdict.made(found, None);
                 asker.plain(Told::Match(found))
             }
-            Question::Slots | Question::HalfSlots | Question::Captures => {
+            _ => {
                 let mut slots = asker.slots(question.count_of(self.slot_len));
                 let pattern = walker::find_slots(
                     asker.alloc,
@@ -290,8 +313,15 @@ pub fn found<C: Cursor>(
     input: &mut Input<C>,
 ) -> Option<Match> {
     let before = Request::of(input);
-    let wanted = answer_of(asker, &engines.regex, Question::Captures, input);
-    agrees(asker, &engines.regex, "regex", &REGEX, &wanted, input);
+    let wanted = answer_of(asker, &engines.regexes.plain, Question::Captures, input);
+    agrees(
+        asker,
+        &engines.regexes.plain,
+        "regex",
+        &REGEX,
+        &wanted,
+        input,
+    );
     agrees(asker, &engines.vm, "PikeVM", &VM, &wanted, input);
     if walks {
         by_walker(asker, engines, &wanted, input);

@@ -18,7 +18,8 @@ pub fn all(asker: &mut Asker, engines: &Engines, row: &Row) {
     if row.slice.is_some() || row.span.is_some() || row.anchored != Anchored::No {
         return;
     }
-    for regex in [&engines.regex, &engines.unfiltered, &engines.tabled] {
+    let regexes = &engines.regexes;
+    for regex in [&regexes.plain, &regexes.unfiltered, &regexes.tabled] {
         stream(asker, regex, row, 1);
         stream(asker, regex, row, 3);
     }
@@ -50,8 +51,8 @@ fn stream(asker: &mut Asker, regex: &Regex, row: &Row, len: usize)
     }
 }
 
-/// Feeds the text in chunks of so many bytes, or of a 32nd of it if that is more, and adds up to one
-/// match after each.
+/// Feeds the text in chunks of so many bytes, or of a 32nd of it if that is more, and adds up to
+/// one match after each.
 fn feed(
     searcher: &mut StreamSearcher,
     row: &Row,

@@ -1,4 +1,5 @@
-//! The engines that search by tables of states: tables that are made at the build, and tables of states that are made as they are met.
+//! The engines that search by tables of states: tables that are made at the build, and tables of
+//! states that are made as they are met.
 
 ghost use Rattle.std.specs.Prelude.{ℕ};
 ghost use Rattle.api_hybrid.specs.Caches.{IsCacheFor, capacity_of};

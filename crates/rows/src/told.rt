@@ -1,5 +1,6 @@
 //! What searches tell of a match, and whether that is one match.
 
+use crate::row::Pair;
 use rc_text::types::{HalfMatch, Match, PatternID};
 
 /// What a search tells of a match.
@@ -13,6 +14,8 @@ pub enum Told {
     Half(Option<HalfMatch>),
     /// All of it.
     Match(Option<Match>),
+    /// All of it, and how many bytes settle it, or its groups.
+    Reached(Option<Match>, usize),
 }
 
 impl Told {
@@ -22,15 +25,23 @@ impl Told {
             Told::IsMatch(is_match) => *is_match,
             Told::Pattern(pattern) => pattern.is_some(),
             Told::Half(half) => half.is_some(),
-            Told::Match(found) => found.is_some(),
+            Told::Match(found) | Told::Reached(found, _) => found.is_some(),
         }
     }
 
     /// The match, where it tells all of it.
     pub fn found(&self) -> Option<Match> {
         match self {
-            Told::Match(found) => *found,
+            Told::Match(found) | Told::Reached(found, _) => *found,
             _ => None,
+        }
+    }
+
+    /// It tells that so many bytes settle the match, from the first number up to the second.
+    pub fn is_settled_by(&self, (least, most): Pair) -> bool {
+        match self {
+            Told::Reached(_, reach) => least <= *reach && *reach <= most,
+            _ => false,
         }
     }
 
@@ -40,7 +51,7 @@ impl Told {
             Told::IsMatch(is_match) => *is_match == found.is_some(),
             Told::Pattern(pattern) => *pattern == pattern_of(found),
             Told::Half(half) => *half == end_of(found),
-            Told::Match(other) => other == found,
+            Told::Match(other) | Told::Reached(other, _) => other == found,
         }
     }
 }

@@ -13,9 +13,15 @@ use std::alloc::{AllocError, Global};
 
 /// Each regex tells of the row's patterns alone that they have a match.
 pub fn which<C: Cursor + Copy + Drop>(asker: &mut Asker, engines: &Engines, row: &Row, cursor: C) {
-    which_by(asker, &engines.regex, "regex", row, cursor);
-    which_by(asker, &engines.unfiltered, "unfiltered", row, cursor);
-    which_by(asker, &engines.tabled, "tabled", row, cursor);
+    which_by(asker, &engines.regexes.plain, "regex", row, cursor);
+    which_by(
+        asker,
+        &engines.regexes.unfiltered,
+        "unfiltered",
+        row,
+        cursor,
+    );
+    which_by(asker, &engines.regexes.tabled, "tabled", row, cursor);
 }
 
 /// The regex tells of the row's patterns alone that they have a match.
