@@ -17,7 +17,7 @@ use Rattle.stream_search.specs.Streams.{MayBecome}
 use Rattle.stream_search.proofs.Onward.{onward}
 
 -- a search of the longer content goes on from one of its beginning
-goes : (s : Search) (c more : List ℕ) (at : ℕ) → GoesOnFrom (from_on (over_content s c) at) (from_on (over_content s (c ++ more)) at)
+pub goes : (s : Search) (c more : List ℕ) (at : ℕ) → GoesOnFrom (from_on (over_content s c) at) (from_on (over_content s (c ++ more)) at)
 goes s c more at =
     let same = take-append_seam c more ∙ sym (take-length c) in
     let whole = ap (take (length c)) (take-length (c ++ more)) ∙ same ∙ sym (ap (take (length c)) (take-length c)) in (

@@ -18,6 +18,7 @@ use Rattle.api_meta.specs.declared.partial.Partial.TheVariants.{Final, From}
 use Rattle.api_meta.specs.declared.regex.Regex.{Regex}
 use Rattle.regex_cursor.specs.Output.{whole}
 use Rattle.stream_search.specs.Searches.{LiesIn, seeks}
+use Rattle.stream_search.specs.Stepping.{GoesTo}
 use Rattle.stream_search.specs.Streams.{IsTold, MayBecome}
 use Rattle.stream_search.proofs.Contents.{final_there, onward_there}
 use Rattle.stream_search.proofs.Nexts.{lies}
@@ -25,7 +26,7 @@ use Rattle.stream_search.proofs.Nexts.{lies}
 -- an input over the bytes, as it is made
 pub record IsOver (bytes : List ℕ) (i : Searched) : Type 0 where
   pub content : i.content ≡ bytes
-  pub end : i.span.end ≡ length bytes
+  pub end : length bytes ≤ i.span.end
   pub slice_start : i.slice.start ≡ 0
   pub slice_end : i.slice.end ≡ 18446744073709551615
   pub anchored : i.anchored ≡ No
@@ -34,10 +35,11 @@ pub seen : (q : Sought) (i t : Searched) (bytes : List ℕ) (at : ℕ) → IsOve
     t.span.start ≡ at → t.span.end ≡ i.span.end → t.slice ≡ i.slice → search_for q t ≡ from_on (over_content (search_for q (whole [])) bytes) at
 seen q i t bytes at over fits keeps start end slice =
     let l = ap length over.content in
+    let long = over.end in
     let a : min 18446744073709551615 (length bytes) ≡ length bytes = omega (arith, fits, l) in
-    let b : min (min (length bytes) 18446744073709551615) (length bytes) ≡ length bytes = omega (arith, fits, l) in
+    let b : min (min i.span.end 18446744073709551615) (length bytes) ≡ length bytes = omega (arith, fits, l, long) in
     let x = from_on (over_content (search_for q (whole [])) bytes) at in
-    rw (keeps.content ∙ over.content, keeps.anchored ∙ over.anchored, start, end ∙ over.end, slice, over.slice_start, over.slice_end)
+    rw (keeps.content ∙ over.content, keeps.anchored ∙ over.anchored, start, end, slice, over.slice_start, over.slice_end)
     (ap₂ (λ e h. record x { text = record x.text { slice_end = e }; hi = h }) a b)
 
 module _ (kind : MatchKind) (s : Search) where
@@ -81,6 +83,15 @@ module _ (r : Regex) (t : Searched) (bytes : List ℕ) (at : ℕ) (same : search
       (ap (λ x. found_by (regex_kind r) (seeks r) x at) (sym (append-nil bytes))
       ∙ final_there (regex_kind r) (seeks r) bytes [] at m (partial_there (Final m) told))
   lies_open (From k) inside onward told =
+      let a = ap (λ (x : Search). x.lo) same in
+      let b = ap (λ (x : Search). x.hi) same in
+      let low = onward.0 in
+      let high = onward.1 in
+      (omega (arith, a, low), omega (arith, a, b, high, inside))
+
+  pub goes_open : (p : Partial) → at ≤ length bytes → IsOnward t p → GoesTo at (length bytes) p
+  goes_open (Final m) inside onward = tt
+  goes_open (From k) inside onward =
       let a = ap (λ (x : Search). x.lo) same in
       let b = ap (λ (x : Search). x.hi) same in
       let low = onward.0 in

@@ -48,6 +48,11 @@ pub record IsPlaced (gone len from : ℕ) (last : Option ℕ) : Type 0 where
   pub inside : from ≤ gone + len + 1
   pub ended : EndedBy last from
 
+-- It keeps the rest of the bytes that it was fed.
+pub record HoldsRest (fed : List ℕ) (s : Streaming) : Type 0 where
+  pub kept_is : s.kept ≡ drop s.gone fed
+  pub inside : s.gone ≤ length fed
+
 -- Each content that the stream may become has this match from where the search goes on.
 abbrev pub Finds : Streaming → List ℕ → Option Found → Type 0
 Finds s fed o = (content : List ℕ) → MayBecome s.is_finished fed content →

@@ -2,15 +2,16 @@
 ghost use Rattle.std.specs.Prelude.{◌≡◌, ◌+◌, ◌<◌, ◌≤◌, ◌^◌, drop, false, length, vec_len};
 ghost use Rattle.rc_program.specs.Matches.{begin_of, end_of, is_again};
 ghost use Rattle.rc_reach.specs.Edits.{match_further};
+ghost use Rattle.rc_text.specs.Text.{end_by_total};
 ghost use Rattle.api_meta.specs.Partials.{partial_of};
 ghost use Rattle.api_meta.specs.Views.{regex_kind};
 ghost use Rattle.stream_search.specs.Searches.{IsFrom, IsPast, LiesIn, seeks};
 ghost use Rattle.stream_search.specs.Streams.{IsTold};
 
 use rc_text::input::content_fits;
-use regex_cursor::Input;
 use regex_cursor::engines::meta::{Finder, Partial};
 use regex_cursor::types::{Match, Span};
+use regex_cursor::{Cursor, Input};
 
 /// Returns what the kept bytes tell of a search from `at` on. If no more bytes follow, that is all.
 pub fn search_kept(finder: &mut Finder, kept: &[u8], at: usize, is_finished: bool) -> Partial
@@ -31,13 +32,13 @@ pub fn search_kept(finder: &mut Finder, kept: &[u8], at: usize, is_finished: boo
     }
 }
 
-/// Returns the input over the kept bytes, with a span that begins at `at`.
-fn input_from(kept: &[u8], at: usize) -> Input<&[u8]>
-    requires inside { at ≤ length kept.now + 1 }
-    ensures search { IsFrom kept.now at result }
+/// Returns the input over the cursor's content, with a span that begins at `at`.
+pub fn input_from<C: Cursor>(cursor: C, at: usize) -> Input<C>
+    requires inside { at ≤ end_by_total (C.total cursor) + 1 }
+    ensures search { IsFrom (C.content cursor) at result }
     ensures earliest { result.earliest ≡ false }
 {
-    let mut input = Input::new(kept);
+    let mut input = Input::new(cursor);
     content_fits(&input);
     input.set_start(at);
     input

@@ -1,8 +1,8 @@
 //! Stream searcher: a search of a text that comes in by chunks.
 
 use crate::error::FeedError;
-use crate::search::{is_again, moved, remove_front, search_kept};
-use regex_cursor::engines::meta::{Finder, Partial};
+use crate::search::{input_from, is_again, moved, remove_front, search_kept};
+use regex_cursor::engines::meta::{Cache, Captures, Finder, Partial};
 use regex_cursor::types::Match;
 use std::alloc::Global;
 use std::marker::Model;
@@ -51,10 +51,15 @@ impl<'r> Model for StreamSearcher<'r> {
 }
 
 impl<'r> StreamSearcher<'r> {
-    ghost use Rattle.std.specs.Prelude.{◌≡◌, ◌+◌, ◌++◌, ◌∷◌, ◌<◌, ◌≤◌, ℕ, [], IfErr, IfOk, IfSome, List, MatchOption, None, Some, length, true};
+    ghost use Rattle.std.specs.Prelude.{◌≡◌, ◌+◌, ◌-◌, ◌++◌, ◌∷◌, ◌<◌, ◌≤◌, ℕ, [], IfErr, IfOk, IfSome, IsTrue, List, MatchOption, None, Some, length, true};
     ghost use Rattle.rc_text.specs.Found.{Found};
-    ghost use Rattle.stream_search.specs.Searches.{matches_of};
-    ghost use Rattle.stream_search.specs.Searching.{Finds, IsAfter, IsRefusal, Stands, Takes, WasFed, fresh, left, let_go};
+    ghost use Rattle.rc_captures.specs.Captures.{IsCapturesFor, captures_slots, match_of};
+    ghost use Rattle.rc_reach.specs.Live.{found_by};
+    ghost use Rattle.api_meta.specs.Caches.{HasSameRoom, IsCacheFor};
+    ghost use Rattle.api_meta.specs.Views.{regex_kind, regex_names, regex_patterns, regex_settings};
+    ghost use Rattle.stream_search.specs.Groups.{AreOf, IsNext, TellsFrom, TellsNext};
+    ghost use Rattle.stream_search.specs.Searches.{matches_of, seeks};
+    ghost use Rattle.stream_search.specs.Searching.{Finds, HoldsRest, IsAfter, IsRefusal, Stands, Takes, WasFed, fresh, left, let_go};
 
     /// Returns a search of a stream of which nothing has come yet, with no limit to the bytes that
     /// it keeps. It takes no memory yet.
@@ -141,6 +146,71 @@ impl<'r> StreamSearcher<'r> {
         Some(found)
     }
 
+    /// Returns the next match as `next_match` does, and writes its groups to captures that were made
+    /// for the regex, in a cache that was made for it. The match comes once nothing that follows can
+    /// change it or its groups: with `next_match`, or up to four bytes later. It takes no memory.
+    ///
+    /// The positions in the captures count from the first byte that is kept, which is the byte
+    /// `kept_start` of the stream. So a group's bytes are those of its span in `kept`, until the
+    /// next `feed`. Without a match it isn't said what the captures hold.
+    pub fn next_captures_with(&mut self, cache: &mut Cache, caps: &mut Captures) -> Option<Match>
+        requires made { IsCacheFor (regex_patterns self.old.regex)
+            (regex_settings self.old.regex) cache.old }
+        requires for_regex { IsCapturesFor (regex_names self.old.regex) caps.old }
+        ensures cache { IsCacheFor (regex_patterns self.old.regex)
+            (regex_settings self.old.regex) cache.new }
+        ensures room { HasSameRoom cache.old cache.new }
+        ensures still_made { IsCapturesFor (regex_names self.old.regex) caps.new }
+        ensures long { length (captures_slots caps.new) ≡ length (captures_slots caps.old) }
+        ensures stays { self.new
+            ≡ record self.old { from = self.new.from; last = self.new.last } }
+        ensures onward { self.old.from ≤ self.new.from }
+        ensures lies { IfSome result (λ m. (self.old.from ≤ m.start) × (m.start ≤ m.end)
+            × (m.end ≤ self.old.gone + length self.old.kept)) }
+        ensures falls { IfSome result (λ _. left self.new < left self.old) }
+        ensures told { (fed : List ℕ) (told : List Found) → WasFed fed told self.old
+            → MatchOption result (WasFed fed told self.new)
+            (λ m. WasFed fed (told ++ m ∷ []) self.new) }
+        ensures groups { (fed : List ℕ) (told : List Found) → WasFed fed told self.old
+            → IfSome result (λ m. TellsNext self.old fed caps.new × AreOf self.old caps.new m) }
+        ensures all { (fed : List ℕ) (told : List Found) → WasFed fed told self.old
+            → self.old.is_finished ≡ true → result ≡ None
+            → told ≡ matches_of self.old.regex fed }
+    {
+        let before = self.from;
+        let found = self.seek()?;
+        if self.write_groups(cache, caps) {
+            self.last = Some(found.end());
+            self.from = found.end();
+            return Some(found);
+        }
+        self.from = before;
+        None
+    }
+
+    /// Writes the groups of the match that the kept bytes have from where the search goes on.
+    /// Returns whether nothing that follows can change them.
+    fn write_groups(&self, cache: &mut Cache, caps: &mut Captures) -> bool
+        requires made { IsCacheFor (regex_patterns self.now.regex)
+            (regex_settings self.now.regex) cache.old }
+        requires for_regex { IsCapturesFor (regex_names self.now.regex) caps.old }
+        ensures cache { IsCacheFor (regex_patterns self.now.regex)
+            (regex_settings self.now.regex) cache.new }
+        ensures room { HasSameRoom cache.old cache.new }
+        ensures still_made { IsCapturesFor (regex_names self.now.regex) caps.new }
+        ensures long { length (captures_slots caps.new) ≡ length (captures_slots caps.old) }
+        ensures groups { (fed : List ℕ) → HoldsRest fed self.now → IsTrue result
+            → TellsFrom self.now fed caps.new (λ _. self.now.from) }
+        ensures matched { (fed : List ℕ) → HoldsRest fed self.now
+            → (m : Found) → Finds self.now fed (Some m) → AreOf self.now caps.new m }
+        ensures all { self.now.is_finished ≡ true → IsTrue result }
+    {
+        let mut input = input_from(self.kept.as_slice(), self.from - self.gone);
+        let regex = self.finder.regex();
+        let reach = regex.search_captures_reach_with(cache, &mut input, caps);
+        self.is_finished || reach <= self.kept.len()
+    }
+
     /// Returns the next match, which is the last one no more. `None` means that the bytes tell none.
     fn seek(&mut self) -> Option<Match>
         ensures stays { self.new ≡ record self.old { from = self.new.from } }
@@ -152,6 +222,9 @@ impl<'r> StreamSearcher<'r> {
             → MatchOption result (WasFed fed told self.new)
             (λ m. WasFed fed (told ++ m ∷ [])
             (record self.new { from = m.end; last = Some m.end })) }
+        ensures next { (fed : List ℕ) (told : List Found) → WasFed fed told self.old
+            → IfSome result (λ m. IsNext self.old fed self.new.from × HoldsRest fed self.new
+            × Finds self.new fed (Some m)) }
         ensures all { (fed : List ℕ) (told : List Found) → WasFed fed told self.old
             → self.old.is_finished ≡ true → result ≡ None
             → told ≡ matches_of self.old.regex fed }
@@ -201,6 +274,20 @@ impl<'r> StreamSearcher<'r> {
         ensures { result ≡ self.now.is_finished }
     {
         self.is_finished // since `finish` was called
+    }
+
+    /// The bytes that it keeps. The first is the byte `kept_start` of the stream.
+    pub fn kept(&self) -> &[u8]
+        ensures { result.now ≡ self.now.kept }
+    {
+        &self.kept
+    }
+
+    /// The number of bytes that it let go: those before the first that it keeps.
+    pub fn kept_start(&self) -> usize
+        ensures { result ≡ self.now.gone }
+    {
+        self.gone // in the whole stream
     }
 
     /// The number of bytes that it keeps.

@@ -1,3 +1,5 @@
+use Rattle.std.proofs.Common.{◌++◌, ◌∷◌, []}
+use Rattle.stream_search.proofs.Grouped.{told_at}
 use Rattle.stream_search.proofs.Told.{placed_after}
 use Rattle.stream_search.proofs.stream.StreamSearcher.next_match.Goals as goal
 
@@ -8,3 +10,9 @@ pub invariant_of-self : goal.invariant_of-self
 invariant_of-self c =
     placed_after c.self.view_is c.self.invariant c.in_ok-found.found c.end-self-inside.result c.end.result c.end-self-inside.ensures.value
     c.end.ensures.value c.in_ok-found.ensures.lies
+
+pub returns-clause-told : goal.returns-clause-told
+returns-clause-told c =
+    let m = c.in_ok-found.found in
+    λ fed told was. told_at c.self.view_is fed (told ++ m ∷ []) m c.end-self-inside.result c.end.result c.end-self-inside.ensures.value
+    c.end.ensures.value (c.in_ok-found.ensures.told fed told was)

@@ -1,7 +1,9 @@
-use Rattle.std.proofs.Common.{◌≡◌, ◌+◌, ◌∙◌, false, refl, sym, ap, subst}
+use Rattle.std.proofs.Common.{◌≡◌, ◌+◌, ◌∙◌, false, true, refl, sym, ap, subst}
 use Rattle.rc_program.specs.Matches.{begin_of, end_of, is_again}
 use Rattle.stream_search.specs.Searches.{matches_of}
+use Rattle.stream_search.specs.Groups.{IsNext}
 use Rattle.stream_search.specs.Searching.{Streaming}
+use Rattle.stream_search.proofs.Grouped.{next_here, next_later, sought_at, sought_later}
 use Rattle.stream_search.proofs.Told.{all_came, second_told, skips_now, stood, took_now}
 use Rattle.stream_search.proofs.stream.StreamSearcher.seek.Goals as goal
 use Rattle.stream_search.proofs.stream.StreamSearcher.seek.Goals.{After-search_on-2}
@@ -50,3 +52,27 @@ returns-clause-all c =
     let skipped = skips_now same fed told was m c.self.invariant.ended (sym c.is_again.ensures ∙ c.if-not-is_again.false) (found.told fed told was) in
     let done = ap (λ (s : Streaming). s.is_finished) same ∙ fin in
     all_came (next c) fed told skipped done (c.search_on-2.ensures.none fed told skipped done none) ∙ ap (λ (s : Streaming). matches_of s.regex fed) same
+
+pub returns-then-not-is_again-clause-next : goal.returns-then-not-is_again-clause-next
+returns-then-not-is_again-clause-next c =
+    let m = c.in_ok-found.found in
+    let found = c.in_ok-found.ensures in
+    let same = stood found.stays found.lies.0 in
+    let fresh = subst (λ l. is_again begin_of end_of l m ≡ false) (ap (λ (s : Streaming). s.last) (c.self.view_is ∙ same)) (sym c.is_again.ensures ∙ c.if-not-is_again.true) in
+    λ fed told was.
+    let finds = found.told fed told was in
+    sought_at c.args.self.now c.args.self.now c.search_on.new.self fed told was found.stays m found.lies.0 (next_here c.args.self.now fed m finds fresh) finds
+
+pub returns-clause-next : goal.returns-clause-next
+returns-clause-next c =
+    let m = c.in_ok-found.found in
+    let found = c.in_ok-found.ensures in
+    let second = c.search_on-2.ensures in
+    let same = c.self.view_is ∙ stood found.stays found.lies.0 in
+    let again = subst (λ l. is_again begin_of end_of l m ≡ true) (ap (λ (s : Streaming). s.last) same) (sym c.is_again.ensures ∙ c.if-not-is_again.false) in
+    λ fed told was.
+    let finds = found.told fed told was in
+    let skipped = skips_now same fed told was m c.self.invariant.ended (sym c.is_again.ensures ∙ c.if-not-is_again.false) finds in
+    sought_later c.args.self.now (next c) c.search_on-2.new.self fed told skipped second.stays
+    (subst (λ k. IsNext c.args.self.now fed (k + 1)) (sym (ap (λ (s : Streaming). s.from) same)) (next_later c.args.self.now fed m finds again))
+    c.search_on-2.result second.lies (second.told fed told skipped)

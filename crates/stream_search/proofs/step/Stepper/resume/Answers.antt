@@ -1,0 +1,38 @@
+use Rattle.std.proofs.Common.{ap, arith, refl}
+use Rattle.stream_search.specs.Stepping.{Stepping}
+use Rattle.stream_search.proofs.Steps.{done_in, on_in}
+use Rattle.stream_search.proofs.step.Stepper.resume.Goals as goal
+
+pub search_opening-requires-clause-before : goal.search_opening-requires-clause-before
+search_opening-requires-clause-before g c =
+    let a = ap (λ (s : Stepping). s.from) c.self.view_is in
+    let b = ap (λ (s : Stepping). s.position) c.self.view_is in
+    let end = c.slice_end-end.ensures in
+    let order = c.self.invariant in
+    let inside = c.if-not-has_byte.ensures.has.0 refl in
+    let fits = c.has_byte.ensures.fits in
+    omega (arith, a, b, end, order, inside, fits)
+
+pub invariant_of-self-in-From : goal.invariant_of-self-in-From
+invariant_of-self-in-From g c = c.in-From.ensures.onward.1
+
+pub returns-in-Final-clause-done : goal.returns-in-Final-clause-done
+returns-in-Final-clause-done g c =
+    λ start way. done_in c.self.view_is (g.C.Cursor.content c.args.cursor) (g.C.Cursor.content c.has_byte.new.cursor) c.has_byte.ensures.content
+    c.slice_end-end.result start way c.in-Final.found c.in-Final.ensures.told
+
+pub returns-in-From-clause-goes_on : goal.returns-in-From-clause-goes_on
+returns-in-From-clause-goes_on g c =
+    λ start way. on_in c.self.view_is (g.C.Cursor.content c.args.cursor) (g.C.Cursor.content c.has_byte.new.cursor) c.has_byte.ensures.content
+    c.slice_end-end.result start way c.in-From.place c.search_opening.new.finder c.search_opening.ensures.regex c.in-From.ensures.told
+
+pub returns-in-From-clause-sliced : goal.returns-in-From-clause-sliced
+returns-in-From-clause-sliced g c =
+    let a = ap (λ (s : Stepping). s.from) c.self.view_is in
+    let b = ap (λ (s : Stepping). s.position) c.self.view_is in
+    let end = c.slice_end-end.ensures in
+    let order = c.self.invariant in
+    let inside = c.if-not-has_byte.ensures.has.0 refl in
+    let fits = c.has_byte.ensures.fits in
+    let low = c.in-From.ensures.onward.0 in
+    record { position = omega (arith, end, inside, fits); inside = inside; onward = omega (arith, a, low); within = c.in-From.ensures.onward.1 }
