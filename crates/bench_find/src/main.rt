@@ -9,6 +9,8 @@
 //! - `captures`: the matches with their groups
 //! - `searches`: the matches, by one search after another. Each begins where the last match ended
 //! - `reaches`: the same, by searches that tell how many bytes settle a match
+//! - `stream`: the matches of a stream that is fed the chunks
+//! - `steps`: the matches, each found in slices of 65,536 bytes
 //! - `texts`: each chunk is a text of its own, searched in one cache, and those with a match count
 //! - `finds`: as `texts`, but with a cache for each text
 //! - `build`: the build of the pattern
@@ -42,6 +44,7 @@
 mod live;
 mod random;
 mod sets;
+mod slices;
 mod typing;
 
 use regex_cursor::Input;
@@ -64,7 +67,7 @@ const ROUNDS: u32 = 3;
 const LEVELS: usize = 1024;
 
 const USAGE: &str =
-    "usage: bench_find PATTERN CHUNK [ROUNDS [matches|captures|searches|reaches|texts|finds|build|tree [all|plain|met|lazy|pass]]]";
+    "usage: bench_find PATTERN CHUNK [ROUNDS [matches|captures|searches|reaches|stream|steps|texts|finds|build|tree [all|plain|met|lazy|pass]]]";
 
 /// What is timed.
 #[derive(Clone, Copy)]
@@ -77,6 +80,10 @@ enum What {
     Searches,
     /// The same, by searches that tell how many bytes settle a match.
     Reaches,
+    /// All matches of a stream of the chunks.
+    Stream,
+    /// All matches, each found in slices.
+    Steps,
     /// A search of each chunk as a text of its own.
     Texts,
     /// A search of each chunk as a text of its own, without a cache.
@@ -159,6 +166,8 @@ fn what_of(word: &str) -> Option<What> {
         "captures" => Some(What::Captures),
         "searches" => Some(What::Searches),
         "reaches" => Some(What::Reaches),
+        "stream" => Some(What::Stream),
+        "steps" => Some(What::Steps),
         "texts" => Some(What::Texts),
         "finds" => Some(What::Finds),
         "build" => Some(What::Build),
@@ -294,6 +303,8 @@ fn built(alloc: Global, job: &Job<'_>) -> Result<Regex, BuildError> {
         | What::Captures
         | What::Searches
         | What::Reaches
+        | What::Stream
+        | What::Steps
         | What::Texts
         | What::Finds
         | What::Build => builder.build(alloc, job.pattern),
@@ -420,6 +431,8 @@ fn count(
         What::Captures => count_captures(alloc, regex, chunks),
         What::Searches => count_searches(alloc, regex, chunks, false),
         What::Reaches => count_searches(alloc, regex, chunks, true),
+        What::Stream => slices::count_stream(alloc, regex, chunks),
+        What::Steps => slices::count_steps(alloc, regex, chunks),
         What::Texts => count_texts(alloc, regex, chunks),
         What::Finds => count_finds(alloc, regex, chunks),
         What::Build => Ok(count_built(alloc, job)),

@@ -15,6 +15,7 @@ mod places;
 mod ranges;
 mod replacing;
 mod rules;
+mod stepping;
 mod tokens;
 
 use crate::bytes::{bytes_of, put_match};
@@ -31,6 +32,7 @@ use crate::places::line_of;
 use crate::ranges::{add_range, matches_of_range};
 use crate::replacing::replaced;
 use crate::rules::rules_met;
+use crate::stepping::search_on;
 use crate::tokens::{KINDS, next_token, words};
 use chunk_replace::Template;
 use regex_cursor::Input;
@@ -41,6 +43,7 @@ use regex_cursor::types::{Anchored, Match, Span};
 use std::alloc::{AllocError, Global};
 use std::fmt;
 use std::io::Write;
+use stream_search::Stepper;
 
 /// Writes an answer. A fault of the standard output is ignored.
 fn show<T: fmt::Debug>(rt: &HostRuntime, name: &str, answer: &T) {
@@ -85,7 +88,8 @@ fn grow(rt: &HostRuntime) {
     };
     if let Ok(mut finder) = Finder::new(rt.alloc(), &number) {
         grow_with(rt, &mut finder, text);
-        drop(finder);
+        let mut stepper = Stepper::new(finder, 2);
+        show(rt, "in slices", &search_on(&mut stepper, text));
     }
     drop(number);
 }

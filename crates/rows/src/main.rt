@@ -15,6 +15,7 @@ mod row;
 mod searches;
 mod settings;
 mod slots;
+mod steps;
 mod streams;
 mod tables;
 mod told;

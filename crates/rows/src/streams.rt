@@ -6,6 +6,7 @@ use crate::calls::{Placed, Spans};
 use crate::engines::Engines;
 use crate::row::Row;
 use crate::slots::Asker;
+use crate::steps;
 use api_meta::finder::Finder;
 use api_meta::regex::Regex;
 use rc_text::types::Anchored;
@@ -22,6 +23,7 @@ pub fn all(asker: &mut Asker, engines: &Engines, row: &Row) {
     for regex in [&regexes.plain, &regexes.unfiltered, &regexes.tabled] {
         stream(asker, regex, row, 1);
         stream(asker, regex, row, 3);
+        steps::first(asker, regex, row);
     }
 }
 
