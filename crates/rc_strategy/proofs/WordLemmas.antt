@@ -1,5 +1,5 @@
 -- What words reply.
-use Rattle.std.proofs.Common.{◌≡◌, ◌∙◌, ℕ, Bool, true, false, true≢false, List, Option, Some, None, ap, sym, subst}
+use Rattle.std.proofs.Common.{◌≡◌, ◌∙◌, ℕ, true, false, true≢false, List, Option, Some, None, ap, sym}
 use denote.Struct.Props.{props}
 use Rattle.std.proofs.Math.Logic.{∥∥₁_elim}
 use Rattle.rc_text.specs.Found.{Found}
@@ -7,7 +7,6 @@ use Rattle.rc_text.specs.Text.{Searched, low, high}
 use Rattle.rc_text.specs.declared.types.Anchored.TheVariants.{No}
 use Rattle.rc_text.specs.declared.types.MatchKind.{MatchKind}
 use Rattle.rc_text.specs.declared.types.MatchKind.TheVariants.{All, LeftmostFirst, LeftmostLongest}
-use Rattle.rc_program.specs.Answer.{Search}
 use Rattle.rc_program.specs.Kinds.{answer_by}
 use Rattle.rc_program.specs.Places.{places_of}
 use Rattle.rc_program.specs.Program.{Place}

@@ -34,6 +34,7 @@ impl Engines {
     /// Replies by words, if the pattern is a list of them, the search is leftmost and not anchored,
     /// and no match is passed over. Returns None if they don't decide: there are none, or several
     /// begin where the first does.
+    #[inline(always)]
     pub(crate) fn ask_words<C: Cursor>(
         &self,
         input: &mut Input<C>,
@@ -44,9 +45,26 @@ impl Engines {
             (engine_search self.now.engine input.old)) }
         ensures within { IfSome result (λ found. IfSome found (IsWithinBounds input.old)) }
     {
-        let Some(words) = &self.words else {
-            return None;
-        };
+        match &self.words {
+            Some(words) => self.ask_by_words(words, input, question),
+            None => None,
+        }
+    }
+
+    /// Replies by its words, as `ask_words` does. Most regexes have none, so this isn't inlined.
+    #[inline(never)]
+    fn ask_by_words<C: Cursor>(
+        &self,
+        words: &Words,
+        input: &mut Input<C>,
+        question: Question,
+    ) -> Option<Option<Match>>
+        requires own { self.now.words ≡ Some words.now }
+        ensures keeps { Keeps input.old input.new }
+        ensures reply { IfSome result (IsReply question self.now.engine.kind
+            (engine_search self.now.engine input.old)) }
+        ensures within { IfSome result (λ found. IfSome found (IsWithinBounds input.old)) }
+    {
         if self.engine.program.passes_over || !self.is_leftmost() {
             return None;
         }
