@@ -1,3 +1,4 @@
+-- Only proofs use this file.
 -- Cuts: what a cut shows is what its cursor shows.
 use Rattle.rc_text.specs.declared.chunks.ChunkCursor.{ChunkCursor}
 use Rattle.rows.specs.declared.cursors.Recut.{Recut}
