@@ -3,6 +3,7 @@
 
 pub mod builder;
 pub mod cache;
+mod counts;
 mod debug;
 pub mod finder;
 pub mod iterators;

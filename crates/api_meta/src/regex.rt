@@ -1,29 +1,25 @@
 //! Regex: a list of patterns, built, and its searches.
 
-ghost use Rattle.std.specs.Prelude.{◌≡◌, ◌≤◌, ◌+◌, All, IfSome, None, Some, false, length, map};
-ghost use Rattle.rc_pattern.specs.Properties.{common};
-ghost use Rattle.rc_pattern.specs.Weight.{list_weight};
+ghost use Rattle.std.specs.Prelude.{◌≡◌, All, IfSome, None, Some, false, map};
 ghost use Rattle.rc_pattern.specs.WellFormed.{IsWellFormed};
-ghost use Rattle.rc_program.specs.Laws.{all_groups};
 ghost use Rattle.rc_build.specs.Fits.{Fits};
-ghost use Rattle.rc_pattern.specs.Limits.{greatest_weight};
 ghost use Rattle.rc_pikevm_search.specs.Choices.{guarding};
 ghost use Rattle.rc_strategy.specs.Plans.{IsLazyFor};
 ghost use Rattle.api_meta.specs.Plans.{plan_by};
-ghost use Rattle.api_meta.specs.Counts.{static_groups};
 ghost use Rattle.api_meta.specs.Reaching.{longest_after};
 ghost use Rattle.rc_pattern.specs.Meaning.{meaning};
 ghost use Rattle.rc_settings.specs.Settings.{settings_of, program_settings, auto_prefilter_of, prefilter_of, match_kind_of};
 
 use crate::builder::{Builder, build};
 use crate::cache::Cache;
+use crate::counts::{explicit_groups, static_groups};
 use crate::iterators::{CapturesMatches, FindMatches, Pieces, Split, SplitN};
 use crate::seeker::{GroupSeeker, Seeker, Standing};
 use rc_captures::captures;
 use rc_captures::captures::Captures;
 use rc_captures::groups::GroupInfo;
 use rc_parser::Grammar;
-use rc_pattern::check::{group_count, properties_of};
+use rc_pattern::check::properties_of;
 use rc_pattern::hir::Hir;
 use rc_settings::error::BuildError;
 use rc_settings::meta::Config;
@@ -670,45 +666,5 @@ impl Regex {
             input,
             limit,
         })
-    }
-}
-
-/// The number of explicit groups of the patterns.
-#[tactic(auto, using(crate::proofs::Weights::groups_light))]
-fn explicit_groups(hirs: &[Hir]) -> usize
-    requires { list_weight (map meaning hirs.now) ≤ greatest_weight }
-    ensures value { result ≡ all_groups (map meaning hirs.now) }
-    ensures small { length (map meaning hirs.now) + result ≤ greatest_weight }
-{
-    let mut total = 0;
-    for hir in hirs {
-        total += group_count(hir);
-    }
-    total
-}
-
-/// The number of explicit groups that take part in each match, if that is known to be one number
-/// for all patterns.
-fn static_groups(hirs: &[Hir]) -> Option<usize>
-    ensures { result ≡ static_groups (map meaning hirs.now) }
-{
-    if hirs.is_empty() {
-        return None;
-    }
-    let mut groups = properties_of(&hirs[0]).static_explicit_captures_len();
-    for hir in &hirs[1..] {
-        groups = common(groups, properties_of(hir).static_explicit_captures_len());
-    }
-    groups
-}
-
-/// The number that both are, if they are equal.
-fn common(left: Option<usize>, right: Option<usize>) -> Option<usize>
-    ensures { result ≡ common left right }
-{
-    match (left, right) {
-        (Some(m), Some(n)) => { if m == n { Some(m) } else { None } }
-        (Some(_), None) => None,
-        (None, _) => None,
     }
 }

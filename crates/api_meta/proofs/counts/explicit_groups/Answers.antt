@@ -4,7 +4,7 @@ use Rattle.rc_pattern.specs.Meaning.{meaning}
 use Rattle.rc_pattern.specs.WellFormed.{group_count}
 use Rattle.rc_program.specs.Laws.{all_groups}
 use Rattle.api_meta.proofs.Weights.{groups_light}
-use Rattle.api_meta.proofs.regex.explicit_groups.Goals as goal
+use Rattle.api_meta.proofs.counts.explicit_groups.Goals as goal
 
 here : (hs : List Hir) (i : ℕ) (h : Hir) → i < length hs → h ≡ get_or hs i h →
     all_groups (map meaning (drop i hs)) ≡ group_count (meaning h) + all_groups (map meaning (drop (i + 1) hs))
