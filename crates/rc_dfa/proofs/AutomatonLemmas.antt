@@ -1,5 +1,5 @@
 -- What an automaton's fields tell of its machines.
-use Rattle.std.proofs.Common.{◌≡◌, ℕ, ◌+◌, ◌<◌, Bool, true, false, List, length, map, Option, Some, get_or, slice_get, inl, inr, ⊎_elim, sym, subst, ap, ◌∙◌, if◌then◌else◌, arith}
+use Rattle.std.proofs.Common.{◌≡◌, ℕ, ◌+◌, ◌-◌, ◌<◌, ◌≤◌, zero, suc, Bool, true, false, List, length, map, Some, get_or, slice_get, inl, inr, ⊎_elim, sym, subst, ap, ◌∙◌, if◌then◌else◌, arith}
 use Rattle.std.proofs.lemmas.Bool.{cases_Bool}
 use Rattle.std.proofs.lemmas.List.{length-map}
 use Rattle.std.proofs.lemmas.Option.{slice_get_within, slice_get-get_or, get_or_from_slice_get}
@@ -8,6 +8,7 @@ use Rattle.rc_text.specs.declared.types.Anchored.{Anchored}
 use Rattle.rc_text.specs.declared.types.Anchored.TheVariants.{No, Yes, Pattern}
 use Rattle.rc_program.specs.Program.{Place}
 use Rattle.rc_determinize.specs.declared.sides.Asked.{Asked}
+use Rattle.rc_determinize.specs.declared.sides.Seen.{Seen}
 use Rattle.rc_utf8.specs.Places.{place_of, places_of}
 use Rattle.rc_determinize.specs.declared.backward.Source.{Source}
 use Rattle.rc_determinize.specs.Reversed.{into_at, IsReversed, AreInside}
@@ -22,9 +23,10 @@ use Rattle.rc_determinize.proofs.LawLemmas.{backward_law}
 use Rattle.rc_determinize.proofs.ClassLemmas.{class_law}
 use Rattle.rc_dfa.specs.declared.automaton.Direction as code
 use Rattle.rc_dfa.specs.declared.automaton.Automaton.{Automaton}
-use Rattle.rc_dfa.specs.Machine.{Direction, forwards, backwards, Machine, leads_by, begins_by, IsAsked, IsMachine, AreOfOneClass, IsClassing}
-use Rattle.rc_dfa.specs.Samples.{AreClassesBy, IsCounted}
-use Rattle.rc_dfa.specs.Automata.{machine_of, classes_of, samples_of}
+use Rattle.rc_dfa.specs.Machine.{Direction, forwards, backwards, Machine, bytes, leads_by, begins_beside, begins_by, IsAsked, IsMachine, AreOfOneClass, IsClassing}
+use Rattle.rc_dfa.specs.Samples.{AreClassesBy, AreRising, IsCounted, class_count}
+use Rattle.rc_dfa.specs.Automata.{machine_of, alphabet_in, classes_of, samples_of, columns_of}
+use Rattle.rc_dfa.specs.Symbols.{columns_for}
 
 -- CLASSES
 
@@ -47,10 +49,40 @@ counted false places needs terminator classes a = (
   λ b h. inr (a.own (b + 1) (omega (arith, h)) ∙ ap (λ k. k + 1) (sym (a.own b (omega (arith, h))))),
 )
 
+rises : (classes : List ℕ) → IsCounted classes → (b k c : ℕ) → c ≡ b + k → c < 256 → get_or classes b 0 ≤ get_or classes c 0
+rises classes all b zero c e lt =
+    let same : b ≡ c = omega (arith, e) in
+    let is : get_or classes b 0 ≡ get_or classes c 0 = ap (λ j. get_or classes j 0) same in
+    omega (arith, is)
+rises classes all b (suc k) c e lt =
+    let le : get_or classes b 0 ≤ get_or classes (c - 1) 0 = rises classes all b k (c - 1) (omega (arith, e)) (omega (arith, lt)) in
+    let last : c - 1 + 1 ≡ c = omega (arith, e) in
+    let is : get_or classes (c - 1 + 1) 0 ≡ get_or classes c 0 = ap (λ j. get_or classes j 0) last in
+    ⊎_elim (λ same. omega (arith, le, is, same)) (λ next. omega (arith, le, is, next)) (all.1 (c - 1) (omega (arith, lt, e)))
+
+-- no class is less than that of an earlier byte
+pub rising : (t : Bool) (places : List Place) (needs : Asked) (terminator : ℕ) (classes : List ℕ) → AreClassesBy t places needs terminator classes → AreRising classes
+rising t places needs terminator classes a b c le lt = rises classes (counted t places needs terminator classes a) b (c - b) c (omega (arith, le)) lt
+
 pub tells_alike : (t : Bool) (places : List Place) (needs : Asked) (terminator : ℕ) (classes : List ℕ) → IsByBytes places →
     AreClassesBy t places needs terminator classes → TellsAlike places needs terminator classes
 tells_alike true places needs terminator classes k a = class_law.alike places needs terminator classes k a
 tells_alike false places needs terminator classes k a = class_law.single places needs terminator classes a
+
+-- the class of the last byte is the last
+pub counts : (a : Automaton) → length (samples_of a) ≡ class_count (classes_of a)
+counts a =
+    let below : get_or (classes_of a) 255 0 < length (samples_of a) = a.sampled.all 255 (omega arith) in
+    let last = length (samples_of a) - 1 in
+    let own = a.sampled.own last (omega (arith, below)) in
+    let small = own.0 in
+    let class = own.1 in
+    let le : get_or (classes_of a) (get_or (samples_of a) last 0) 0 ≤ get_or (classes_of a) 255 0 =
+    a.rising (get_or (samples_of a) last 0) 255 (omega (arith, small)) (omega arith) in
+    omega (arith, below, class, le)
+
+pub plain_columns : (a : Automaton) → alphabet_in a ≡ bytes → columns_of a ≡ length (samples_of a)
+plain_columns a e = ap (λ x. columns_for x (classes_of a)) e ∙ sym (counts a)
 
 -- MACHINES
 
@@ -78,11 +110,11 @@ begin_alike backwards g entries b c Yes s x h = record { list = h.list; rising =
 begin_alike backwards g entries b c (Pattern p) s x h = record { list = h.list; rising = h.rising; matched = h.matched; goes_on = h.goes_on; beside = h.beside ∙ x.told_same }
 
 -- forwards, a search of each kind begins alike
-pub begin_same : (kind other : MatchKind) (g : Setting) (entries : List ℕ) (beside : Option ℕ) (anchored : Anchored) (s : State) →
-    begins_by (forwards kind) g entries anchored beside s → begins_by (forwards other) g entries anchored beside s
-begin_same kind other g entries beside No s h = h
-begin_same kind other g entries beside Yes s h = h
-begin_same kind other g entries beside (Pattern p) s h = h
+pub begin_same : (kind other : MatchKind) (places : List Place) (entries : List ℕ) (facts : Seen) (anchored : Anchored) (s : State) →
+    begins_beside (forwards kind) places entries anchored facts s → begins_beside (forwards other) places entries anchored facts s
+begin_same kind other places entries facts No s h = h
+begin_same kind other places entries facts Yes s h = h
+begin_same kind other places entries facts (Pattern p) s h = h
 
 -- what may be asked for doesn't depend on the direction
 pub asked_same : (a : Automaton) (d e : code.Direction) (anchored : Anchored) → IsAsked (machine_of a d) anchored → IsAsked (machine_of a e) anchored

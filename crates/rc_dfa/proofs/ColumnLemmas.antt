@@ -71,7 +71,7 @@ other_told : (needs : Asked) (terminator b : ℕ) → 128 ≤ b → told needs t
 other_told needs terminator b g = told_is needs terminator (side_of (Some b)) b None refl (rw (le-ltb b 128 g) refl)
 
 -- bytes past ASCII that are alike tell the same with each tag
-alike_told : (places : List Place) (needs : Asked) (terminator b c : ℕ) (tag : Tag) → AreAlike places needs terminator b c → 128 ≤ b → 128 ≤ c →
+pub alike_told : (places : List Place) (needs : Asked) (terminator b c : ℕ) (tag : Tag) → AreAlike places needs terminator b c → 128 ≤ b → 128 ≤ c →
     told_tagged needs terminator b tag ≡ told_tagged needs terminator c tag
 alike_told places needs terminator b c tag a k l =
     ap (λ x. retagged needs tag x) (sym (other_told needs terminator b k) ∙ a.told_same ∙ other_told needs terminator c l)

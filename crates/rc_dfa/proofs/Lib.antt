@@ -12,6 +12,7 @@ pub mod NarrowLemmas
 pub mod DownLemmas
 pub mod StopLemmas
 pub mod ColumnLemmas
+pub mod SymbolLemmas
 pub mod TableLemmas
 pub mod OverlapLemmas
 pub mod RunLemmas

@@ -1,5 +1,5 @@
 -- A memo with no marks.
-use Rattle.std.proofs.Common.{◌≡◌, ℕ, ◌<◌, None, Some, Option, length, replicate, sym, subst, ◌∙◌}
+use Rattle.std.proofs.Common.{◌≡◌, ℕ, ◌<◌, None, Some, replicate, sym, subst, ◌∙◌}
 use Rattle.std.proofs.lemmas.List.{get_or-replicate, length-replicate}
 use Rattle.std.proofs.lemmas.Option.{get_or_from_slice_get, none-some, slice_get_within}
 use Rattle.std.specs.List.{slice_get}

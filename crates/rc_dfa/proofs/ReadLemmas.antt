@@ -1,5 +1,5 @@
 -- A search that looked so far ended so.
-use Rattle.std.proofs.Common.{ℕ, Bool, Option, Some, None}
+use Rattle.std.proofs.Common.{ℕ, Bool, Some, None}
 use Rattle.rc_text.specs.declared.types.Anchored.{Anchored}
 use Rattle.rc_program.specs.Text.{Text}
 use Rattle.rc_determinize.specs.States.{State}

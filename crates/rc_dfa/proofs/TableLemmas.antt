@@ -1,5 +1,5 @@
 -- What tables know of bytes and symbols.
-use Rattle.std.proofs.Common.{◌≡◌, ℕ, ◌+◌, ◌<◌, sym, subst, ap}
+use Rattle.std.proofs.Common.{ℕ, ◌+◌, ◌<◌, sym, subst, ap}
 use Rattle.rc_text.specs.declared.types.Anchored.{Anchored}
 use Rattle.rc_program.specs.Looks.{Side}
 use Rattle.rc_program.specs.Text.{Text, before_at, after_at}

@@ -2,8 +2,9 @@ pub mod Machine
 pub mod Runs
 pub mod Samples
 pub mod Props
-pub mod Automata
 pub mod Columns
+pub mod Symbols
+pub mod Automata
 pub mod Tables
 pub mod Laws
 pub mod Ended

@@ -1,5 +1,5 @@
 -- Byte classes: one byte of each class.
-use Rattle.std.specs.Prelude.{◌≡◌, ◌⊎◌, ℕ, ◌+◌, ◌<◌, Bool, true, false, List, length, slice_index}
+use Rattle.std.specs.Prelude.{◌≡◌, ◌⊎◌, ℕ, ◌+◌, ◌<◌, ◌≤◌, Bool, true, false, List, length, slice_index}
 use Rattle.rc_program.specs.Program.{Place}
 use Rattle.rc_determinize.specs.declared.sides.Asked.{Asked}
 use Rattle.rc_determinize.specs.Classes.{AreClasses, AreSingle}
@@ -13,6 +13,14 @@ AreClassesBy false places needs terminator classes = AreSingle classes
 abbrev pub IsCounted : List ℕ → Type 0
 IsCounted classes = (slice_index classes 0 ≡ 0)
     × ((b : ℕ) → b < 255 → (slice_index classes (b + 1) ≡ slice_index classes b) ⊎ (slice_index classes (b + 1) ≡ slice_index classes b + 1))
+
+-- No byte has a class before that of an earlier byte.
+abbrev pub AreRising : List ℕ → Type 0
+AreRising classes = (b c : ℕ) → b ≤ c → c < 256 → slice_index classes b ≤ slice_index classes c
+
+-- How many classes there are.
+abbrev pub class_count : List ℕ → ℕ
+class_count classes = slice_index classes 255 + 1
 
 -- At the index of each class is a byte of it.
 pub record AreSamples (classes samples : List ℕ) : Type 0 where

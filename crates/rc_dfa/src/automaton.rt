@@ -6,16 +6,17 @@ ghost use Rattle.rc_determinize.specs.Steps.{AreBelow};
 ghost use Rattle.rc_determinize.specs.Sides.{Covers};
 ghost use Rattle.rc_determinize.specs.Reversed.{AreEdges};
 ghost use Rattle.rc_determinize.specs.Classes.{TellsAlike};
-ghost use Rattle.rc_dfa.specs.Samples.{AreClassesBy, AreSamples};
+ghost use Rattle.rc_dfa.specs.Samples.{AreClassesBy, AreSamples, AreRising};
 ghost use Rattle.rc_dfa.specs.Props.{Covers-prop, TellsAlike-prop};
 
 use crate::matches::{last_of, pattern_of};
 use crate::samples::samples_of;
+use crate::symbols::{Alphabet, Symbol, number_of, sides_over, told_beside};
 use rc_determinize::backward::{Reversed, last, prior};
 use rc_determinize::classes::{classes, single_classes};
 use rc_determinize::forward::{ends_here, first, next_by};
 use rc_determinize::scratch::Scratch;
-use rc_determinize::sides::{Asked, needs_of, sides_of, told};
+use rc_determinize::sides::{Asked, Seen, Sides, needs_of, sides_of, told};
 use rc_determinize::state::State;
 use rc_text::types::{Anchored, MatchKind};
 use rc_utf8::place::BytePlace;
@@ -33,7 +34,8 @@ pub enum Direction {
 }
 
 /// A determinizer: a byte program with its byte classes and its steps, in both directions. It is
-/// entered at place 0, and at the entry of each of its patterns.
+/// entered at place 0, and at the entry of each of its patterns. Its tables read bytes, unless it is
+/// made one of symbols.
 #[derive(Drop)]
 pub struct Automaton {
     places: Vec<BytePlace>,
@@ -42,6 +44,7 @@ pub struct Automaton {
     needs: Asked,
     terminator: u8,
     kind: MatchKind,
+    alphabet: Alphabet,
     classes: Vec<u8>,
     samples: Vec<u8>,
     ghost closed: { IsClosed (places_of places.items) },
@@ -52,6 +55,7 @@ pub struct Automaton {
     ghost size: { length classes.items ≡ 256 },
     ghost alike: { TellsAlike (places_of places.items) needs terminator classes.items } by { TellsAlike-prop (places_of places.items) needs terminator classes.items },
     ghost sampled: { AreSamples classes.items samples.items },
+    ghost rising: { AreRising classes.items },
 }
 
 /// Returns the class of each byte: by what the program distinguishes if `byte_classes` is set, else
@@ -72,6 +76,20 @@ fn classes_by(
     single_classes(alloc)
 }
 
+impl Direction {
+    ghost use Rattle.rc_dfa.specs.Automata.{is_backwards};
+
+    /// Whether a search reads from an end to a start.
+    fn is_backwards(self) -> bool
+        ensures { result ≡ is_backwards self }
+    {
+        match self {
+            Direction::Forwards | Direction::Overlapping => false,
+            Direction::Backwards => true,
+        }
+    }
+}
+
 impl Automaton {
     ghost use Rattle.std.specs.Prelude.{◌≡◌, ◌<◌, ◌↔◌, ℕ, IsTrue, length, IfOk};
     ghost use Rattle.rc_program.specs.Laws.{IsClosed};
@@ -82,8 +100,9 @@ impl Automaton {
     ghost use Rattle.rc_determinize.specs.Sides.{IsReadable};
     ghost use Rattle.rc_dfa.specs.declared.automaton.Direction.{Direction};
     ghost use Rattle.rc_dfa.specs.declared.automaton.Direction.TheVariants.{Forwards, Overlapping, Backwards};
-    ghost use Rattle.rc_dfa.specs.Machine.{IsAsked, Begins, Leads, IsMachine, IsClassing, entry_bound, longest_in};
-    ghost use Rattle.rc_dfa.specs.Automata.{machine_of, IsMadeOf, classes_of, samples_of};
+    ghost use Rattle.rc_dfa.specs.Machine.{IsAsked, Begins, BeginsBeside, Leads, LeadsOver, IsMachine, IsClassing, entry_bound, longest_in};
+    ghost use Rattle.rc_dfa.specs.Symbols.{BeginsTagged, IsColumning, IsPast, LeadsTagged, alphabet_of};
+    ghost use Rattle.rc_dfa.specs.Automata.{machine_of, IsMadeOf, IsOverSymbols, alphabet_in, classes_of, samples_of, columns_of, column_in, is_backwards};
     ghost use Rattle.rc_program.specs.Program.{place_at};
     ghost use Rattle.rc_program.specs.Answer.{pattern_at};
 
@@ -115,9 +134,26 @@ impl Automaton {
             needs,
             terminator,
             kind,
+            alphabet: Alphabet::Bytes,
             classes,
             samples,
         })
+    }
+
+    /// The same determinizer, with tables that read symbols.
+    pub fn over_symbols(self) -> Automaton
+        ensures { IsOverSymbols self result }
+    {
+        let mut over = self;
+        over.alphabet = Alphabet::Symbols;
+        over
+    }
+
+    /// Returns what its tables read.
+    pub fn alphabet(&self) -> Alphabet
+        ensures { alphabet_of result ≡ alphabet_in self.now }
+    {
+        self.alphabet
     }
 
     /// Returns how many places the program has.
@@ -176,8 +212,32 @@ impl Automaton {
         &self.samples
     }
 
-    /// Whether a search may read the byte; the end may always be read. If some assertion depends on
-    /// Unicode words, bytes of at least 128 may not.
+    /// Returns how many columns a row of its tables has, besides that of the end: one for each byte
+    /// class, and if they read symbols, five more for each class past ASCII.
+    pub fn columns(&self) -> usize
+        ensures value { result ≡ columns_of self.now }
+        ensures columning { (direction : Direction)
+            → IsColumning (machine_of self.now direction) (classes_of self.now) }
+    {
+        let classes = self.classes[255] as usize + 1;
+        match self.alphabet {
+            Alphabet::Bytes => classes,
+            Alphabet::Symbols => classes + 5 * (classes - self.classes[128] as usize),
+        }
+    }
+
+    /// Returns the column of a symbol past ASCII. No step distinguishes symbols of one column.
+    #[inline(always)]
+    pub fn column_over(&self, symbol: Symbol) -> usize
+        requires past { IsPast symbol }
+        ensures { result ≡ column_in self.now symbol }
+    {
+        let class = self.classes[symbol.byte as usize] - self.classes[128];
+        self.classes[255] as usize + 1 + 5 * class as usize + number_of(symbol.tagged)
+    }
+
+    /// Whether a search may read the byte if it is known alone; the end may always be read. If some
+    /// assertion depends on Unicode words, bytes of at least 128 may not.
     pub fn may_read(&self, byte: Option<u8>) -> bool
         ensures { (direction : Direction)
             → IsTrue result ↔ IsReadable (machine_of self.now direction).setting.needs byte }
@@ -211,10 +271,45 @@ impl Automaton {
         ensures { IfOk result (λ _. Begins (machine_of self.now direction) anchored beside
             (state_of to.new)) }
     {
+        let seen = told(self.needs, self.terminator, beside);
+        self.begin_by(direction, anchored, seen, to)
+    }
+
+    /// Makes `to` the state in which a search begins beside a symbol, as `begin` does beside a
+    /// byte. Forwards what ends with the symbol counts, and backwards what begins with it.
+    pub fn begin_beside(
+        &self,
+        direction: Direction,
+        anchored: Anchored,
+        symbol: Symbol,
+        to: &mut State,
+    ) -> Result<(), AllocError>
+        requires { IsAsked (machine_of self.now direction) anchored }
+        ensures { IfOk result (λ _. BeginsTagged (is_backwards direction)
+            (machine_of self.now direction) anchored symbol (state_of to.new)) }
+    {
+        let backwards = direction.is_backwards();
+        let seen = told_beside(self.needs, self.terminator, backwards, symbol);
+        self.begin_by(direction, anchored, seen, to)
+    }
+
+    /// Makes `to` the state in which a search begins, with these facts about the side beside.
+    /// `Err` means out of memory.
+    fn begin_by(
+        &self,
+        direction: Direction,
+        anchored: Anchored,
+        seen: Seen,
+        to: &mut State,
+    ) -> Result<(), AllocError>
+        requires { IsAsked (machine_of self.now direction) anchored }
+        ensures { IfOk result (λ _. BeginsBeside (machine_of self.now direction) anchored seen
+            (state_of to.new)) }
+    {
         match direction {
-            Direction::Forwards => self.begin_forwards(anchored, beside, to),
-            Direction::Overlapping => self.begin_forwards(anchored, beside, to),
-            Direction::Backwards => self.begin_backwards(anchored, beside, to),
+            Direction::Forwards => self.begin_forwards(anchored, seen, to),
+            Direction::Overlapping => self.begin_forwards(anchored, seen, to),
+            Direction::Backwards => self.begin_backwards(anchored, seen, to),
         }
     }
 
@@ -222,14 +317,13 @@ impl Automaton {
     fn begin_forwards(
         &self,
         anchored: Anchored,
-        beside: Option<u8>,
+        seen: Seen,
         to: &mut State,
     ) -> Result<(), AllocError>
         requires { IsAsked (machine_of self.now Forwards) anchored }
-        ensures { IfOk result (λ _. Begins (machine_of self.now Forwards) anchored beside
+        ensures { IfOk result (λ _. BeginsBeside (machine_of self.now Forwards) anchored seen
             (state_of to.new)) }
     {
-        let seen = told(self.needs, self.terminator, beside);
         match anchored {
             Anchored::No => first(0, seen, false, to),
             Anchored::Yes => first(0, seen, true, to),
@@ -244,13 +338,12 @@ impl Automaton {
     fn begin_backwards(
         &self,
         anchored: Anchored,
-        beside: Option<u8>,
+        seen: Seen,
         to: &mut State,
     ) -> Result<(), AllocError>
-        ensures { IfOk result (λ _. Begins (machine_of self.now Backwards) anchored beside
+        ensures { IfOk result (λ _. BeginsBeside (machine_of self.now Backwards) anchored seen
             (state_of to.new)) }
     {
-        let seen = told(self.needs, self.terminator, beside);
         match anchored {
             Anchored::No => last(&self.places, seen, to),
             Anchored::Yes => last(&self.places, seen, to),
@@ -278,6 +371,46 @@ impl Automaton {
             (state_of from.now) beside (state_of to.new)) }
     {
         let sides = sides_of(self.needs, self.terminator, beside);
+        self.step_by(direction, scratch, from, sides, to)
+    }
+
+    /// Makes `to` the state to which a symbol leads from a state, as `step` does for a byte.
+    pub fn step_over(
+        &self,
+        direction: Direction,
+        scratch: &mut Scratch,
+        from: &State,
+        symbol: Symbol,
+        to: &mut State,
+    ) -> Result<(), AllocError>
+        requires below { AreBelow (entry_bound (machine_of self.now direction).direction
+            (length (machine_of self.now direction).setting.places)) from.now.list.items }
+        requires scratch { scratch.old ≡ length (machine_of self.now direction).setting.places }
+        ensures scratch { scratch.new ≡ scratch.old }
+        ensures leads { IfOk result (λ _. LeadsTagged (is_backwards direction)
+            (machine_of self.now direction) (state_of from.now) symbol (state_of to.new)) }
+    {
+        let backwards = direction.is_backwards();
+        let sides = sides_over(self.needs, self.terminator, backwards, symbol);
+        self.step_by(direction, scratch, from, sides, to)
+    }
+
+    /// Makes `to` the state to which a byte leads from a state, by what is told of its sides.
+    fn step_by(
+        &self,
+        direction: Direction,
+        scratch: &mut Scratch,
+        from: &State,
+        sides: Sides,
+        to: &mut State,
+    ) -> Result<(), AllocError>
+        requires below { AreBelow (entry_bound (machine_of self.now direction).direction
+            (length (machine_of self.now direction).setting.places)) from.now.list.items }
+        requires scratch { scratch.old ≡ length (machine_of self.now direction).setting.places }
+        ensures scratch { scratch.new ≡ scratch.old }
+        ensures leads { IfOk result (λ _. LeadsOver (machine_of self.now direction)
+            (state_of from.now) sides (state_of to.new)) }
+    {
         match direction {
             Direction::Forwards => next_by(self.kind, &self.places, 0, scratch, from, sides, to),
             Direction::Overlapping => {

@@ -11,3 +11,4 @@ pub mod memo;
 mod samples;
 pub mod sides;
 pub mod states;
+pub mod symbols;

@@ -4,7 +4,7 @@ use Rattle.rc_determinize.specs.Reversed.{AreEdges}
 use Rattle.rc_determinize.specs.Sides.{Covers}
 use Rattle.rc_determinize.proofs.FollowLemmas.{by_bytes}
 use Rattle.rc_dfa.specs.Samples.{AreClassesBy}
-use Rattle.rc_dfa.proofs.AutomatonLemmas.{sized, counted, tells_alike}
+use Rattle.rc_dfa.proofs.AutomatonLemmas.{sized, counted, rising, tells_alike}
 use Rattle.rc_dfa.proofs.automaton.Automaton.new.Goals as goal
 
 pub samples_of-requires-clause-counted : goal.samples_of-requires-clause-counted
@@ -25,4 +25,5 @@ invariant_of-result c =
       alike = tells_alike c.args.byte_classes (places_of c.args.places.items) c.needs_of-needs.result c.args.terminator c.in_ok-classes.classes.items
           (by_bytes c.args.places.items) classes;
       sampled = c.in_ok-samples.ensures;
+      rising = rising c.args.byte_classes (places_of c.args.places.items) c.needs_of-needs.result c.args.terminator c.in_ok-classes.classes.items classes;
     }

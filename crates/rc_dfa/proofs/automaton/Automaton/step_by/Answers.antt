@@ -7,10 +7,10 @@ use Rattle.rc_determinize.specs.Places.{state_of}
 use Rattle.rc_determinize.specs.Sets.{IsNextOfAllOver}
 use Rattle.rc_determinize.specs.Steps.{AreBelow}
 use Rattle.rc_determinize.specs.Backward.{IsPriorOver}
-use Rattle.rc_dfa.specs.Machine.{Leads, entry_bound}
+use Rattle.rc_dfa.specs.Machine.{LeadsOver, entry_bound}
 use Rattle.rc_dfa.specs.Automata.{machine_of, direction_of}
 use Rattle.rc_dfa.proofs.AutomatonLemmas.{is_reversed, as_many, is_inside}
-use Rattle.rc_dfa.proofs.automaton.Automaton.step.Goals as goal
+use Rattle.rc_dfa.proofs.automaton.Automaton.step_by.Goals as goal
 
 pub next_by-requires-clause-below : goal.next_by-requires-clause-below
 next_by-requires-clause-below c =
@@ -37,19 +37,17 @@ pub returns-in-Forwards-clause-leads : goal.returns-in-Forwards-clause-leads
 returns-in-Forwards-clause-leads c =
     let a = c.args.self.now in
     IfOk-weaker c.next_by.result _ _
-    (λ x h. subst (λ d. Leads (machine_of a d) (state_of c.args.from.now) c.args.beside (state_of c.next_by.new.to)) (sym c.in-Forwards.is)
-    (subst (λ y. IsNextByOver a.kind (places_of a.places.items) 0 (state_of c.args.from.now) y (state_of c.next_by.new.to)) c.sides_of-sides.ensures
-    (subst (λ ps. IsNextByOver a.kind (places_of ps) 0 (state_of c.args.from.now) c.sides_of-sides.result (state_of c.next_by.new.to)) c.deref.ensures.value h)))
+    (λ x h. subst (λ d. LeadsOver (machine_of a d) (state_of c.args.from.now) c.args.sides (state_of c.next_by.new.to)) (sym c.in-Forwards.is)
+    (subst (λ ps. IsNextByOver a.kind (places_of ps) 0 (state_of c.args.from.now) c.args.sides (state_of c.next_by.new.to)) c.deref.ensures.value h))
     c.next_by.ensures.next
 
 pub returns-in-Backwards-clause-leads : goal.returns-in-Backwards-clause-leads
 returns-in-Backwards-clause-leads c =
     let a = c.args.self.now in
     IfOk-weaker c.prior.result _ _
-    (λ x h. subst (λ d. Leads (machine_of a d) (state_of c.args.from.now) c.args.beside (state_of c.prior.new.to)) (sym c.in-Backwards.is)
-    (subst (λ y. IsPriorOver (places_of a.places.items) a.entries.items (state_of c.args.from.now) y (state_of c.prior.new.to)) c.sides_of-sides.ensures
-    (subst (λ es. IsPriorOver (places_of a.places.items) es (state_of c.args.from.now) c.sides_of-sides.result (state_of c.prior.new.to)) c.deref-in-Backwards.ensures.value
-    (h (places_of a.places.items) (is_reversed a)))))
+    (λ x h. subst (λ d. LeadsOver (machine_of a d) (state_of c.args.from.now) c.args.sides (state_of c.prior.new.to)) (sym c.in-Backwards.is)
+    (subst (λ es. IsPriorOver (places_of a.places.items) es (state_of c.args.from.now) c.args.sides (state_of c.prior.new.to)) c.deref-in-Backwards.ensures.value
+    (h (places_of a.places.items) (is_reversed a))))
     c.prior.ensures.prior
 
 pub next_by-requires-in-Overlapping-clause-below : goal.next_by-requires-in-Overlapping-clause-below
@@ -63,8 +61,7 @@ pub returns-in-Overlapping-clause-leads : goal.returns-in-Overlapping-clause-lea
 returns-in-Overlapping-clause-leads c =
     let a = c.args.self.now in
     IfOk-weaker c.next_by-in-Overlapping.result _ _
-    (λ x h. subst (λ d. Leads (machine_of a d) (state_of c.args.from.now) c.args.beside (state_of c.next_by-in-Overlapping.new.to)) (sym c.in-Overlapping.is)
-    (subst (λ y. IsNextOfAllOver (places_of a.places.items) 0 (state_of c.args.from.now) y (state_of c.next_by-in-Overlapping.new.to)) c.sides_of-sides.ensures
-    (subst (λ ps. IsNextOfAllOver (places_of ps) 0 (state_of c.args.from.now) c.sides_of-sides.result (state_of c.next_by-in-Overlapping.new.to))
-    c.deref-in-Overlapping.ensures.value h)))
+    (λ x h. subst (λ d. LeadsOver (machine_of a d) (state_of c.args.from.now) c.args.sides (state_of c.next_by-in-Overlapping.new.to)) (sym c.in-Overlapping.is)
+    (subst (λ ps. IsNextOfAllOver (places_of ps) 0 (state_of c.args.from.now) c.args.sides (state_of c.next_by-in-Overlapping.new.to))
+    c.deref-in-Overlapping.ensures.value h))
     c.next_by-in-Overlapping.ensures.next
