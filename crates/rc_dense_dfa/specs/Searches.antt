@@ -2,7 +2,7 @@
 -- DFA searches: what the tables say.
 use Rattle.std.specs.Prelude.{◌≡◌, ℕ, ◌+◌, ◌≤◌, Bool, true, false, List, length, Some}
 use Rattle.rc_determinize.specs.States.{State}
-use Rattle.rc_dfa.specs.Machine.{Machine}
+use Rattle.rc_dfa.specs.Machine.{Machine, bytes}
 use Rattle.rc_table_search.specs.Views.{View}
 use Rattle.rc_dense_dfa.specs.Tables.{IsTable, IsRow}
 use Rattle.rc_dense_dfa.specs.Halves.{ArePatterns}
@@ -34,6 +34,7 @@ table_by true d = d.reverse
 abbrev pub view_of : Dense → Bool → View NoCache
 view_of d backwards = record {
   IsOf = λ m. ((states : List State) × IsTable m states (table_by backwards d)) × (backwards ≡ false → ArePatterns m d.patterns.items);
+  alphabet = bytes;
   IsCache = λ c. Unit {0};
   IsRow = λ c row. InRow (table_by backwards d) row;
   HasState = λ c m row s. HasState (table_by backwards d) m row s;

@@ -8,6 +8,7 @@ use crate::exits::first_exit;
 use crate::look::{cell_of, exits_at, find_in, is_idle};
 use crate::start::start as start_cell;
 use crate::table::Table;
+use rc_dfa::symbols::Symbol;
 use rc_table_search::refusal::Refusal;
 use rc_table_search::run::{Extent, Stand, run, stops_of};
 use rc_table_search::transitions::Transitions;
@@ -59,6 +60,12 @@ impl Transitions for Dense {
 
     ghost view = { view_of };
 
+    // It reads bytes, each known alone.
+    #[inline(always)]
+    fn reads_symbols<W: Way>(&self) -> bool {
+        false
+    }
+
     #[inline(always)]
     fn start<W: Way>(
         &self,
@@ -70,8 +77,28 @@ impl Transitions for Dense {
     }
 
     #[inline(always)]
+    fn start_beside<W: Way>(
+        &self,
+        cache: &mut NoCache,
+        anchored: Anchored,
+        symbol: Symbol,
+    ) -> Result<usize, Refusal> {
+        self.start::<W>(cache, anchored, Some(symbol.byte))
+    }
+
+    #[inline(always)]
     fn next<W: Way>(&self, _cache: &mut NoCache, row: usize, byte: u8) -> Result<usize, Refusal> {
         Ok(cell_of(table_in::<W>(self), row, byte))
+    }
+
+    #[inline(always)]
+    fn next_over<W: Way>(
+        &self,
+        cache: &mut NoCache,
+        row: usize,
+        symbol: Symbol,
+    ) -> Result<usize, Refusal> {
+        self.next::<W>(cache, row, symbol.byte)
     }
 
     #[inline(always)]

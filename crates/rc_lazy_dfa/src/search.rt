@@ -7,6 +7,7 @@ use crate::half::Half;
 use crate::lazy::{Lazy, is_asked};
 use crate::store::Store;
 use rc_dfa::automaton::Direction;
+use rc_dfa::symbols::Symbol;
 use rc_table_search::cells::DEAD;
 use rc_table_search::refusal::Refusal;
 use rc_table_search::run::{Extent, Stand, run, stops_of};
@@ -36,6 +37,12 @@ impl Transitions for Lazy {
 
     ghost view = { view_of };
 
+    // It reads bytes, each known alone.
+    #[inline(always)]
+    fn reads_symbols<W: Way>(&self) -> bool {
+        false
+    }
+
     // If the pattern that is asked for doesn't exist, nothing goes on.
     #[inline(always)]
     fn start<W: Way>(
@@ -51,8 +58,28 @@ impl Transitions for Lazy {
     }
 
     #[inline(always)]
+    fn start_beside<W: Way>(
+        &self,
+        cache: &mut Half,
+        anchored: Anchored,
+        symbol: Symbol,
+    ) -> Result<usize, Refusal> {
+        self.start::<W>(cache, anchored, Some(symbol.byte))
+    }
+
+    #[inline(always)]
     fn next<W: Way>(&self, cache: &mut Half, row: usize, byte: u8) -> Result<usize, Refusal> {
         cache.next(&self.automaton, direction::<W>(), row, Some(byte))
+    }
+
+    #[inline(always)]
+    fn next_over<W: Way>(
+        &self,
+        cache: &mut Half,
+        row: usize,
+        symbol: Symbol,
+    ) -> Result<usize, Refusal> {
+        self.next::<W>(cache, row, symbol.byte)
     }
 
     #[inline(always)]

@@ -1,5 +1,7 @@
 pub mod RunLemmas
 pub mod WayLemmas
 pub mod SpanLemmas
+mod SymbolLemmas
+mod BesideLemmas
 mod SearchLemmas
 mod MemoLemmas

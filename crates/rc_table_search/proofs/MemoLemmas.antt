@@ -1,15 +1,13 @@
 -- Runs that go on from a mark, and what marks say.
-use Rattle.std.proofs.Common.{◌≡◌, ◌⊎◌, ℕ, ◌+◌, ◌-◌, ◌<◌, ◌≤◌, Bool, true, false, List, Option, Some, None, ◌≢◌, is_some, true≢false, inl, inr, refl, sym, subst, ap, ◌∙◌, arith}
+use Rattle.std.proofs.Common.{◌≡◌, ◌⊎◌, ℕ, ◌+◌, ◌-◌, ◌<◌, ◌≤◌, Bool, true, false, Option, Some, None, ◌≢◌, is_some, true≢false, inl, inr, refl, sym, subst, ap, ◌∙◌, arith}
 use Rattle.std.proofs.lemmas.Option.{none-some}
 use Rattle.std.specs.Option.{option_or}
 use Rattle.rc_text.specs.Text.{Keeps, Searched}
 use Rattle.rc_program.specs.Text.{Text}
-use Rattle.rc_program.specs.Sought.{text_of}
 use Rattle.rc_determinize.specs.States.{State, best_at}
 use Rattle.rc_dfa.specs.Machine.{Machine}
 use Rattle.rc_dfa.specs.Runs.{RunsOver, Runs, RunEnd, met_last, stopped_at, idle_at, begun, goes_on}
 use Rattle.rc_dfa.specs.Reads.{EndsBelowOver, EndsBelow, at_bound, dead, early, quit, rests}
-use Rattle.rc_dfa.specs.Memos.{Has}
 use Rattle.rc_dfa.specs.declared.ended.Ended.{Ended}
 use Rattle.rc_dfa.specs.declared.ended.Ended.TheVariants.{Found, Idle, Quit, GaveUp}
 use Rattle.rc_dfa.specs.declared.ended.Met.{Met}

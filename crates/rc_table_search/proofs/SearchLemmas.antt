@@ -2,21 +2,21 @@
 use Rattle.std.proofs.Common.{◌≡◌, ◌≢◌, ◌⊎◌, ℕ, ◌+◌, ◌-◌, ◌<◌, ◌≤◌, Bool, true, false, true≢false, not, is_some, List, length, Option, Some, None, slice_range, slice_index_or, inl, inr, refl, sym, subst, ap, ◌∙◌, arith}
 use Rattle.std.proofs.lemmas.Bool.{le-leb, lt-leb}
 use Rattle.std.proofs.lemmas.Option.{none-some, same_Some}
+use Rattle.rc_program.specs.Looks.{Side}
 use Rattle.rc_program.specs.Sought.{text_of}
 use Rattle.rc_determinize.specs.States.{State, best_at}
-use Rattle.rc_dfa.specs.Machine as machines
-use Rattle.rc_dfa.specs.Machine.{Machine, Leads, Begins, IsAsked, is_idle}
-use Rattle.rc_dfa.specs.Runs.{MayRead, RunEnd, met_last, stopped_at}
+use Rattle.rc_dfa.specs.Machine.{Machine, Leads, IsAsked, is_idle}
+use Rattle.rc_dfa.specs.Runs.{MayRead, MayReadSide, LeadsAcross, BeginsBy, RunEnd, met_last}
 use Rattle.rc_dfa.specs.Ended.{gave_up}
 use Rattle.rc_dfa.specs.declared.ended.Ended.{Ended}
 use Rattle.rc_dfa.specs.declared.ended.Ended.TheVariants.{Found, Idle, Quit, GaveUp}
 use Rattle.rc_table_search.specs.Walks.{HasByte, Reaches, Walk, byte_at, cell_by, cell_of, dead, first_of, has_died, left_of, met, next_of, quit, row_of, skip, begun, plain, leapt, found}
-use Rattle.rc_table_search.specs.Ways.{EndsFrom, HasEndedBy, HasEndedFrom, IsBeside, IsBounded, IsOn, LiesWithin, RunsBy, beside_at, offset_of, span}
-use Rattle.rc_table_search.specs.Views.{View, IsEnd, IsFound, IsLawful, IsNoted, IsRun, IsSame, IsStart, IsStep, Knows, LeadsTo}
-use Rattle.rc_table_search.specs.Searches.{HasBegun, HasRun, IsAt, IsOver, Origin, Outset, Says, all_spent, course_of, run_spent, text_in}
+use Rattle.rc_table_search.specs.Ways.{EndsFrom, HasEndedBy, HasEndedFrom, IsBeside, IsBounded, IsOn, LiesWithin, RunsBy, beside_at, far_at, offset_of, side_at, span}
+use Rattle.rc_table_search.specs.Views.{View, IsEnd, IsFound, IsLawful, IsNoted, IsRun, IsSame, Knows, KnowsSide, LeadsTo}
+use Rattle.rc_table_search.specs.Searches.{BeginsAt, HasBegun, HasRun, IsAt, IsOver, LeadsAt, Origin, Outset, Says, all_spent, course_of, run_spent, text_in}
 use Rattle.rc_table_search.specs.declared.run.Stand.{Stand}
 use Rattle.rc_table_search.specs.declared.search.Request.{Request}
-use Rattle.rc_table_search.proofs.SpanLemmas.{beside_same, next_here, on_both, on_first, on_here, place_next, span_here, span_next, span_within}
+use Rattle.rc_table_search.proofs.SpanLemmas.{beside_same, inside_here, next_here, on_both, on_first, on_here, place_next, span_here, span_next, span_within}
 use Rattle.rc_table_search.proofs.WayLemmas as ways
 
 -- where a cell leads, if the byte may be read
@@ -25,10 +25,16 @@ pub leads_to : (C : Type 0) (v : View C) (c : C) (m : Machine) (beside : Option 
 leads_to C v c m beside To cell (inl h) ne = absurd (ne h.0)
 leads_to C v c m beside To cell (inr h) ne = h
 
-pub unread : (C : Type 0) (v : View C) (c : C) (m : Machine) (beside : Option ℕ) (To : State → Type 0) (cell : ℕ) → Knows v c m beside To cell → cell ≡ quit →
-    ¬ MayRead m beside
-unread C v c m beside To cell (inl h) e = h.1
-unread C v c m beside To cell (inr h) e = absurd (h.1.2.is_read e)
+-- the same of what stands on a side
+pub leads_by : (C : Type 0) (v : View C) (c : C) (m : Machine) (side : Side) (To : State → Type 0) (cell : ℕ) → KnowsSide v c m side To cell → cell ≢ quit →
+    MayReadSide m.alphabet m side × ((t : State) × To t × LeadsTo (v.HasState c m) v.leaps cell t)
+leads_by C v c m side To cell (inl h) ne = absurd (ne h.0)
+leads_by C v c m side To cell (inr h) ne = h
+
+pub unread : (C : Type 0) (v : View C) (c : C) (m : Machine) (side : Side) (To : State → Type 0) (cell : ℕ) → KnowsSide v c m side To cell → cell ≡ quit →
+    ¬ MayReadSide m.alphabet m side
+unread C v c m side To cell (inl h) e = h.1
+unread C v c m side To cell (inr h) e = absurd (h.1.2.is_read e)
 
 some_of : (o : Option ℕ) → is_some o ≡ true → (k : ℕ) × (o ≡ Some k)
 some_of None e = cc e
@@ -64,7 +70,7 @@ module _ (C : Type 0) (v : View C) (laws : IsLawful v) (backwards : Bool) (o : O
       in_row = subst (λ r. v.HasState c m r first) same_row (subst (λ k. v.HasState k m o.row first) same has);
       found = None;
       tells = subst (λ n. IsNoted v m n None) (sym unmet) refl;
-      standing = ways.begins m (laws.reads m of) (text_in m o.seen) (course_of q) backwards first;
+      standing = ways.begins m (text_in m o.seen) (course_of q) backwards first;
     };
   }
 
@@ -117,21 +123,21 @@ module _ (C : Type 0) (v : View C) (laws : IsLawful v) (backwards : Bool) (o : O
       let nothing = subst (λ n. IsNoted v m n x.found) (ways.none_of stand.noted none) x.tells in (
         forwards,
         may,
-        ways.rests m (laws.reads m of) (text_in m o.seen) (course_of q) backwards forwards first i x.state x.found x.standing within (ap is_some nothing) (idle m x.state x.in_row),
+        ways.rests m (text_in m o.seen) (course_of q) backwards forwards first i x.state x.found x.standing within (ap is_some nothing) (idle m x.state x.in_row),
       )) refl
 
   -- ONE STEP, WHATEVER ITS CELL
 
   module _ (c0 c : C) (i : ℕ) (stand : Stand) (b cell : ℕ) (here : IsAt v backwards o q c0 i stand) (cache : v.IsCache c) (spends : v.Spends c0 c 1)
-      (step : IsStep v c0 c stand.row b cell) (beside : beside_at backwards (text_of 0 o.seen) i ≡ Some b) (within : IsOn backwards i q.end) where
+      (step : LeadsAt v backwards o.seen c0 c i stand.row cell) (within : IsOn backwards i q.end) where
     pub spent : v.Spends o.begun c (span backwards q.from i + 1)
     spent = laws.spends_both o.begun c0 c (span backwards q.from i) 1 here.spends spends
 
     pub few : span backwards q.from i + 1 ≤ run_spent backwards q
     few = few_spent i here.on within
 
-    is : (m : Machine) → beside_at backwards (text_in m o.seen) i ≡ Some b
-    is m = beside_same backwards m.setting.terminator 0 o.seen i ∙ beside
+    abbrev To : Machine → State → State → Type 0
+    To m s = LeadsAcross m.alphabet m (side_at backwards (text_in m o.seen) i) (far_at backwards (text_in m o.seen) i) s
 
     pub step_quits : (r p : ℕ) → (backwards ≡ false → r ≡ i + 1) → cell ≡ quit → IsBeside backwards o.seen.content i b → p ≡ offset_of backwards i →
         HasRun v backwards o q c r (Quit b p)
@@ -141,8 +147,8 @@ module _ (C : Type 0) (v : View C) (laws : IsLawful v) (backwards : Bool) (o : O
         let x = here.stands m of first has in
         subst (λ k. HasEndedFrom backwards m (text_in m o.seen) (course_of q) first q.extent.may_rest r (Quit b k)) (sym at) (
           ways.there_of backwards o.seen.content i b there,
-          ways.quits m (laws.reads m of) (text_in m o.seen) (course_of q) backwards i r far first x.state x.found x.standing within (ways.some_before backwards o.seen.content i b there)
-              (subst (λ k. ¬ MayRead m k) (sym (is m)) (unread C v c m (Some b) (Leads m x.state (Some b)) cell (step.leads m x.state x.in_row) e)),
+          ways.quits m (text_in m o.seen) (course_of q) backwards i r far first x.state x.found x.standing within (ways.some_before backwards o.seen.content i b there)
+              (unread C v c m (side_at backwards (text_in m o.seen) i) (To m x.state) cell (step.leads m of x.state x.in_row) e),
         )) refl
 
     -- what was found last, by the way to the next state
@@ -151,29 +157,27 @@ module _ (C : Type 0) (v : View C) (laws : IsLawful v) (backwards : Bool) (o : O
         IsNoted v m noted (best_at i t.matched found)) where
       -- the next state, to which the byte leads
       record IsNextState (m : Machine) (first : State) : Type 0 where
-        plain : m.alphabet ≡ machines.bytes
         state : State
         there : LeadsTo (v.HasState c m) v.leaps cell state
         before : State
         found : Option (ℕ × ℕ)
         standing : RunsBy backwards m (text_in m o.seen) (course_of q) first i before found
         tells : IsNoted v m noted (best_at i state.matched found)
-        read : MayRead m (beside_at backwards (text_in m o.seen) i)
-        leads : Leads m before (beside_at backwards (text_in m o.seen) i) state
+        read : MayReadSide m.alphabet m (side_at backwards (text_in m o.seen) i)
+        leads : To m before state
 
       next_state : (m : Machine) → v.IsOf m → (first : State) → v.HasState o.begun m o.row first → IsNextState m first
       next_state m of first has =
           let x = here.stands m of first has in
-          let l = leads_to C v c m (Some b) (Leads m x.state (Some b)) cell (step.leads m x.state x.in_row) ne in record {
-            plain = laws.reads m of;
+          let l = leads_by C v c m (side_at backwards (text_in m o.seen) i) (To m x.state) cell (step.leads m of x.state x.in_row) ne in record {
             state = l.1.0;
             there = l.1.2;
             before = x.state;
             found = x.found;
             standing = x.standing;
             tells = notes m l.1.0 x.found l.1.2 x.tells;
-            read = subst (λ k. MayRead m k) (sym (is m)) l.0;
-            leads = subst (λ k. Leads m x.state k l.1.0) (sym (is m)) l.1.1;
+            read = l.0;
+            leads = l.1.1;
           }
 
       -- at the bound
@@ -182,17 +186,21 @@ module _ (C : Type 0) (v : View C) (laws : IsLawful v) (backwards : Bool) (o : O
           over_says (λ m last. IsNoted v m noted last) c (span backwards q.from i + 1) (q.end + 1) e said cache spent few
           (λ m of first has.
           let n = next_state m of first has in
-          let B : ℕ → Type 0 = λ k. RunsBy backwards m (text_in m o.seen) (course_of q) first k n.before n.found → MayRead m (beside_at backwards (text_in m o.seen) k) →
-          Leads m n.before (beside_at backwards (text_in m o.seen) k) n.state → Ends m first (q.end + 1) (met_last (best_at k n.state.matched n.found)) in (
+          let B : ℕ → Type 0 = λ k. RunsBy backwards m (text_in m o.seen) (course_of q) first k n.before n.found → MayReadSide m.alphabet m (side_at backwards (text_in m o.seen) k) →
+          LeadsAcross m.alphabet m (side_at backwards (text_in m o.seen) k) (far_at backwards (text_in m o.seen) k) n.before n.state →
+          Ends m first (q.end + 1) (met_last (best_at k n.state.matched n.found)) in (
             best_at i n.state.matched n.found,
             n.tells,
-            subst B (sym at) (ways.bounded m (laws.reads m of) (text_in m o.seen) (course_of q) backwards first n.before n.state n.found) n.standing n.read n.leads,
+            subst B (sym at)
+                (λ x read leads. ways.bounded m (text_in m o.seen) (course_of q) backwards first n.before n.state n.found x read
+                (ways.bound_at m (text_in m o.seen) (side_at backwards (text_in m o.seen) q.end) (far_at backwards (text_in m o.seen) q.end) n.before n.state leads))
+                n.standing n.read n.leads,
           ))
 
       module _ (left : 0 < span backwards i q.end) where
         stands_on : (m : Machine) (first : State) (n : IsNextState m first) →
             RunsBy backwards m (text_in m o.seen) (course_of q) first (next_of backwards i) n.state (best_at i n.state.matched n.found)
-        stands_on m first n = ways.runs_on m n.plain (text_in m o.seen) (course_of q) backwards first i n.before n.state n.found n.standing left n.read n.leads
+        stands_on m first n = ways.runs_on m (text_in m o.seen) (course_of q) backwards first i n.before n.state n.found n.standing left n.read n.leads
 
         pub step_dies : (e : Ended) → has_died cell ≡ true → Says v backwards (λ m last. IsNoted v m noted last) e → HasRun v backwards o q c (next_of backwards i) e
         step_dies e died said =
@@ -201,7 +209,7 @@ module _ (C : Type 0) (v : View C) (laws : IsLawful v) (backwards : Bool) (o : O
             let n = next_state m of first has in (
               best_at i n.state.matched n.found,
               n.tells,
-              ways.dies m (laws.reads m of) (text_in m o.seen) (course_of q) backwards first (next_of backwards i) n.state (best_at i n.state.matched n.found) (stands_on m first n)
+              ways.dies m (text_in m o.seen) (course_of q) backwards first (next_of backwards i) n.state (best_at i n.state.matched n.found) (stands_on m first n)
                   (sym n.there.died ∙ died),
             ))
 
@@ -213,7 +221,7 @@ module _ (C : Type 0) (v : View C) (laws : IsLawful v) (backwards : Bool) (o : O
             let n = next_state m of first has in (
               best_at i n.state.matched n.found,
               n.tells,
-              ways.stops_early m (laws.reads m of) (text_in m o.seen) (course_of q) backwards first (next_of backwards i) n.state (best_at i n.state.matched n.found) (stands_on m first n) early
+              ways.stops_early m (text_in m o.seen) (course_of q) backwards first (next_of backwards i) n.state (best_at i n.state.matched n.found) (stands_on m first n) early
                   (some_noted m noted (best_at i n.state.matched n.found) n.tells some),
             ))
           where
@@ -257,8 +265,9 @@ module _ (C : Type 0) (v : View C) (laws : IsLawful v) (backwards : Bool) (o : O
           best_at q.end last x.found,
           is m x.found x.tells,
           subst (λ k. Ends m first (q.end + 1) (met_last (best_at q.end k x.found))) (sym l.2)
-              (ways.bounded m (laws.reads m of) (text_in m o.seen) (course_of q) backwards first x.state l.0 x.found x.standing (subst (λ k. MayRead m k) (sym none) tt)
-              (subst (λ k. Leads m x.state k l.0) (sym none) l.1)),
+              (ways.bounded m (text_in m o.seen) (course_of q) backwards first x.state l.0 x.found x.standing
+              (ways.may_at m (text_in m o.seen) (side_at backwards (text_in m o.seen) q.end) None (ways.byte_side m (text_in m o.seen) backwards q.end ∙ none) tt)
+              (ways.end_at m (text_in m o.seen) backwards q.end x.state l.0 none l.1)),
         ))
 
     pub end_met : (found : ℕ) (e : Ended) → last ≡ Some found → Says v backwards (λ m k. k ≡ Some (found, q.end)) e → HasRun v backwards o q c (q.end + 1) e
@@ -273,6 +282,7 @@ module _ (C : Type 0) (v : View C) (laws : IsLawful v) (backwards : Bool) (o : O
 
   -- the cells and classes of a walk over a piece of what is searched
   module _ (c : C) (w : Walk) (way : w.backwards ≡ backwards) (leaping : w.leaps ≡ v.leaps) (inside : IsBounded backwards o.seen q.end)
+      (began : IsBounded (not backwards) o.seen q.from) (further : IsOn backwards q.from (w.start + first_of backwards (length w.piece)))
       (piece : w.piece ≡ slice_range o.seen.content w.start (w.start + length w.piece)) (lies : LiesWithin backwards w.start (length w.piece) q.end)
       (bytes : (k : ℕ) → slice_index_or w.piece k 0 < 256) (m : Machine) (of : v.IsOf m)
       (told : (r b : ℕ) (s : State) → v.HasState c m r s → b < 256 → (v.leaps ≡ false → cell_by w.cells w.classes r b ≢ skip) →
@@ -303,12 +313,16 @@ module _ (C : Type 0) (v : View C) (laws : IsLawful v) (backwards : Bool) (o : O
           let beside = next.beside m.setting.terminator ∙ ap (λ k. Some (byte_at k w.piece place)) (sym way) in
           let l = leads_to C v c m (Some b) (Leads m x.state (Some b)) here (told row b x.state x.in_row (small w.backwards) known) ne in
           let t = l.1.0 in
+          let within = ways.inside_of backwards m.setting.terminator o.seen (w.start + place)
+          (inside_here backwards o.seen q.from q.end w.start place (length w.piece) inside began further lies byte.within some) in
           let to = place_next backwards (length w.piece) w.start place some ∙ ap (λ k. w.start + next_of k place) (sym way) in (
             t,
             l.1.2,
             subst (λ i. RunsBy backwards m (text_in m o.seen) (course_of q) first i t (best_at (w.start + place) t.matched x.found)) to
-                (ways.runs_on m (laws.reads m of) (text_in m o.seen) (course_of q) backwards first (w.start + place) x.state t x.found x.standing next.left
-                (subst (λ k. MayRead m k) (sym beside) l.0) (subst (λ k. Leads m x.state k t) (sym beside) l.1.1)),
+                (ways.runs_on m (text_in m o.seen) (course_of q) backwards first (w.start + place) x.state t x.found x.standing next.left
+                (ways.may_at m (text_in m o.seen) (side_at backwards (text_in m o.seen) (w.start + place)) (Some b)
+                (ways.byte_side m (text_in m o.seen) backwards (w.start + place) ∙ beside) l.0)
+                (ways.leads_at m (text_in m o.seen) backwards (w.start + place) (Some b) x.state t beside within l.0 l.1.1)),
           )
 
       -- to a row before which nothing was found
@@ -354,12 +368,12 @@ module _ (C : Type 0) (v : View C) (laws : IsLawful v) (backwards : Bool) (o : O
 
   -- bytes of a piece were read by cells that needed no look
   pub at_moved : (c0 c : C) (piece : List ℕ) (start place to : ℕ) (stand : Stand) (last noted : Option (ℕ × ℕ)) →
-      IsAt v backwards o q c0 (start + first_of backwards (length piece)) stand → IsBounded backwards o.seen q.end →
+      IsAt v backwards o q c0 (start + first_of backwards (length piece)) stand → IsBounded (not backwards) o.seen q.from → IsBounded backwards o.seen q.end →
       piece ≡ slice_range o.seen.content start (start + length piece) → LiesWithin backwards start (length piece) q.end →
       ((k : ℕ) → slice_index_or piece k 0 < 256) → place ≤ length piece → IsSame v c0 c → v.IsRow c to → IsRun v backwards c0 piece start stand.row place to last →
       ((m : Machine) (before found : Option (ℕ × ℕ)) → IsFound v c m last before found → IsNoted v m stand.noted before → IsNoted v m noted found) →
       IsAt v backwards o q c (start + place) (record { row = to; noted = noted })
-  at_moved c0 c piece start place to stand last noted here inside is lies bytes le same row run notes =
+  at_moved c0 c piece start place to stand last noted here began inside is lies bytes le same row run notes =
       let further = on_first backwards (length piece) start place le in
       let more = span_within backwards q.from (start + first_of backwards (length piece)) (start + place) here.on further in record {
         cache = same.cache here.cache;
@@ -380,7 +394,7 @@ module _ (C : Type 0) (v : View C) (laws : IsLawful v) (backwards : Bool) (o : O
               first = stand.row;
               before = None;
             } in
-            let y = over c0 w refl refl inside is lies bytes m of (run.told m) x.found first
+            let y = over c0 w refl refl inside began here.on is lies bytes m of (run.told m) x.found first
             (record { state = x.state; in_row = x.in_row; found = x.found; tells = refl; standing = x.standing }) place to last (run.reaches m x.state x.in_row) in record {
               state = y.state;
               in_row = same.has_state m to y.state y.in_row;
@@ -408,47 +422,49 @@ module _ (C : Type 0) (v : View C) (laws : IsLawful v) (backwards : Bool) (o : O
   begin_refused c memory cache spends refused on = record {
     cache = cache;
     spends = laws.spends_within o.begun c 1 (all_spent backwards q) (omega arith) spends;
-    ended = λ m of asked. ways.gave_so m (laws.reads m of) (text_in m o.seen) (course_of q) backwards q.extent.may_rest q.from q.from memory (on_here backwards q.from) on;
+    ended = λ m of asked. ways.gave_so m (text_in m o.seen) (course_of q) backwards q.extent.may_rest q.from q.from memory (on_here backwards q.from) on;
     gives_up = λ k e.
         laws.gives_up_within o.begun c 1 (all_spent backwards q) k (omega arith) (subst (λ x. v.GivesUp o.begun c 1 x) (same_Some memory k e) refused);
   }
 
-  module _ (c : C) (beside : Option ℕ) (cell : ℕ) (cache : v.IsCache c) (spends : v.Spends o.begun c 1) (start : IsStart v c q.anchored beside cell)
-      (same : beside ≡ beside_at (not backwards) (text_of 0 o.seen) q.from) where
-    begin_is : (m : Machine) → beside ≡ beside_at (not backwards) (text_in m o.seen) q.from
-    begin_is m = same ∙ beside_same (not backwards) 0 m.setting.terminator o.seen q.from
+  module _ (c : C) (cell : ℕ) (cache : v.IsCache c) (spends : v.Spends o.begun c 1) (start : BeginsAt v backwards o.seen c q.anchored q.from cell) where
+    abbrev side : Machine → Side
+    side m = side_at (not backwards) (text_in m o.seen) q.from
 
-    unread_here : cell ≡ quit → (m : Machine) → v.IsOf m → IsAsked m q.anchored → ¬ MayRead m beside
-    unread_here e m of asked = unread C v c m beside (Begins m q.anchored beside) cell (start.begins m of asked) e
+    unread_here : cell ≡ quit → (m : Machine) → v.IsOf m → IsAsked m q.anchored → ¬ MayReadSide m.alphabet m (side m)
+    unread_here e m of asked = unread C v c m (side m) (BeginsBy m.alphabet m q.anchored (side m)) cell (start.begins m of asked) e
 
-    pub begin_quits : (b p : ℕ) → cell ≡ quit → beside ≡ Some b → IsBeside (not backwards) o.seen.content q.from b → p ≡ offset_of (not backwards) q.from →
+    pub begin_quits : (b p : ℕ) → cell ≡ quit → IsBeside (not backwards) o.seen.content q.from b → p ≡ offset_of (not backwards) q.from →
         IsOver v backwards o q c q.from (Quit b p)
-    begin_quits b p e is there at =
+    begin_quits b p e there at =
         begin_over c (Quit b p) cache spends
         (λ m of asked. subst (λ k. HasEndedBy backwards m (text_in m o.seen) (course_of q) q.extent.may_rest q.from (Quit b k)) (sym at)
-        (ways.quit_so m (laws.reads m of) (text_in m o.seen) (course_of q) backwards q.extent.may_rest b (offset_of (not backwards) q.from) q.from
+        (ways.quit_so m (text_in m o.seen) (course_of q) backwards q.extent.may_rest b (offset_of (not backwards) q.from) q.from
         (ways.there_of (not backwards) o.seen.content q.from b there)
-        (ways.never_begins m (laws.reads m of) (text_in m o.seen) (course_of q) backwards (λ k. ways.some_before (not backwards) o.seen.content q.from b there (ap not k))
-        (subst (λ k. ¬ MayRead m k) (begin_is m) (unread_here e m of asked))))) refl
+        (ways.never_begins m (text_in m o.seen) (course_of q) backwards (λ k. ways.some_before (not backwards) o.seen.content q.from b there (ap not k))
+        (unread_here e m of asked)))) refl
 
     -- the end is always read
-    pub begin_at_edge : cell ≡ quit → beside ≡ None → IsOver v backwards o q c q.from (Found None)
+    pub begin_at_edge : cell ≡ quit → beside_at (not backwards) (text_of 0 o.seen) q.from ≡ None → IsOver v backwards o q c q.from (Found None)
     begin_at_edge e none =
-        begin_over c (Found None) cache spends (λ m of asked. absurd (subst (λ k. ¬ MayRead m k) none (unread_here e m of asked) tt)) refl
+        begin_over c (Found None) cache spends
+        (λ m of asked.
+        let same = beside_same (not backwards) m.setting.terminator 0 o.seen q.from ∙ none in
+        absurd (unread_here e m of asked
+        (ways.may_at m (text_in m o.seen) (side m) None (ways.byte_side m (text_in m o.seen) (not backwards) q.from ∙ same) tt))) refl
 
     module _ (ne : cell ≢ quit) where
       first_state : (m : Machine) → v.IsOf m → IsAsked m q.anchored → (s : State) × LeadsTo (v.HasState c m) v.leaps cell s
-          × MayRead m (beside_at (not backwards) (text_in m o.seen) q.from) × Begins m q.anchored (beside_at (not backwards) (text_in m o.seen) q.from) s
+          × MayReadSide m.alphabet m (side m) × BeginsBy m.alphabet m q.anchored (side m) s
       first_state m of asked =
-          let l = leads_to C v c m beside (Begins m q.anchored beside) cell (start.begins m of asked) ne in
-          (l.1.0, l.1.2, subst (λ k. MayRead m k) (begin_is m) l.0, subst (λ k. Begins m q.anchored k l.1.0) (begin_is m) l.1.1)
+          let l = leads_by C v c m (side m) (BeginsBy m.alphabet m q.anchored (side m)) cell (start.begins m of asked) ne in (l.1.0, l.1.2, l.0, l.1.1)
 
       pub begin_dies : has_died cell ≡ true → IsOver v backwards o q c q.from (Found None)
       begin_dies e =
           begin_over c (Found None) cache spends
           (λ m of asked.
           let s = first_state m of asked in
-          ways.dies_first m (laws.reads m of) (text_in m o.seen) (course_of q) backwards q.extent.may_rest s.0 s.2 s.3 (sym s.1.died ∙ e)) refl
+          ways.dies_first m (text_in m o.seen) (course_of q) backwards q.extent.may_rest s.0 s.2 s.3 (sym s.1.died ∙ e)) refl
 
       pub begin_goes : has_died cell ≡ false → HasBegun v backwards o q c (record { row = row_of cell; noted = None })
       begin_goes alive = record {
@@ -468,7 +484,7 @@ module _ (C : Type 0) (v : View C) (laws : IsLawful v) (backwards : Bool) (o : O
         spends = laws.spends_within o.begun c (1 + run_spent backwards q) (all_spent backwards q) le (laws.spends_both o.begun b c 1 (run_spent backwards q) there.spends run.spends);
         ended = λ m of asked.
             let s = there.begins m of asked in
-            ways.whole m (laws.reads m of) (text_in m o.seen) (course_of q) backwards q.extent.may_rest s.0 s.2 s.3 r e (run.ended m of s.0 s.1);
+            ways.whole m (text_in m o.seen) (course_of q) backwards q.extent.may_rest s.0 s.2 s.3 r e (run.ended m of s.0 s.1);
         gives_up = λ memory k.
             laws.gives_up_within o.begun c (1 + run_spent backwards q) (all_spent backwards q) memory le
             (laws.gives_up_later o.begun b c 1 (run_spent backwards q) memory there.spends (run.gives_up memory k));

@@ -1,12 +1,14 @@
 -- Positions in either direction, and the byte that is read next.
-use Rattle.std.proofs.Common.{◌≡◌, ℕ, ◌+◌, ◌-◌, ◌<◌, ◌≤◌, Bool, true, false, List, length, Some, slice_get, slice_range, slice_index_or, refl, subst, arith}
-use Rattle.rc_text.specs.Text.{Keeps, Searched}
+use Rattle.std.proofs.Common.{◌≡◌, ℕ, ◌+◌, ◌-◌, ◌<◌, ◌≤◌, Bool, true, false, not, List, length, Option, Some, None, IfSome, slice_get, slice_range, slice_index_or, ⊎_elim, refl, sym, subst, ◌∙◌, arith}
+use Rattle.std.proofs.lemmas.Bool.{cases_lt}
+use Rattle.std.proofs.lemmas.Option.{none-some}
+use Rattle.rc_text.specs.Text.{Keeps, Searched, slice_end}
 use Rattle.rc_program.specs.Sought.{text_of}
-use Rattle.rc_determinize.proofs.TextLemmas.{byte_ahead, byte_behind}
+use Rattle.rc_determinize.proofs.TextLemmas.{byte_ahead, byte_behind, none_ahead, none_behind}
 use Rattle.rc_dfa.proofs.SideLemmas.{ahead_kept, behind_kept, byte_of_piece}
-use Rattle.rc_dfa.specs.Runs.{behind_at}
+use Rattle.rc_dfa.specs.Runs.{ahead_at, behind_at}
 use Rattle.rc_table_search.specs.Walks.{byte_at, first_of, left_of, next_of, start_of}
-use Rattle.rc_table_search.specs.Ways.{IsBounded, IsNext, IsOn, LiesWithin, beside_at, span}
+use Rattle.rc_table_search.specs.Ways.{IsBounded, IsInSlice, IsNext, IsOn, LiesWithin, beside_at, span}
 
 pub on_here : (backwards : Bool) (i : ℕ) → IsOn backwards i i
 on_here false i = omega arith
@@ -33,6 +35,11 @@ span_within true i k n a b = omega (arith, a, b)
 pub span_left : (backwards : Bool) (i k n : ℕ) → IsOn backwards i k → IsOn backwards k n → span backwards i n ≡ span backwards i k + span backwards k n
 span_left false i k n a b = omega (arith, a, b)
 span_left true i k n a b = omega (arith, a, b)
+
+-- where a search begins and ends within the slice
+pub bounded_here : (backwards : Bool) (seen : Searched) (i : ℕ) → seen.slice.start ≤ i → i ≤ slice_end seen → IsBounded backwards seen i
+bounded_here false seen i low high = high
+bounded_here true seen i low high = low
 
 -- one byte further
 pub span_next : (backwards : Bool) (from i bound : ℕ) → IsOn backwards from i → 0 < span backwards i bound →
@@ -80,6 +87,32 @@ pub first_here : (backwards : Bool) (len at bound : ℕ) → 0 < span backwards 
 first_here false len at bound left short = (omega arith, omega (arith, left, short), omega arith, omega arith)
 first_here true len at bound left short = (omega (arith, left, short), omega (arith, left, short), omega arith, omega arith)
 
+-- the slice has the byte that is read next of a piece
+pub inside_here : (backwards : Bool) (seen : Searched) (from bound start place len : ℕ) → IsBounded backwards seen bound → IsBounded (not backwards) seen from →
+    IsOn backwards from (start + first_of backwards len) → LiesWithin backwards start len bound → place ≤ len → 0 < left_of backwards len place →
+    IsInSlice backwards seen (start + place)
+inside_here false seen from bound start place len inside began further within le some =
+    (omega (arith, began, further), omega (arith, inside, within, le, some))
+inside_here true seen from bound start place len inside began further within le some =
+    (omega (arith, inside, within, some), omega (arith, began, further, le))
+
+-- the slice has a byte that stands beside a position of it
+pub in_slice : (backwards : Bool) (seen : Searched) (i : ℕ) (o : Option ℕ) → seen.slice.start ≤ i → i ≤ slice_end seen →
+    o ≡ beside_at backwards (text_of 0 seen) i → IfSome o (λ _. IsInSlice backwards seen i)
+in_slice backwards seen i None low high e = tt
+in_slice false seen i (Some b) low high e =
+    ⊎_elim (λ lt. (low, lt))
+    (λ ge.
+    let same : slice_end seen ≡ i = omega (arith, high, ge) in
+    absurd (none-some b (sym (subst (λ k. ahead_at (text_of 0 seen) k ≡ None) same (none_ahead (text_of 0 seen))) ∙ sym e)))
+    (cases_lt i (slice_end seen))
+in_slice true seen i (Some b) low high e =
+    ⊎_elim (λ lt. (lt, high))
+    (λ ge.
+    let same : seen.slice.start ≡ i = omega (arith, low, ge) in
+    absurd (none-some b (sym (subst (λ k. behind_at (text_of 0 seen) k ≡ None) same (none_behind (text_of 0 seen))) ∙ sym e)))
+    (cases_lt seen.slice.start i)
+
 -- so far it was read
 pub read_here : (backwards : Bool) (len at bound place : ℕ) → 0 < span backwards at bound → len ≤ span backwards at bound → place ≤ len →
     IsOn backwards at (start_of backwards len at + place) × IsOn backwards (start_of backwards len at + place) bound
@@ -112,3 +145,12 @@ beside_same true a b s i = refl
 pub beside_kept : (backwards : Bool) (terminator : ℕ) (s t : Searched) (i : ℕ) → Keeps s t → beside_at backwards (text_of 0 t) i ≡ beside_at backwards (text_of terminator s) i
 beside_kept false terminator s t i k = ahead_kept s t i k
 beside_kept true terminator s t i k = behind_kept s t i k
+
+pub kept_then : (a b c : Searched) → Keeps a b → Keeps b c → Keeps a c
+kept_then a b c x y = record {
+  content = y.content ∙ x.content;
+  span = y.span ∙ x.span;
+  slice = y.slice ∙ x.slice;
+  anchored = y.anchored ∙ x.anchored;
+  earliest = y.earliest ∙ x.earliest;
+}

@@ -1,18 +1,24 @@
 -- Runs and their ends in either direction.
-use Rattle.std.proofs.Common.{◌≡◌, ℕ, ◌+◌, ◌-◌, ◌<◌, ◌≤◌, Bool, true, false, not, is_some, IsTrue, List, Option, Some, None, slice_get, refl, sym, subst, ap, ◌∙◌, arith}
+use Rattle.std.proofs.Common.{◌≡◌, ◌⊎◌, ℕ, ◌+◌, ◌-◌, ◌<◌, ◌≤◌, Bool, true, false, not, is_some, List, Option, Some, None, slice_get, inl, inr, refl, sym, subst, arith}
+use Rattle.rc_text.specs.Text.{Searched}
+use Rattle.rc_text.specs.declared.types.Anchored.{Anchored}
 use Rattle.rc_program.specs.Looks.{Side}
 use Rattle.rc_program.specs.Text.{Text, before_at, after_at}
-use Rattle.rc_determinize.specs.Sides.{byte_of}
-use Rattle.rc_determinize.specs.States.{State, best_at}
+use Rattle.rc_program.specs.Sought.{text_of}
+use Rattle.rc_symbols.specs.Symbols.{IsSymbolAt}
+use Rattle.rc_determinize.specs.Sides.{byte_of, told_side}
+use Rattle.rc_determinize.specs.States.{State, IsInside, best_at}
 use Rattle.rc_determinize.specs.Backward.{least_at}
-use Rattle.rc_dfa.specs.Machine.{Machine, bytes, Leads, Begins, is_dead, is_idle}
-use Rattle.rc_dfa.specs.Runs.{MayRead, ahead_at, behind_at, MayReadSide, LeadsAcross, LeadsBy, BeginsBy, RunsOver, Runs, RunsDownOver, RunsDown, RunEnd, met_last, stopped_at, idle_at, EndsDownOver, EndsDown, SearchEndsDownOver, SearchEndsDown}
-use Rattle.rc_dfa.specs.Reads.{EndsBelowOver, EndsBelow, SearchEndsBelowOver, SearchEndsBelow}
+use Rattle.rc_dfa.specs.Machine.{Alphabet, bytes, symbols, Machine, Leads, Begins, is_dead, is_idle}
+use Rattle.rc_dfa.specs.Runs.{MayRead, behind_at, MayReadSide, LeadsAcross, LeadsBy, BeginsBy, RunsOver, Runs, RunsDownOver, RunsDown, met_last, stopped_at, idle_at, EndsDownOver, EndsDown, SearchEndsDownOver}
+use Rattle.rc_dfa.specs.Reads.{EndsBelowOver, EndsBelow, SearchEndsBelowOver}
+use Rattle.rc_dfa.specs.Symbols.{symbol_of, LeadsTagged, BeginsTagged}
+use Rattle.rc_dfa.specs.declared.symbols.Symbol.{Symbol}
 use Rattle.rc_dfa.specs.declared.ended.Ended.{Ended}
 use Rattle.rc_dfa.specs.declared.ended.Ended.TheVariants.{Found, Idle, Quit, GaveUp}
+use Rattle.rc_dfa.proofs.TableLemmas.{table_law}
 use Rattle.rc_table_search.specs.Walks.{next_of}
-use Rattle.rc_table_search.specs.Views.{IsPatternOf}
-use Rattle.rc_table_search.specs.Ways.{Course, EndsBy, EndsFrom, HasEndedBy, HasEndedFrom, IsBeside, IsOn, RunsBy, beside_at, offset_of, span, swapped}
+use Rattle.rc_table_search.specs.Ways.{Course, EndsBy, EndsFrom, HasEndedBy, HasEndedFrom, IsBeside, IsInSlice, IsOn, RunsBy, beside_at, far_at, offset_of, side_at, span, swapped}
 
 pub none_of : {A : Type 0} (o : Option A) → is_some o ≡ false → o ≡ None
 none_of None e = refl
@@ -23,44 +29,117 @@ least_as_best : (i : ℕ) (matched : Option ℕ) (found : Option (ℕ × ℕ)) �
 least_as_best i None found = refl
 least_as_best i (Some k) found = refl
 
-module _ (m : Machine) (plain : m.alphabet ≡ bytes) (t : Text) (c : Course) where
-  may_so : (side : Side) → MayRead m (byte_of side) → MayReadSide m.alphabet m side
-  may_so side h = subst (λ a. MayReadSide a m side) (sym plain) h
+-- WHAT STANDS BESIDE A POSITION
 
-  never_so : (side : Side) → ¬ MayRead m (byte_of side) → ¬ MayReadSide m.alphabet m side
-  never_so side h may = h (subst (λ a. MayReadSide a m side) plain may)
+-- the slice has a byte there
+abbrev pub IsByteInside : Bool → Text → ℕ → Type 0
+IsByteInside false t i = IsInside t i (i + 1)
+IsByteInside true t i = (0 < i) × IsInside t (i - 1) i
 
-  across : (near far : Side) (s next : State) → Leads m s (byte_of near) next → LeadsAcross m.alphabet m near far s next
-  across near far s next h = subst (λ a. LeadsAcross a m near far s next) (sym plain) h
+pub inside_of : (backwards : Bool) (terminator : ℕ) (seen : Searched) (i : ℕ) → IsInSlice backwards seen i → IsByteInside backwards (text_of terminator seen) i
+inside_of false terminator seen i h = let low = h.0 in let high = h.1 in record { low = low; high = omega (arith, high); bounded = omega arith }
+inside_of true terminator seen i h =
+    let low = h.0 in let high = h.1 in (omega (arith, low), record { low = omega (arith, low); high = high; bounded = omega arith })
 
-  at_side : (side : Side) (s next : State) → Leads m s (byte_of side) next → LeadsBy m.alphabet m side s next
-  at_side side s next h = subst (λ a. LeadsBy a m side s next) (sym plain) h
+module _ (m : Machine) (t : Text) where
+  pub byte_side : (backwards : Bool) (i : ℕ) → byte_of (side_at backwards t i) ≡ beside_at backwards t i
+  byte_side false i = refl
+  byte_side true i = refl
 
-  begun_so : (side : Side) (s : State) → Begins m c.anchored (byte_of side) s → BeginsBy m.alphabet m c.anchored side s
-  begun_so side s h = subst (λ a. BeginsBy a m c.anchored side s) (sym plain) h
+  -- what may be read if it is known alone
+  pub may_at : (side : Side) (beside : Option ℕ) → byte_of side ≡ beside → MayRead m beside → MayReadSide m.alphabet m side
+  may_at side beside is read = table_law.may m.alphabet m side (subst (MayRead m) (sym is) read)
 
-  -- over the byte that is read next
+  -- and what may not
+  pub never_at : (side : Side) (beside : Option ℕ) → byte_of side ≡ beside → (m.alphabet ≡ bytes) ⊎ MayRead m beside → ¬ MayRead m beside → ¬ MayReadSide m.alphabet m side
+  never_at side beside is (inr read) unread may = unread read
+  never_at side beside is (inl plain) unread may = unread (subst (MayRead m) is (subst (λ a. MayReadSide a m side) plain may))
+
+  pub leads_at : (backwards : Bool) (i : ℕ) (beside : Option ℕ) (s next : State) → beside_at backwards t i ≡ beside → IsByteInside backwards t i → MayRead m beside →
+      Leads m s beside next → LeadsAcross m.alphabet m (side_at backwards t i) (far_at backwards t i) s next
+  leads_at false i beside s next is inside read leads =
+      table_law.ahead m.alphabet m t (i + 1) i s next (omega arith) inside (subst (MayRead m) (sym is) read) (subst (λ k. Leads m s k next) (sym is) leads)
+  leads_at true i beside s next is inside read leads =
+      let some = inside.0 in
+      let e : i - 1 + 1 ≡ i = omega (arith, some) in
+      subst (λ k. LeadsAcross m.alphabet m (before_at t k) (after_at t (i - 1)) s next) e
+      (table_law.behind m.alphabet m t i (i - 1) s next (omega (arith, some)) inside.1
+      (subst (λ k. MayRead m (behind_at t k)) (sym e) (subst (MayRead m) (sym is) read))
+      (subst (λ k. Leads m s (behind_at t k) next) (sym e) (subst (λ k. Leads m s k next) (sym is) leads)))
+
+  pub begins_at : (backwards : Bool) (anchored : Anchored) (i : ℕ) (beside : Option ℕ) (s : State) → beside_at backwards t i ≡ beside → MayRead m beside →
+      Begins m anchored beside s → BeginsBy m.alphabet m anchored (side_at backwards t i) s
+  begins_at false anchored i beside s is read begun =
+      table_law.begins_back m.alphabet m anchored t i s (subst (MayRead m) (sym is) read) (subst (λ k. Begins m anchored k s) (sym is) begun)
+  begins_at true anchored i beside s is read begun =
+      table_law.begins m.alphabet m anchored t i s (subst (MayRead m) (sym is) read) (subst (λ k. Begins m anchored k s) (sym is) begun)
+
+  -- at a bound, the side on which it stands decides alone
+  bound_by : (a : Alphabet) (near far : Side) (s next : State) → LeadsAcross a m near far s next → LeadsBy a m near s next
+  bound_by bytes near far s next h = h
+  bound_by symbols near far s next h = (told_side m.setting.needs m.setting.terminator far, h)
+
+  pub bound_at : (near far : Side) (s next : State) → LeadsAcross m.alphabet m near far s next → LeadsBy m.alphabet m near s next
+  bound_at = bound_by m.alphabet
+
+  pub end_at : (backwards : Bool) (i : ℕ) (s next : State) → beside_at backwards t i ≡ None → Leads m s None next →
+      LeadsBy m.alphabet m (side_at backwards t i) s next
+  end_at false i s next is leads =
+      table_law.bound_ahead m.alphabet m t i s next (subst (MayRead m) (sym is) tt) (subst (λ k. Leads m s k next) (sym is) leads)
+  end_at true i s next is leads =
+      table_law.bound_behind m.alphabet m t i s next (subst (MayRead m) (sym is) tt) (subst (λ k. Leads m s k next) (sym is) leads)
+
+  -- a symbol
+  module _ (over : m.alphabet ≡ symbols) (y : Symbol) where
+    pub all_read : (side : Side) → MayReadSide m.alphabet m side
+    all_read side = subst (λ a. MayReadSide a m side) (sym over) tt
+
+    pub leads_over : (backwards : Bool) (i : ℕ) (s next : State) → (backwards ≡ true → 0 < i) → IsSymbolAt t (offset_of backwards i) (symbol_of y) →
+        LeadsTagged backwards m s y next → LeadsAcross m.alphabet m (side_at backwards t i) (far_at backwards t i) s next
+    leads_over false i s next some is leads =
+        subst (λ a. LeadsAcross a m (after_at t i) (before_at t (i + 1)) s next) (sym over) (table_law.symbol_ahead m t i (symbol_of y) s next is leads)
+    leads_over true i s next some is leads =
+        let lt = some refl in
+        let e : i - 1 + 1 ≡ i = omega (arith, lt) in
+        subst (λ a. LeadsAcross a m (before_at t i) (after_at t (i - 1)) s next) (sym over)
+        (subst (λ k. LeadsAcross symbols m (before_at t k) (after_at t (i - 1)) s next) e (table_law.symbol_behind m t (i - 1) (symbol_of y) s next is leads))
+
+    -- where a search begins in the other direction
+    pub begins_over : (backwards : Bool) (anchored : Anchored) (i : ℕ) (s : State) → (backwards ≡ false → 0 < i) →
+        IsSymbolAt t (offset_of (not backwards) i) (symbol_of y) → BeginsTagged backwards m anchored y s →
+        BeginsBy m.alphabet m anchored (side_at (not backwards) t i) s
+    begins_over false anchored i s some is begun =
+        let lt = some refl in
+        let e : i - 1 + 1 ≡ i = omega (arith, lt) in
+        subst (λ a. BeginsBy a m anchored (before_at t i) s) (sym over)
+        (subst (λ k. BeginsBy symbols m anchored (before_at t k) s) e (table_law.begins_after m anchored t (i - 1) (symbol_of y) s is begun))
+    begins_over true anchored i s some is begun =
+        subst (λ a. BeginsBy a m anchored (after_at t i) s) (sym over) (table_law.begins_before m anchored t i (symbol_of y) s is begun)
+
+-- RUNS
+
+module _ (m : Machine) (t : Text) (c : Course) where
+  -- over what is read next
   pub runs_on : (backwards : Bool) (first : State) (i : ℕ) (s next : State) (found : Option (ℕ × ℕ)) → RunsBy backwards m t c first i s found → 0 < span backwards i c.bound →
-      MayRead m (beside_at backwards t i) → Leads m s (beside_at backwards t i) next →
+      MayReadSide m.alphabet m (side_at backwards t i) → LeadsAcross m.alphabet m (side_at backwards t i) (far_at backwards t i) s next →
       RunsBy backwards m t c first (next_of backwards i) next (best_at i next.matched found)
-  runs_on false first i s next found x left read leads = RunsOver.goes_on i s next x (omega (arith, left)) (may_so (after_at t i) read) (across (after_at t i) (before_at t (i + 1)) s next leads)
+  runs_on false first i s next found x left read leads = RunsOver.goes_on i s next x (omega (arith, left)) read leads
   runs_on true first i s next found x left read leads =
       let e : i ≡ i - 1 + 1 = omega (arith, left) in
-      let B : ℕ → Type 0 = λ k. RunsDown m t c.bound c.from first k s (swapped found) → MayRead m (behind_at t k) → Leads m s (behind_at t k) next →
-      RunsDown m t c.bound c.from first (i - 1) next (swapped (best_at k next.matched found)) in
+      let B : ℕ → Type 0 = λ k. RunsDown m t c.bound c.from first k s (swapped found) → MayReadSide m.alphabet m (before_at t k) →
+      LeadsAcross m.alphabet m (before_at t k) (after_at t (i - 1)) s next → RunsDown m t c.bound c.from first (i - 1) next (swapped (best_at k next.matched found)) in
       subst B (sym e)
       (λ y r l. subst (λ o. RunsDown m t c.bound c.from first (i - 1) next o) (least_as_best (i - 1 + 1) next.matched found)
-      (RunsDownOver.goes_down (i - 1) s next y (omega (arith, left)) (may_so (before_at t (i - 1 + 1)) r)
-      (across (before_at t (i - 1 + 1)) (after_at t (i - 1)) s next l))) x read leads
+      (RunsDownOver.goes_down (i - 1) s next y (omega (arith, left)) r l)) x read leads
 
-  -- at the bound, where the byte beyond decides what is found
-  pub bounded : (backwards : Bool) (first s next : State) (found : Option (ℕ × ℕ)) → RunsBy backwards m t c first c.bound s found → MayRead m (beside_at backwards t c.bound) →
-      Leads m s (beside_at backwards t c.bound) next → EndsFrom backwards m t c first (c.bound + 1) (met_last (best_at c.bound next.matched found))
-  bounded false first s next found x read leads =
-      EndsBelowOver.at_bound s next x (may_so (after_at t c.bound) read) (at_side (after_at t c.bound) s next leads)
+  -- at the bound, where what stands beyond decides what is found
+  pub bounded : (backwards : Bool) (first s next : State) (found : Option (ℕ × ℕ)) → RunsBy backwards m t c first c.bound s found →
+      MayReadSide m.alphabet m (side_at backwards t c.bound) → LeadsBy m.alphabet m (side_at backwards t c.bound) s next →
+      EndsFrom backwards m t c first (c.bound + 1) (met_last (best_at c.bound next.matched found))
+  bounded false first s next found x read leads = EndsBelowOver.at_bound s next x read leads
   bounded true first s next found x read leads =
       subst (λ o. EndsDown m t c.bound c.from first c.earliest (met_last o)) (least_as_best c.bound next.matched found)
-      (EndsDownOver.at_bound s next x (may_so (before_at t c.bound) read) (at_side (before_at t c.bound) s next leads))
+      (EndsDownOver.at_bound s next x read leads)
 
   -- where nothing goes on
   pub dies : (backwards : Bool) (first : State) (i : ℕ) (s : State) (found : Option (ℕ × ℕ)) → RunsBy backwards m t c first i s found → is_dead s ≡ true →
@@ -75,18 +154,18 @@ module _ (m : Machine) (plain : m.alphabet ≡ bytes) (t : Text) (c : Course) wh
   stops_early false first i s (Some n) x e some = EndsBelowOver.early i s e x
   stops_early true first i s (Some n) x e some = EndsDownOver.early i s e x
 
-  -- at a byte that may not be read
+  -- at what may not be read
   pub quits : (backwards : Bool) (i r : ℕ) → (backwards ≡ false → r ≡ i + 1) → (first s : State) (found : Option (ℕ × ℕ)) → RunsBy backwards m t c first i s found →
-      IsOn backwards i c.bound → (backwards ≡ true → 0 < i) → ¬ MayRead m (beside_at backwards t i) → EndsFrom backwards m t c first r (stopped_at (offset_of backwards i))
+      IsOn backwards i c.bound → (backwards ≡ true → 0 < i) → ¬ MayReadSide m.alphabet m (side_at backwards t i) →
+      EndsFrom backwards m t c first r (stopped_at (offset_of backwards i))
   quits false i r far first s found x within some unread =
-      subst (λ k. EndsBelow m t c.bound c.from first c.earliest (stopped_at i) k) (sym (far refl))
-      (EndsBelowOver.quit i s x within (never_so (after_at t i) unread))
+      subst (λ k. EndsBelow m t c.bound c.from first c.earliest (stopped_at i) k) (sym (far refl)) (EndsBelowOver.quit i s x within unread)
   quits true i r far first s found x within some unread =
       let lt = some refl in
       let e : i ≡ i - 1 + 1 = omega (arith, lt) in
-      let B : ℕ → Type 0 = λ k. RunsDown m t c.bound c.from first k s (swapped found) → ¬ MayRead m (behind_at t k) → c.bound ≤ k →
+      let B : ℕ → Type 0 = λ k. RunsDown m t c.bound c.from first k s (swapped found) → ¬ MayReadSide m.alphabet m (before_at t k) → c.bound ≤ k →
       EndsDown m t c.bound c.from first c.earliest (stopped_at (i - 1)) in
-      subst B (sym e) (λ y u l. EndsDownOver.quit (i - 1) s y l (never_so (before_at t (i - 1 + 1)) u)) x unread within
+      subst B (sym e) (λ y u l. EndsDownOver.quit (i - 1) s y l u) x unread within
 
   -- where nothing was found, and nothing is under way
   pub rests : (backwards : Bool) → backwards ≡ false → (first : State) (i : ℕ) (s : State) (found : Option (ℕ × ℕ)) → RunsBy backwards m t c first i s found →
@@ -100,40 +179,33 @@ module _ (m : Machine) (plain : m.alphabet ≡ bytes) (t : Text) (c : Course) wh
   begins false s = RunsOver.begun
   begins true s = RunsDownOver.begun
 
-  pub never_begins : (backwards : Bool) → (backwards ≡ false → 0 < c.from) → ¬ MayRead m (beside_at (not backwards) t c.from) →
+  pub never_begins : (backwards : Bool) → (backwards ≡ false → 0 < c.from) → ¬ MayReadSide m.alphabet m (side_at (not backwards) t c.from) →
       EndsBy backwards m t c c.from (stopped_at (offset_of (not backwards) c.from))
-  never_begins false some unread = let lt = some refl in SearchEndsBelowOver.unread (c.from - 1) (omega (arith, lt)) (never_so (before_at t c.from) unread)
-  never_begins true some unread = SearchEndsDownOver.unread (never_so (after_at t c.from) unread)
+  never_begins false some unread = let lt = some refl in SearchEndsBelowOver.unread (c.from - 1) (omega (arith, lt)) unread
+  never_begins true some unread = SearchEndsDownOver.unread unread
 
   -- HOW A SEARCH ENDS
 
-  ran_so : (first : State) → MayRead m (behind_at t c.from) → Begins m c.anchored (behind_at t c.from) first → (r : ℕ) (e : RunEnd) →
-      EndsBelow m t c.bound c.from first c.earliest e r → SearchEndsBelow m t c.bound c.from c.anchored c.earliest e r
-  ran_so first read begun r e h = SearchEndsBelowOver.ran first (may_so (before_at t c.from) read) (begun_so (before_at t c.from) first begun) h
-
-  ran_back : (first : State) → MayRead m (ahead_at t c.from) → Begins m c.anchored (ahead_at t c.from) first → (e : RunEnd) →
-      EndsDown m t c.bound c.from first c.earliest e → SearchEndsDown m t c.bound c.from c.anchored c.earliest e
-  ran_back first read begun e h = SearchEndsDownOver.ran first (may_so (after_at t c.from) read) (begun_so (after_at t c.from) first begun) h
-
   -- one that dies where it begins
-  pub dies_first : (backwards may_rest : Bool) (s : State) → MayRead m (beside_at (not backwards) t c.from) → Begins m c.anchored (beside_at (not backwards) t c.from) s →
-      is_dead s ≡ true → HasEndedBy backwards m t c may_rest c.from (Found None)
-  dies_first false may_rest s read begun e = ran_so s read begun c.from (met_last None) (dies false s c.from s None RunsOver.begun e)
-  dies_first true may_rest s read begun e = ran_back s read begun (met_last None) (EndsDownOver.dead c.from s RunsDownOver.begun e)
+  pub dies_first : (backwards may_rest : Bool) (s : State) → MayReadSide m.alphabet m (side_at (not backwards) t c.from) →
+      BeginsBy m.alphabet m c.anchored (side_at (not backwards) t c.from) s → is_dead s ≡ true → HasEndedBy backwards m t c may_rest c.from (Found None)
+  dies_first false may_rest s read begun e = SearchEndsBelowOver.ran s read begun (dies false s c.from s None RunsOver.begun e)
+  dies_first true may_rest s read begun e = SearchEndsDownOver.ran s read begun (EndsDownOver.dead c.from s RunsDownOver.begun e)
 
   -- and one that goes on from the state in which it begins
-  pub whole : (backwards may_rest : Bool) (first : State) → MayRead m (beside_at (not backwards) t c.from) → Begins m c.anchored (beside_at (not backwards) t c.from) first →
-      (r : ℕ) (e : Ended) → HasEndedFrom backwards m t c first may_rest r e → HasEndedBy backwards m t c may_rest r e
-  whole false may_rest first read begun r (Found None) h = ran_so first read begun r (met_last None) h
-  whole false may_rest first read begun r (Found (Some n)) h = (h.0, h.1, ran_so first read begun r _ h.2)
-  whole false may_rest first read begun r (Idle i) h = (h.1, ran_so first read begun r _ h.2)
-  whole false may_rest first read begun r (Quit b p) h = (h.0, ran_so first read begun r _ h.1)
+  pub whole : (backwards may_rest : Bool) (first : State) → MayReadSide m.alphabet m (side_at (not backwards) t c.from) →
+      BeginsBy m.alphabet m c.anchored (side_at (not backwards) t c.from) first → (r : ℕ) (e : Ended) → HasEndedFrom backwards m t c first may_rest r e →
+      HasEndedBy backwards m t c may_rest r e
+  whole false may_rest first read begun r (Found None) h = SearchEndsBelowOver.ran first read begun h
+  whole false may_rest first read begun r (Found (Some n)) h = (h.0, h.1, SearchEndsBelowOver.ran first read begun h.2)
+  whole false may_rest first read begun r (Idle i) h = (h.1, SearchEndsBelowOver.ran first read begun h.2)
+  whole false may_rest first read begun r (Quit b p) h = (h.0, SearchEndsBelowOver.ran first read begun h.1)
   whole false may_rest first read begun r (GaveUp p memory) h = h
-  whole true may_rest first read begun r (Found None) h = ran_back first read begun _ h
+  whole true may_rest first read begun r (Found None) h = SearchEndsDownOver.ran first read begun h
   whole true may_rest first read begun r (Found (Some n)) h =
-      subst (λ k. EndsBy true m t c r (met_last (Some (k, n.at)))) h.1 (ran_back first read begun _ h.2)
+      subst (λ k. EndsBy true m t c r (met_last (Some (k, n.at)))) h.1 (SearchEndsDownOver.ran first read begun h.2)
   whole true may_rest first read begun r (Idle i) h = let never = h.0 in cc never
-  whole true may_rest first read begun r (Quit b p) h = (h.0, ran_back first read begun _ h.1)
+  whole true may_rest first read begun r (Quit b p) h = (h.0, SearchEndsDownOver.ran first read begun h.1)
   whole true may_rest first read begun r (GaveUp p memory) h = (h.1, h.0)
 
   pub quit_so : (backwards may_rest : Bool) (b p r : ℕ) → slice_get t.content p ≡ Some b → EndsBy backwards m t c r (stopped_at p) → HasEndedBy backwards m t c may_rest r (Quit b p)

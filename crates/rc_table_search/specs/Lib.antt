@@ -5,3 +5,4 @@ pub mod Refusals
 pub mod Searches
 pub mod Memos
 pub mod MemoLaws
+pub mod Decodes

@@ -1,6 +1,6 @@
 -- Only proofs use this file.
 -- Laws of memos over a table.
-use Rattle.std.proofs.Common.{◌≡◌, ℕ, ◌≤◌, Bool, refl, sym, subst, arith}
+use Rattle.std.proofs.Common.{◌≡◌, ℕ, Bool, refl, sym, subst, arith}
 use Rattle.rc_text.specs.Text.{Keeps, Searched}
 use Rattle.rc_program.specs.Sought.{text_of}
 use Rattle.rc_dfa.specs.Memos.{IsBare}

@@ -1,6 +1,6 @@
 -- Only proofs use this file.
 -- Memos over a table: what their marks say.
-use Rattle.std.specs.Prelude.{◌≡◌, ℕ, ◌<◌, ◌≤◌, Bool, true, false, Option, Some, None}
+use Rattle.std.specs.Prelude.{◌≡◌, ℕ, ◌<◌, ◌≤◌, Bool, false, Option, Some, None}
 use Rattle.rc_text.specs.Text.{Searched}
 use Rattle.rc_program.specs.Text.{Text}
 use Rattle.rc_program.specs.Program.{place_at}
@@ -12,7 +12,6 @@ use Rattle.rc_dfa.specs.Ended.{gave_up}
 use Rattle.rc_dfa.specs.Runs.{Runs, met_last}
 use Rattle.rc_dfa.specs.Reads.{EndsBelow}
 use Rattle.rc_dfa.specs.Memos.{Has}
-use Rattle.rc_dfa.specs.declared.ended.Ended.TheVariants.{Found}
 use Rattle.rc_dfa.specs.declared.ended.Met.{Met}
 use Rattle.rc_dfa.specs.declared.ended.Reading.{Reading}
 use Rattle.rc_dfa.specs.declared.memo.Mark.{Mark}

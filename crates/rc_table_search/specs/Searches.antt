@@ -1,16 +1,18 @@
 -- Only proofs use this file.
 -- Searches by a table: what their runs keep, and how they end.
-use Rattle.std.specs.Prelude.{◌≡◌, ℕ, ◌+◌, Bool, not, Option, Some, None}
+use Rattle.std.specs.Prelude.{◌≡◌, ℕ, ◌+◌, Bool, false, not, Option, Some, None}
 use Rattle.rc_text.specs.Text.{Searched}
 use Rattle.rc_program.specs.Text.{Text}
 use Rattle.rc_program.specs.Sought.{text_of}
 use Rattle.rc_determinize.specs.States.{State}
-use Rattle.rc_dfa.specs.Machine.{Machine, Begins, IsAsked}
-use Rattle.rc_dfa.specs.Runs.{MayRead, met_last}
+use Rattle.rc_dfa.specs.Machine.{Machine, IsAsked}
+use Rattle.rc_dfa.specs.Runs.{MayReadSide, BeginsBy, LeadsAcross, met_last}
 use Rattle.rc_dfa.specs.Ended.{gave_up}
 use Rattle.rc_dfa.specs.declared.ended.Ended.{Ended}
-use Rattle.rc_table_search.specs.Ways.{Course, EndsFrom, HasEndedBy, HasEndedFrom, IsOn, RunsBy, beside_at, span}
-use Rattle.rc_table_search.specs.Views.{View, IsNoted}
+use Rattle.rc_text.specs.declared.types.Anchored.{Anchored}
+use Rattle.rc_table_search.specs.Walks.{has_died, row_of}
+use Rattle.rc_table_search.specs.Ways.{Course, EndsFrom, HasEndedBy, HasEndedFrom, IsOn, RunsBy, far_at, side_at, span}
+use Rattle.rc_table_search.specs.Views.{View, IsNoted, KnowsSide}
 use Rattle.rc_table_search.specs.declared.run.Stand.{Stand}
 use Rattle.rc_table_search.specs.declared.search.Request.{Request}
 use Rattle.rc_table_search.specs.declared.search.Progress.{Progress}
@@ -39,6 +41,21 @@ pub record IsOver {C : Type 0} (v : View C) (backwards : Bool) (o : Origin C) (q
   pub ended : (m : Machine) → v.IsOf m → IsAsked m q.anchored → HasEndedBy backwards m (text_in m o.seen) (course_of q) q.extent.may_rest r e
   pub gives_up : (memory : Bool) → gave_up e ≡ Some memory → v.GivesUp o.begun c (all_spent backwards q) memory
 
+-- WHAT STANDS BESIDE
+
+-- A search that is anchored so and goes on from the position begins where the cell says.
+pub record BeginsAt {C : Type 0} (v : View C) (backwards : Bool) (seen : Searched) (c : C) (anchored : Anchored) (from cell : ℕ) : Type 0 where
+  pub is_row : has_died cell ≡ false → v.IsRow c (row_of cell)
+  pub begins : (m : Machine) → v.IsOf m → IsAsked m anchored → KnowsSide v c m (side_at (not backwards) (text_in m seen) from)
+      (BeginsBy m.alphabet m anchored (side_at (not backwards) (text_in m seen) from)) cell
+
+-- From the row of the first cache, what is read next at the position leads where the cell says, by
+-- the second.
+pub record LeadsAt {C : Type 0} (v : View C) (backwards : Bool) (seen : Searched) (old new : C) (i row cell : ℕ) : Type 0 where
+  pub is_row : has_died cell ≡ false → v.IsRow new (row_of cell)
+  pub leads : (m : Machine) → v.IsOf m → (s : State) → v.HasState old m row s → KnowsSide v new m (side_at backwards (text_in m seen) i)
+      (LeadsAcross m.alphabet m (side_at backwards (text_in m seen) i) (far_at backwards (text_in m seen) i) s) cell
+
 -- It began in the state of the row, by what stands beside.
 pub record HasBegun {C : Type 0} (v : View C) (backwards : Bool) (o : Origin C) (q : Request) (c : C) (stand : Stand) : Type 0 where
   pub cache : v.IsCache c
@@ -46,7 +63,8 @@ pub record HasBegun {C : Type 0} (v : View C) (backwards : Bool) (o : Origin C) 
   pub spends : v.Spends o.begun c 1
   pub unmet : stand.noted ≡ None
   pub begins : (m : Machine) → v.IsOf m → IsAsked m q.anchored → (s : State) × v.HasState c m stand.row s
-      × MayRead m (beside_at (not backwards) (text_in m o.seen) q.from) × Begins m q.anchored (beside_at (not backwards) (text_in m o.seen) q.from) s
+      × MayReadSide m.alphabet m (side_at (not backwards) (text_in m o.seen) q.from)
+      × BeginsBy m.alphabet m q.anchored (side_at (not backwards) (text_in m o.seen) q.from) s
 
 abbrev pub IsBegun : {C : Type 0} → View C → Bool → Origin C → Request → C → Progress → Type 0
 IsBegun v backwards o q c (Through s) = HasBegun v backwards o q c s

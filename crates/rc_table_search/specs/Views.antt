@@ -1,17 +1,22 @@
 -- Tables of a DFA: what they say of its states.
-use Rattle.std.specs.Prelude.{◌≡◌, ◌≢◌, ◌⊎◌, ℕ, ◌<◌, ◌≤◌, ◌+◌, Bool, true, false, is_some, List, length, Option, Some, None, nat_le}
+use Rattle.std.specs.Prelude.{◌≡◌, ◌≢◌, ◌⊎◌, ℕ, ◌<◌, ◌≤◌, ◌+◌, Bool, true, false, is_some, List, length, Option, Some, None, nat_le, ◌&&◌}
 use Rattle.rc_text.specs.declared.types.Anchored.{Anchored}
 use Rattle.rc_program.specs.Program.{place_at}
 use Rattle.rc_program.specs.Answer.{pattern_at}
 use Rattle.rc_determinize.specs.States.{State}
-use Rattle.rc_dfa.specs.Machine.{Machine, bytes, Leads, Begins, IsAsked, is_dead}
-use Rattle.rc_dfa.specs.Runs.{MayRead}
+use Rattle.rc_program.specs.Looks.{Side}
+use Rattle.rc_dfa.specs.Machine.{Alphabet, bytes, symbols, Machine, Leads, Begins, IsAsked, is_dead}
+use Rattle.rc_dfa.specs.Runs.{MayRead, MayReadSide}
+use Rattle.rc_dfa.specs.Symbols.{LeadsTagged, BeginsTagged}
+use Rattle.rc_dfa.specs.declared.symbols.Symbol.{Symbol}
 use Rattle.rc_table_search.specs.Walks.{Reaches, cell_by, dead, first_of, has_died, met, quit, row_of, skip}
 
 -- What a table says in one direction, with a cache that may hold some of its rows.
 pub record View (Cache : Type 0) : Type 1 where
   -- It is a table of this machine.
   pub IsOf : Machine → Type 0
+  -- This is what its machines read.
+  pub alphabet : Alphabet
   -- The cache was made for it.
   pub IsCache : Cache → Type 0
   -- This is one of its rows.
@@ -35,10 +40,9 @@ pub record Holds {C : Type 0} (v : View C) (old new : C) : Type 0 where
   pub is_row : (row : ℕ) → v.IsRow old row → v.IsRow new row
   pub has_state : (m : Machine) (row : ℕ) (s : State) → v.IsRow old row → v.HasState new m row s → v.HasState old m row s
 
--- It is a table of machines that read bytes. What is spent adds up, and rows are held while the era
--- lasts.
+-- It tells what its machines read. What is spent adds up, and rows are held while the era lasts.
 pub record IsLawful {C : Type 0} (v : View C) : Type 0 where
-  pub reads : (m : Machine) → v.IsOf m → m.alphabet ≡ bytes
+  pub reads : (m : Machine) → v.IsOf m → m.alphabet ≡ v.alphabet
   pub spends_nothing : (a : C) (n : ℕ) → v.Spends a a n
   pub spends_both : (a b c : C) (n k : ℕ) → v.Spends a b n → v.Spends b c k → v.Spends a c (n + k)
   pub spends_within : (a b : C) (n k : ℕ) → n ≤ k → v.Spends a b n → v.Spends a b k
@@ -72,6 +76,34 @@ pub record IsStart {C : Type 0} (v : View C) (c : C) (anchored : Anchored) (besi
 pub record IsStep {C : Type 0} (v : View C) (old new : C) (row b cell : ℕ) : Type 0 where
   pub is_row : has_died cell ≡ false → v.IsRow new (row_of cell)
   pub leads : (m : Machine) (s : State) → v.HasState old m row s → Knows v new m (Some b) (Leads m s (Some b)) cell
+
+-- SYMBOLS
+
+abbrev pub reads_symbols : Alphabet → Bool
+reads_symbols bytes = false
+reads_symbols symbols = true
+
+-- The byte is read with its symbol, and not alone.
+abbrev pub needs_symbol : Alphabet → ℕ → Bool
+needs_symbol a b = nat_le 128 b && reads_symbols a
+
+-- A search that is anchored so begins where the cell says, beside this symbol.
+pub record IsStartBeside {C : Type 0} (v : View C) (backwards : Bool) (c : C) (anchored : Anchored) (y : Symbol) (cell : ℕ) : Type 0 where
+  pub is_row : has_died cell ≡ false → v.IsRow c (row_of cell)
+  pub begins : (m : Machine) → v.IsOf m → IsAsked m anchored → (s : State) × BeginsTagged backwards m anchored y s × LeadsTo (v.HasState c m) v.leaps cell s
+
+-- From the row of the first cache, the symbol leads where the cell says, by the second.
+pub record IsStepOver {C : Type 0} (v : View C) (backwards : Bool) (old new : C) (row : ℕ) (y : Symbol) (cell : ℕ) : Type 0 where
+  pub is_row : has_died cell ≡ false → v.IsRow new (row_of cell)
+  pub leads : (m : Machine) (s : State) → v.HasState old m row s → (t : State) × LeadsTagged backwards m s y t × LeadsTo (v.HasState new m) v.leaps cell t
+
+-- What stands on the side leads where the cell says, or may not be read.
+abbrev pub KnowsSide : {C : Type 0} → View C → C → Machine → Side → (State → Type 0) → ℕ → Type 0
+KnowsSide v c m side To cell =
+    ((cell ≡ quit) × (¬ MayReadSide m.alphabet m side))
+    ⊎ (MayReadSide m.alphabet m side × ((t : State) × To t × LeadsTo (v.HasState c m) v.leaps cell t))
+
+-- THE END
 
 -- This is found at the end of what the search sees.
 abbrev pub IsEnd : {C : Type 0} → View C → C → ℕ → Option ℕ → Type 0

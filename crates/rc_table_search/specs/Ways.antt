@@ -3,7 +3,8 @@
 use Rattle.std.specs.Prelude.{◌≡◌, ℕ, ◌+◌, ◌-◌, ◌<◌, ◌≤◌, Bool, true, false, IsTrue, List, Option, Some, None, slice_get}
 use Rattle.rc_text.specs.declared.types.Anchored.{Anchored}
 use Rattle.rc_text.specs.Text.{Searched, slice_end}
-use Rattle.rc_program.specs.Text.{Text}
+use Rattle.rc_program.specs.Looks.{Side}
+use Rattle.rc_program.specs.Text.{Text, before_at, after_at}
 use Rattle.rc_program.specs.Sought.{text_of}
 use Rattle.rc_determinize.specs.States.{State}
 use Rattle.rc_dfa.specs.Machine.{Machine}
@@ -19,6 +20,16 @@ use Rattle.rc_table_search.specs.Views.{IsPatternOf}
 abbrev pub beside_at : Bool → Text → ℕ → Option ℕ
 beside_at false = ahead_at
 beside_at true = behind_at
+
+-- The side of the position on which that byte stands, and what stands on the other side of the
+-- position after it.
+abbrev pub side_at : Bool → Text → ℕ → Side
+side_at false = after_at
+side_at true = before_at
+
+abbrev pub far_at : Bool → Text → ℕ → Side
+far_at false t i = before_at t (i + 1)
+far_at true t i = after_at t (i - 1)
 
 -- The offset of that byte.
 abbrev pub offset_of : Bool → ℕ → ℕ
@@ -101,3 +112,10 @@ pub record IsNext (backwards : Bool) (seen : Searched) (bound i b : ℕ) : Type 
   pub beside : (terminator : ℕ) → beside_at backwards (text_of terminator seen) i ≡ Some b
   pub there : IsBeside backwards seen.content i b
   pub left : 0 < span backwards i bound
+
+-- OF THE SLICE
+
+-- The slice has a byte there, before the position or at it.
+abbrev pub IsInSlice : Bool → Searched → ℕ → Type 0
+IsInSlice false seen i = (seen.slice.start ≤ i) × (i < slice_end seen)
+IsInSlice true seen i = (seen.slice.start < i) × (i ≤ slice_end seen)

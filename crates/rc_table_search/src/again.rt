@@ -265,7 +265,7 @@ pub fn search_again<T: Transitions, C: Cursor>(
 {
     content_fits(input);
     let beside = byte_beside(input, request.from, true);
-    let stand = match begin::<Forwards, T>(table, cache, request, beside) {
+    let stand = match begin::<Forwards, T, C>(table, cache, input, request, beside) {
         Progress::Through(stand) => stand,
         Progress::Over(reading) => return reading,
     };

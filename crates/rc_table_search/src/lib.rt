@@ -8,5 +8,6 @@ pub mod rows;
 pub mod run;
 pub mod search;
 pub mod sides;
+pub mod symbols;
 pub mod transitions;
 pub mod way;

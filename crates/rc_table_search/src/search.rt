@@ -1,19 +1,22 @@
 //! Search: runs a DFA by its table over a text, forwards to the end of a match or backwards to its
 //! start.
-ghost use Rattle.std.specs.Prelude.{◌≡◌, ◌+◌, ◌≤◌, ◌<◌, ◌^◌, ℕ, Option, Some, true, false, not, IfSome, length, slice_range};
-ghost use Rattle.rc_text.specs.Text.{Keeps, slice_end};
+ghost use Rattle.std.specs.Prelude.{◌≡◌, ◌+◌, ◌≤◌, ◌<◌, ◌^◌, ℕ, Option, Some, true, false, not, IfErr, IfOk, IfSome, length, slice_range};
+ghost use Rattle.rc_text.specs.Text.{Keeps, Searched, slice_end};
 ghost use Rattle.rc_program.specs.Sought.{text_of};
 ghost use Rattle.rc_determinize.specs.States.{State, best_at};
 ghost use Rattle.rc_dfa.specs.Machine.{Machine};
 ghost use Rattle.rc_dfa.specs.Runs.{IsByte};
+ghost use Rattle.rc_table_search.specs.Refusals.{is_memory};
 ghost use Rattle.rc_table_search.specs.Walks.{first_of, next_of};
-ghost use Rattle.rc_table_search.specs.Ways.{IsBeside, IsBounded, IsNext, IsOn, LiesWithin, beside_at, span};
-ghost use Rattle.rc_table_search.specs.Views.{IsFound, IsNoted, LeadsTo};
-ghost use Rattle.rc_table_search.specs.Searches.{HasBegun, HasRun, IsAt, IsBegun, IsLeg, IsOver, Origin, Outset, Says};
+ghost use Rattle.rc_table_search.specs.Ways.{IsBeside, IsBounded, IsInSlice, IsNext, IsOn, LiesWithin, beside_at, span};
+ghost use Rattle.rc_table_search.specs.Views.{IsFound, IsNoted, LeadsTo, needs_symbol};
+ghost use Rattle.rc_table_search.specs.Searches.{BeginsAt, HasBegun, HasRun, IsAt, IsBegun, IsLeg, IsOver, LeadsAt, Origin, Outset, Says};
 
 use crate::cells::{MET, QUIT, has_died, row_of};
+use crate::refusal::Refusal;
 use crate::run::{Extent, Stand};
 use crate::sides::{byte_beside, offset, piece_on};
+use crate::symbols::symbol_at;
 use crate::transitions::Transitions;
 use crate::way::{Way, byte, left, start, step_on};
 use rc_dfa::ended::{Ended, Met, Reading};
@@ -135,6 +138,7 @@ fn read<W: Way, T: Transitions>(
     ghost outset: { Outset T.Cache }
     requires at { IsAt (T.view table.now W.BACKWARDS) W.BACKWARDS outset request.now cache.old
         (start + first_of W.BACKWARDS (length piece.now)) stand }
+    requires begins { IsBounded (not W.BACKWARDS) outset.seen request.now.from }
     requires bound { IsBounded W.BACKWARDS outset.seen request.now.end }
     requires piece { piece.now ≡ slice_range outset.seen.content start (start + length piece.now) }
     requires within { LiesWithin W.BACKWARDS start (length piece.now) request.now.end }
@@ -149,12 +153,53 @@ fn read<W: Way, T: Transitions>(
     (place, Stand { row, noted })
 }
 
+/// Whether the table reads the byte's symbol, and not the byte alone.
+#[inline(always)]
+fn needs_symbol<W: Way, T: Transitions>(table: &T, byte: u8) -> bool
+    ensures { result ≡ needs_symbol (T.view table.now W.BACKWARDS).alphabet byte }
+{
+    byte >= 128 && table.reads_symbols::<W>()
+}
+
+/// Returns the cell to which the byte leads from the row that is read next at the position, or its
+/// symbol.
+#[inline(always)]
+fn cell_on<W: Way, T: Transitions, C: Cursor>(
+    table: &T,
+    cache: &mut T::Cache,
+    input: &mut Input<C>,
+    row: usize,
+    byte: u8,
+    at: usize,
+) -> Result<usize, Refusal>
+    ghost seen: { Searched }
+    requires cache { (T.view table.now W.BACKWARDS).IsCache cache.old }
+    requires row { (T.view table.now W.BACKWARDS).IsRow cache.old row }
+    requires seen { Keeps seen input.old }
+    requires there { IsBeside W.BACKWARDS seen.content at byte }
+    requires inside { IsInSlice W.BACKWARDS seen at }
+    ensures keeps { Keeps input.old input.new }
+    ensures cache { (T.view table.now W.BACKWARDS).IsCache cache.new }
+    ensures spends { (T.view table.now W.BACKWARDS).Spends cache.old cache.new 1 }
+    ensures cell { IfOk result (LeadsAt (T.view table.now W.BACKWARDS) W.BACKWARDS seen cache.old
+        cache.new at row) }
+    ensures refused { IfErr result (λ e. (T.view table.now W.BACKWARDS).GivesUp cache.old
+        cache.new 1 (is_memory e)) }
+{
+    if needs_symbol::<W, T>(table, byte) {
+        let symbol = symbol_at(input, offset(at, W::BACKWARDS), byte);
+        return table.next_over::<W>(cache, row, symbol);
+    }
+    table.next::<W>(cache, row, byte)
+}
+
 /// Reads the byte next to the position, whatever its cell. If it may rest, the search does so after
 /// that byte.
 #[inline(always)]
-fn step<W: Way, T: Transitions>(
+fn step<W: Way, T: Transitions, C: Cursor>(
     table: &T,
     cache: &mut T::Cache,
+    input: &mut Input<C>,
     request: &Request,
     byte: u8,
     at: usize,
@@ -162,14 +207,17 @@ fn step<W: Way, T: Transitions>(
 ) -> Progress
     ghost outset: { Outset T.Cache }
     requires at { IsAt (T.view table.now W.BACKWARDS) W.BACKWARDS outset request.now cache.old at stand }
+    requires seen { Keeps outset.seen input.old }
+    requires inside { IsInSlice W.BACKWARDS outset.seen at }
     requires next { IsNext W.BACKWARDS outset.seen request.now.end at byte }
     requires rests { request.now.extent.may_rest ≡ true → W.BACKWARDS ≡ false }
     requires fits { W.BACKWARDS ≡ false → at < usize.MAX }
-    ensures { IsLeg (T.view table.now W.BACKWARDS) W.BACKWARDS outset request.now cache.new
+    ensures keeps { Keeps input.old input.new }
+    ensures leg { IsLeg (T.view table.now W.BACKWARDS) W.BACKWARDS outset request.now cache.new
         (next_of W.BACKWARDS at) result }
 {
     let read = step_on::<W>(at);
-    let cell = match table.next::<W>(cache, stand.row, byte) {
+    let cell = match cell_on::<W, T, C>(table, cache, input, stand.row, byte, at) {
         Ok(cell) => cell,
         Err(refusal) => {
             let ended = Ended::GaveUp(at, refusal.is_memory());
@@ -216,6 +264,7 @@ pub(crate) fn cross<W: Way, T: Transitions, C: Cursor>(
     requires at { IsAt (T.view table.now W.BACKWARDS) W.BACKWARDS outset request.now cache.old
         request.now.from begin }
     requires seen { Keeps outset.seen input.old }
+    requires begins { IsBounded (not W.BACKWARDS) outset.seen request.now.from }
     requires bound { IsBounded W.BACKWARDS outset.seen request.now.end }
     requires ordered { IsOn W.BACKWARDS request.now.from until }
     requires until { IsOn W.BACKWARDS until request.now.end }
@@ -238,7 +287,7 @@ pub(crate) fn cross<W: Way, T: Transitions, C: Cursor>(
         at = start + place;
         if left::<W>(piece, place) > 0 {
             let byte = byte::<W>(piece, place);
-            match step::<W, T>(table, cache, request, byte, at, stand) {
+            match step::<W, T, C>(table, cache, input, request, byte, at, stand) {
                 Progress::Through(next) => {
                     stand = next;
                     at = step_on::<W>(at);
@@ -257,26 +306,64 @@ pub(crate) fn cross<W: Way, T: Transitions, C: Cursor>(
     Progress::Through(stand)
 }
 
-/// Begins a search: the byte on the side that it does not read decides the start state.
+/// Returns the cell in which a search begins, by the byte beside or its symbol, or by an end.
 #[inline(always)]
-pub(crate) fn begin<W: Way, T: Transitions>(
+fn start_by<W: Way, T: Transitions, C: Cursor>(
     table: &T,
     cache: &mut T::Cache,
+    input: &mut Input<C>,
+    request: &Request,
+    beside: Option<u8>,
+) -> Result<usize, Refusal>
+    ghost seen: { Searched }
+    requires cache { (T.view table.now W.BACKWARDS).IsCache cache.old }
+    requires seen { Keeps seen input.old }
+    requires beside { beside ≡ beside_at (not W.BACKWARDS) (text_of 0 seen) request.now.from }
+    requires small { IsByte beside }
+    requires there { IfSome beside (IsBeside (not W.BACKWARDS) seen.content request.now.from) }
+    requires inside { IfSome beside (λ _. IsInSlice (not W.BACKWARDS) seen request.now.from) }
+    ensures keeps { Keeps input.old input.new }
+    ensures cache { (T.view table.now W.BACKWARDS).IsCache cache.new }
+    ensures spends { (T.view table.now W.BACKWARDS).Spends cache.old cache.new 1 }
+    ensures cell { IfOk result (BeginsAt (T.view table.now W.BACKWARDS) W.BACKWARDS seen cache.new
+        request.now.anchored request.now.from) }
+    ensures refused { IfErr result (λ e. (T.view table.now W.BACKWARDS).GivesUp cache.old
+        cache.new 1 (is_memory e)) }
+{
+    let Some(byte) = beside else {
+        return table.start::<W>(cache, request.anchored, None);
+    };
+    if needs_symbol::<W, T>(table, byte) {
+        let symbol = symbol_at(input, offset(request.from, !W::BACKWARDS), byte);
+        return table.start_beside::<W>(cache, request.anchored, symbol);
+    }
+    table.start::<W>(cache, request.anchored, Some(byte))
+}
+
+/// Begins a search: what stands on the side that it does not read decides the start state.
+#[inline(always)]
+pub(crate) fn begin<W: Way, T: Transitions, C: Cursor>(
+    table: &T,
+    cache: &mut T::Cache,
+    input: &mut Input<C>,
     request: &Request,
     beside: Option<u8>,
 ) -> Progress
     ghost origin: { Origin T.Cache }
     requires cache { (T.view table.now W.BACKWARDS).IsCache cache.old }
     requires begun { origin.begun ≡ cache.old }
+    requires seen { Keeps origin.seen input.old }
     requires ordered { IsOn W.BACKWARDS request.now.from request.now.end }
     requires beside { beside ≡ beside_at (not W.BACKWARDS) (text_of 0 origin.seen) request.now.from }
     requires small { IsByte beside }
     requires there { IfSome beside (IsBeside (not W.BACKWARDS) origin.seen.content request.now.from) }
-    ensures { IsBegun (T.view table.now W.BACKWARDS) W.BACKWARDS origin request.now cache.new
+    requires inside { IfSome beside (λ _. IsInSlice (not W.BACKWARDS) origin.seen request.now.from) }
+    ensures keeps { Keeps input.old input.new }
+    ensures begun { IsBegun (T.view table.now W.BACKWARDS) W.BACKWARDS origin request.now cache.new
         result }
 {
     let read = request.from;
-    let cell = match table.start::<W>(cache, request.anchored, beside) {
+    let cell = match start_by::<W, T, C>(table, cache, input, request, beside) {
         Ok(cell) => cell,
         Err(refusal) => {
             let ended = Ended::GaveUp(read, refusal.is_memory());
@@ -326,7 +413,7 @@ pub(crate) fn finish<W: Way, T: Transitions, C: Cursor>(
             Err(refusal) => Ended::GaveUp(end, refusal.is_memory()),
         };
     };
-    let cell = match table.next::<W>(cache, stand.row, byte) {
+    let cell = match cell_on::<W, T, C>(table, cache, input, stand.row, byte, end) {
         Ok(cell) => cell,
         Err(refusal) => return Ended::GaveUp(end, refusal.is_memory()),
     };
@@ -397,7 +484,7 @@ pub fn search<W: Way, T: Transitions, C: Cursor>(
 {
     content_fits(input);
     let beside = byte_beside(input, request.from, !W::BACKWARDS);
-    let stand = match begin::<W, T>(table, cache, request, beside) {
+    let stand = match begin::<W, T, C>(table, cache, input, request, beside) {
         Progress::Through(stand) => stand,
         Progress::Over(reading) => return reading,
     };

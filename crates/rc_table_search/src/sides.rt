@@ -6,7 +6,7 @@ ghost use Rattle.rc_text.specs.contracts.input.Input.{the_row};
 ghost use Rattle.rc_text.specs.Text.{Keeps, slice_end};
 ghost use Rattle.rc_program.specs.Sought.{text_of};
 ghost use Rattle.rc_dfa.specs.Runs.{IsByte};
-ghost use Rattle.rc_table_search.specs.Ways.{IsBeside, beside_at, offset_of, span};
+ghost use Rattle.rc_table_search.specs.Ways.{IsBeside, IsInSlice, beside_at, offset_of, span};
 ghost use Rattle.rc_table_search.specs.Walks.{start_of};
 
 use crate::way::Way;
@@ -23,6 +23,7 @@ pub fn byte_beside<C: Cursor>(input: &mut Input<C>, at: usize, before: bool) -> 
     ensures keeps { Keeps input.old input.new }
     ensures value { result ≡ beside_at before (text_of 0 input.old) at }
     ensures there { IfSome result (IsBeside before input.old.content at) }
+    ensures inside { IfSome result (λ _. IsInSlice before input.old at) }
     ensures small { IsByte result }
 {
     if before {

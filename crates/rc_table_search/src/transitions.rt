@@ -1,14 +1,16 @@
 //! Transitions: what a search asks of the table of a DFA or a lazy DFA.
 ghost use Rattle.std.specs.Prelude.{◌≡◌, ◌+◌, ◌≤◌, ℕ, Bool, Some, true, IfOk, IfErr, IsTrue, length};
 ghost use Rattle.rc_determinize.specs.States.{State};
-ghost use Rattle.rc_dfa.specs.Machine.{Machine, is_idle};
+ghost use Rattle.rc_dfa.specs.Machine.{Machine, is_idle, symbols};
 ghost use Rattle.rc_dfa.specs.Runs.{IsByte};
+ghost use Rattle.rc_dfa.specs.Symbols.{IsPast};
 ghost use Rattle.rc_table_search.specs.Refusals.{is_memory};
-ghost use Rattle.rc_table_search.specs.Views.{IsEnd, IsLawful, IsPatternOf, IsRun, IsSame, IsStart, IsStep, View};
+ghost use Rattle.rc_table_search.specs.Views.{IsEnd, IsLawful, IsPatternOf, IsRun, IsSame, IsStart, IsStartBeside, IsStep, IsStepOver, View, reads_symbols};
 
 use crate::refusal::Refusal;
 use crate::run::{Extent, Stand};
 use crate::way::Way;
+use rc_dfa::symbols::Symbol;
 use rc_text::types::Anchored;
 
 /// The transitions of a DFA in both directions, by tables. The DFA has a row for each state before
@@ -19,6 +21,11 @@ pub trait Transitions {
 
     // What the table of a direction says.
     ghost view: { Self → Bool → View Self.Cache };
+
+    /// Whether it reads symbols: of a byte past ASCII, also what is known of the scalar that begins
+    /// or ends with it.
+    fn reads_symbols<W: Way>(&self) -> bool
+        ensures { result ≡ reads_symbols (view self.now W.BACKWARDS).alphabet };
 
     /// Returns the start cell for a kind of anchoring and the byte beside, or an end.
     fn start<W: Way>(
@@ -35,6 +42,23 @@ pub trait Transitions {
         ensures refused { IfErr result (λ e. (view self.now W.BACKWARDS).GivesUp cache.old
             cache.new 1 (is_memory e)) };
 
+    /// Returns the start cell for a kind of anchoring and the symbol beside, if it reads symbols.
+    fn start_beside<W: Way>(
+        &self,
+        cache: &mut Self::Cache,
+        anchored: Anchored,
+        symbol: Symbol,
+    ) -> Result<usize, Refusal>
+        requires cache { (view self.now W.BACKWARDS).IsCache cache.old }
+        requires past { IsPast symbol }
+        ensures cache { (view self.now W.BACKWARDS).IsCache cache.new }
+        ensures spends { (view self.now W.BACKWARDS).Spends cache.old cache.new 1 }
+        ensures cell { (view self.now W.BACKWARDS).alphabet ≡ symbols
+            → IfOk result (IsStartBeside (view self.now W.BACKWARDS) W.BACKWARDS cache.new anchored
+            symbol) }
+        ensures refused { IfErr result (λ e. (view self.now W.BACKWARDS).GivesUp cache.old
+            cache.new 1 (is_memory e)) };
+
     /// Returns the cell of a row and a byte.
     fn next<W: Way>(&self, cache: &mut Self::Cache, row: usize, byte: u8) -> Result<usize, Refusal>
         requires cache { (view self.now W.BACKWARDS).IsCache cache.old }
@@ -43,6 +67,24 @@ pub trait Transitions {
         ensures spends { (view self.now W.BACKWARDS).Spends cache.old cache.new 1 }
         ensures cell { IfOk result (IsStep (view self.now W.BACKWARDS) cache.old cache.new row
             byte) }
+        ensures refused { IfErr result (λ e. (view self.now W.BACKWARDS).GivesUp cache.old
+            cache.new 1 (is_memory e)) };
+
+    /// Returns the cell of a row and a symbol, if it reads symbols.
+    fn next_over<W: Way>(
+        &self,
+        cache: &mut Self::Cache,
+        row: usize,
+        symbol: Symbol,
+    ) -> Result<usize, Refusal>
+        requires cache { (view self.now W.BACKWARDS).IsCache cache.old }
+        requires row { (view self.now W.BACKWARDS).IsRow cache.old row }
+        requires past { IsPast symbol }
+        ensures cache { (view self.now W.BACKWARDS).IsCache cache.new }
+        ensures spends { (view self.now W.BACKWARDS).Spends cache.old cache.new 1 }
+        ensures cell { (view self.now W.BACKWARDS).alphabet ≡ symbols
+            → IfOk result (IsStepOver (view self.now W.BACKWARDS) W.BACKWARDS cache.old cache.new
+            row symbol) }
         ensures refused { IfErr result (λ e. (view self.now W.BACKWARDS).GivesUp cache.old
             cache.new 1 (is_memory e)) };
 

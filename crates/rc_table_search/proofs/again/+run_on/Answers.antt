@@ -1,5 +1,4 @@
-use Rattle.std.proofs.Common.{◌+◌, ◌-◌, false, refl, sym, ◌∙◌, arith}
-use Rattle.rc_dfa.specs.declared.ended.Ended.TheVariants.{Found}
+use Rattle.std.proofs.Common.{◌-◌, false, sym, ◌∙◌, arith}
 use Rattle.rc_table_search.proofs.MemoLemmas.{kept_same, mark_left, run_joined, run_marked, memo_on}
 use Rattle.rc_table_search.proofs.again.+run_on.Goals as goal
 

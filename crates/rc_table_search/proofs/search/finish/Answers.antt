@@ -40,16 +40,16 @@ returns-in-Err-clause-over g c =
     (subst (λ k. v.GivesUp c.args.cache.now c.at_end.new.cache 1 k) (sym c.is_memory.ensures) c.in-Err.ensures.refused)
     (few_spent _ v laws backwards g.outset q q.end here.on (on_here backwards q.end)) here.on (on_here backwards q.end)
 
-pub returns-in-Err-next-clause-over : goal.returns-in-Err-next-clause-over
-returns-in-Err-next-clause-over g c =
+pub returns-in-Err-cell_on-clause-over : goal.returns-in-Err-cell_on-clause-over
+returns-in-Err-cell_on-clause-over g c =
     let backwards = g.W.Way.BACKWARDS in
     let v = g.T.Transitions.view c.args.table.now backwards in
     let laws = g.met.T.Transitions.lawful c.args.table.now backwards in
     let q = c.args.request.now in
     let here = c.requires.1.1.1.1.0 in
-    over_refused _ v laws backwards g.outset q c.args.cache.now c.next.new.cache (span backwards q.from q.end) q.end (q.end + 1)
-    c.is_memory-in-Err-next.result c.in-Err-next.ensures.cache here.spends c.in-Err-next.ensures.spends
-    (subst (λ k. v.GivesUp c.args.cache.now c.next.new.cache 1 k) (sym c.is_memory-in-Err-next.ensures) c.in-Err-next.ensures.refused)
+    over_refused _ v laws backwards g.outset q c.args.cache.now c.cell_on.new.cache (span backwards q.from q.end) q.end (q.end + 1)
+    c.is_memory-in-Err-cell_on.result c.in-Err-cell_on.ensures.cache here.spends c.in-Err-cell_on.ensures.spends
+    (subst (λ k. v.GivesUp c.args.cache.now c.cell_on.new.cache 1 k) (sym c.is_memory-in-Err-cell_on.ensures) c.in-Err-cell_on.ensures.refused)
     (few_spent _ v laws backwards g.outset q q.end here.on (on_here backwards q.end)) here.on (on_here backwards q.end)
 
 pub returns-then-cell-clause-over : goal.returns-then-cell-clause-over
@@ -60,8 +60,8 @@ returns-then-cell-clause-over g c =
     let there = subst (λ k. IsBeside k g.outset.seen.content q.end c.in-Some.byte) c.BACKWARDS.ensures
     (subst (λ xs. IsBeside c.BACKWARDS.result xs q.end c.in-Some.byte) r.1.0.content c.in-Some.ensures.there) in
     step_quits _ (g.T.Transitions.view c.args.table.now backwards) (g.met.T.Transitions.lawful c.args.table.now backwards) backwards g.outset q
-    c.args.cache.now c.next.new.cache q.end c.args.stand c.in-Some.byte c.in-Ok.cell r.0 c.in-Ok.ensures.cache c.in-Ok.ensures.spends c.in-Ok.ensures.cell
-    (sym (beside g (goal.at.returns-then-cell-clause-over g c).After-byte_beside) ∙ c.in-Some.is) (on_here backwards q.end) (q.end + 1) c.offset.result
+    c.args.cache.now c.cell_on.new.cache q.end c.args.stand c.in-Some.byte c.in-Ok.cell r.0 c.in-Ok.ensures.cache c.in-Ok.ensures.spends c.in-Ok.ensures.cell
+    (on_here backwards q.end) (q.end + 1) c.offset.result
     (λ _. refl) c.if-cell.true there (c.offset.ensures ∙ ap (λ k. offset_of k q.end) c.BACKWARDS-then-cell.ensures)
 
 pub returns-clause-over : goal.returns-clause-over
@@ -69,6 +69,6 @@ returns-clause-over g c =
     let backwards = g.W.Way.BACKWARDS in
     let q = c.args.request.now in
     step_bounded _ (g.T.Transitions.view c.args.table.now backwards) (g.met.T.Transitions.lawful c.args.table.now backwards) backwards g.outset q
-    c.args.cache.now c.next.new.cache q.end c.args.stand c.in-Some.byte c.in-Ok.cell c.requires.1.1.1.1.0 c.in-Ok.ensures.cache c.in-Ok.ensures.spends c.in-Ok.ensures.cell
-    (sym (beside g (goal.at.returns-clause-over g c).After-byte_beside) ∙ c.in-Some.is) (on_here backwards q.end) c.if-cell.false c.noted_by.result c.noted_by.ensures
+    c.args.cache.now c.cell_on.new.cache q.end c.args.stand c.in-Some.byte c.in-Ok.cell c.requires.1.1.1.1.0 c.in-Ok.ensures.cache c.in-Ok.ensures.spends c.in-Ok.ensures.cell
+    (on_here backwards q.end) c.if-cell.false c.noted_by.result c.noted_by.ensures
     c.told-2.result refl c.told-2.ensures

@@ -8,5 +8,5 @@ returns-clause-at g c =
     let r = c.requires.1.1.1 in
     at_moved _ v (g.met.T.Transitions.lawful c.args.table.now g.W.Way.BACKWARDS) g.W.Way.BACKWARDS g.outset c.args.request.now c.args.cache.now c.run-place.new.cache
     c.args.piece.now c.args.start c.run-place.result.0 c.run-place.result.1.row c.args.stand c.run-place.result.1.noted c.note_of-noted.result
-    r.0 r.1.0 r.1.1.0 r.1.1.1.0 (λ k. let fits = c.type_inv.piece k in omega (arith, fits)) c.run-place.ensures.within c.run-place.ensures.same c.run-place.ensures.row
+    r.0 r.1.0 r.1.1.0 r.1.1.1.0 r.1.1.1.1.0 (λ k. let fits = c.type_inv.piece k in omega (arith, fits)) c.run-place.ensures.within c.run-place.ensures.same c.run-place.ensures.row
     c.run-place.ensures.run c.note_of-noted.ensures
