@@ -29,12 +29,16 @@ use rc_pikevm_search::literals::literals_of;
 use rc_program::matches::is_again;
 use rc_text::cursor::Cursor;
 use rc_text::input::{Input, advance_start};
-use rc_text::types::{HalfMatch, Match, PatternID};
+use rc_text::types::{Anchored, HalfMatch, Match, PatternID};
 use rc_words::words::Words;
 use std::alloc::{AllocError, Global};
 
 /// Up to this many patterns, the Pike VM searches for a match together with its groups.
 const FEW_PATTERNS: usize = 8;
+
+/// Up to this many slots of groups, the Pike VM searches for a match together with its groups, if
+/// walks begin at each position.
+const FEW_SLOTS: usize = 16;
 
 /// Which DFAs may be built.
 #[derive(Clone, Copy, Debug, PartialEq, Eq)]
@@ -364,11 +368,18 @@ impl Engines {
     }
 
     /// Whether a search without a DFA finds the match alone before its groups: if literals decide
-    /// it, or if there are many patterns. Then the slots of many threads would be copied at each
-    /// byte.
-    fn finds_first(&self) -> bool {
-        self.patterns > FEW_PATTERNS
+    /// it, if there are many patterns, or if walks begin at each position and many slots are asked
+    /// for. Else the slots of many threads would be copied at each byte.
+    fn finds_first(&self, anchored: Anchored, slots: usize) -> bool {
+        if self.patterns > FEW_PATTERNS
             || literals_of(&self.engine.literals, self.engine.kind).is_some()
+        {
+            return true;
+        }
+        match anchored {
+            Anchored::No => self.engine.program.width(slots) > FEW_SLOTS,
+            Anchored::Yes | Anchored::Pattern(_) => false,
+        }
     }
 
     /// Returns the pattern that a search finds, and writes the first of its slots. Without a match
@@ -376,7 +387,7 @@ impl Engines {
     ///
     /// If a DFA finds the match and its groups are asked for, the one-pass DFA finds them, or else a
     /// pass of the Pike VM over its span. So do searches without a DFA if literals decide the match,
-    /// or if there are many patterns.
+    /// if there are many patterns, or if walks begin at each position and many slots are asked for.
     pub fn find_slots<C: Cursor>(
         &self,
         cache: &mut Cache,
@@ -404,7 +415,7 @@ impl Engines {
             self.fill_slots(pass, input, found, slots);
             return Some(found.pattern());
         }
-        if self.finds_first() {
+        if self.finds_first(input.get_anchored(), slots.len()) {
             let pass = &mut cache.pass;
             let found = self.engine.find(pass, input)?;
             let pattern = found.pattern();
