@@ -1,10 +1,11 @@
 -- The list of entries, as it is stored on both sides of its gap.
-use Rattle.std.proofs.Common.{◌≡◌, ℕ, zero, suc, ◌+◌, ◌-◌, ◌<◌, ◌≤◌, List, [], ◌∷◌, ◌++◌, length, map, reverse, min, Option, Some, sym, ap, ap₂, subst, ◌∙◌, refl, arith, append_assoc}
+use Rattle.std.proofs.Common.{◌≡◌, ℕ, zero, suc, ◌+◌, ◌-◌, ◌<◌, ◌≤◌, List, [], ◌∷◌, ◌++◌, length, map, min, Option, Some, None, sym, ap, ap₂, subst, ◌∙◌, refl, arith, append_assoc}
 use Rattle.std.specs.List.{slice_get}
-use Rattle.std.proofs.lemmas.List.{map-append, reverse-append}
+use Rattle.std.specs.Prelude.{MatchOption}
+use Rattle.std.proofs.lemmas.List.{map-append}
 use Rattle.std.proofs.lemmas.Option.{none-some, same_Some}
 use Rattle.live_matches.specs.Entry.{Entry}
-use Rattle.live_matches.specs.declared.entries.Kept.{Kept}
+use Rattle.live_matches.specs.declared.sides.Kept.{Kept}
 use Rattle.live_matches.specs.Entries.{AreBehind, AreBelow, Rise, counted_back, entries_of, last_end, mirror, most_of, moved_by, reach_of}
 
 -- the last of a list
@@ -15,17 +16,26 @@ last_at (y ∷ []) zero x h e = ([], ap (λ z. z ∷ []) (same_Some y x e))
 last_at (y ∷ z ∷ xs) zero x h e = absurd (omega (arith, h))
 last_at (y ∷ xs) (suc i) x h e = let r = last_at xs i x (omega (arith, h)) e in (y ∷ r.0, ap (λ w. y ∷ w) r.1)
 
-pub last_is : {X : Type 0} (xs : List X) (x : X) → Some x ≡ slice_get xs (length xs - 1) →
-    (init : List X) × (xs ≡ init ++ x ∷ [])
-last_is [] x e = absurd (none-some x (sym e))
-last_is (y ∷ xs) x e = last_at (y ∷ xs) (length (y ∷ xs) - 1) x (omega arith) (sym e)
+there : {X : Type 0} (xs : List X) (i : ℕ) → i < length xs → slice_get xs i ≡ None → ⊥
+there [] i h e = omega (arith, h)
+there (x ∷ xs) zero h e = none-some x (sym e)
+there (x ∷ xs) (suc i) h e = there xs i (omega (arith, h)) e
+
+pub last_of : {X : Type 0} (xs : List X) (i : ℕ) (o : Option X) → i ≡ length xs - 1 → o ≡ slice_get xs i →
+    MatchOption o (xs ≡ []) (λ x. (init : List X) × (xs ≡ init ++ x ∷ []))
+last_of [] i None h e = refl
+last_of [] i (Some x) h e = absurd (none-some x (sym e))
+last_of (y ∷ ys) i None h e = absurd (there (y ∷ ys) i (omega (arith, h)) (sym e))
+last_of (y ∷ ys) i (Some x) h e = last_at (y ∷ ys) i x (omega (arith, h)) (sym e)
+
+-- the first of a list
+pub first_is : {X : Type 0} (xs : List X) (x : X) → Some x ≡ slice_get xs 0 → (rest : List X) × (xs ≡ x ∷ rest)
+first_is [] x e = absurd (none-some x (sym e))
+first_is (y ∷ xs) x e = (xs, ap (λ z. z ∷ xs) (same_Some y x (sym e)))
 
 -- one more at the end
 pub entries_push : (ks : List Kept) (k : Kept) → entries_of (ks ++ k ∷ []) ≡ entries_of ks ++ k.entry ∷ []
 entries_push ks k = map-append (λ k. k.entry) ks (k ∷ [])
-
-pub back_push : (len : ℕ) (es : List Entry) (e : Entry) → counted_back len (es ++ e ∷ []) ≡ mirror len e ∷ counted_back len es
-back_push len es e = ap reverse (map-append (mirror len) es (e ∷ [])) ∙ reverse-append (map (mirror len) es) (mirror len e ∷ [])
 
 pub end_push : (last : Option ℕ) (es : List Entry) (e : Entry) → last_end last (es ++ e ∷ []) ≡ Some e.found.end
 end_push last [] e = refl
@@ -64,16 +74,16 @@ mirror_twice len e order inside =
 
 -- the gap moves back over an entry, and on
 pub moved_back : (len : ℕ) (ks : List Kept) (k : Kept) (es : List Entry) → k.entry.found.start ≤ k.entry.found.end → k.entry.found.end ≤ len →
-    entries_of ks ++ counted_back len (es ++ mirror len k.entry ∷ []) ≡ entries_of (ks ++ k ∷ []) ++ counted_back len es
+    entries_of ks ++ counted_back len (mirror len k.entry ∷ es) ≡ entries_of (ks ++ k ∷ []) ++ counted_back len es
 moved_back len ks k es order inside =
-    ap (λ z. entries_of ks ++ z) (back_push len es (mirror len k.entry) ∙ ap (λ e. e ∷ counted_back len es) (mirror_twice len k.entry order inside))
+    ap (λ e. entries_of ks ++ e ∷ counted_back len es) (mirror_twice len k.entry order inside)
     ∙ sym (append_assoc (entries_of ks) (k.entry ∷ []) (counted_back len es)) ∙ sym (ap (λ z. z ++ counted_back len es) (entries_push ks k))
 
 pub moved_on : (len : ℕ) (ks : List Kept) (k : Kept) (es : List Entry) (e : Entry) → k.entry ≡ mirror len e →
-    entries_of (ks ++ k ∷ []) ++ counted_back len es ≡ entries_of ks ++ counted_back len (es ++ e ∷ [])
+    entries_of (ks ++ k ∷ []) ++ counted_back len es ≡ entries_of ks ++ counted_back len (e ∷ es)
 moved_on len ks k es e same =
     ap (λ z. z ++ counted_back len es) (entries_push ks k) ∙ append_assoc (entries_of ks) (k.entry ∷ []) (counted_back len es)
-    ∙ ap (λ z. entries_of ks ++ z) (ap (λ z. z ∷ counted_back len es) same ∙ sym (back_push len es e))
+    ∙ ap (λ z. entries_of ks ++ z ∷ counted_back len es) same
 
 -- counted from the end of the edited text
 edited_one : (len removed inserted : ℕ) (e : Entry) → removed < (mirror len e).found.start → (mirror len e).found.start ≤ (mirror len e).found.end →
@@ -87,20 +97,12 @@ pub behind_split : (at : ℕ) (es fs : List Entry) → AreBehind at (es ++ fs) �
 behind_split at [] fs a = (tt, a)
 behind_split at (e ∷ es) fs a = let r = behind_split at es fs a.2 in ((a.0, a.1, r.0), r.1)
 
-back_first : (len : ℕ) (e : Entry) (es : List Entry) → counted_back len (e ∷ es) ≡ counted_back len es ++ mirror len e ∷ []
-back_first len e es = reverse-append (mirror len e ∷ []) (map (mirror len) es)
-
 pub edited : (len removed inserted at : ℕ) (es : List Entry) → removed ≤ at → AreBehind at (counted_back len es) →
     counted_back (len - removed + inserted) es ≡ map (moved_by removed inserted) (counted_back len es)
 edited len removed inserted at [] few behind = refl
 edited len removed inserted at (e ∷ es) few behind =
-    let more = len - removed + inserted in
-    let r = behind_split at (counted_back len es) (mirror len e ∷ []) (subst (AreBehind at) (back_first len e es) behind) in
-    back_first more e es
-    ∙ ap₂ (λ xs x. xs ++ x ∷ []) (edited len removed inserted at es few r.0)
-    (edited_one len removed inserted e (omega (arith, few, r.1.0)) r.1.1)
-    ∙ sym (map-append (moved_by removed inserted) (counted_back len es) (mirror len e ∷ []))
-    ∙ sym (ap (map (moved_by removed inserted)) (back_first len e es))
+    ap₂ (λ x xs. x ∷ xs) (edited_one len removed inserted e (omega (arith, few, behind.0)) behind.1)
+    (edited len removed inserted at es few behind.2)
 
 -- entries that end by a place that the new text has
 pub rise_on : (len next most at : ℕ) (ks : List Kept) → at ≤ next → Rise len most ks → AreBelow at (entries_of ks) → Rise next most ks

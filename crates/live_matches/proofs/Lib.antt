@@ -1,4 +1,5 @@
 mod Gaps
+mod Rings
 mod Moves
 mod Listed
 mod Nexts

@@ -1,8 +1,8 @@
 -- Entries: matches, how many bytes settle each, and a list of them with a gap.
-use Rattle.std.specs.Prelude.{◌≡◌, ℕ, ◌+◌, ◌-◌, ◌<◌, ◌≤◌, List, [], ◌∷◌, ◌++◌, map, reverse, min, Option, None, Some, Bool, true, nat_lt}
+use Rattle.std.specs.Prelude.{◌≡◌, ℕ, ◌+◌, ◌-◌, ◌<◌, ◌≤◌, List, [], ◌∷◌, ◌++◌, map, min, Option, None, Some, Bool, true, nat_lt}
 use Rattle.live_matches.specs.declared.entry.Edit.{Edit}
 use Rattle.live_matches.specs.Entry.{Entry}
-use Rattle.live_matches.specs.declared.entries.Kept.{Kept}
+use Rattle.live_matches.specs.declared.sides.Kept.{Kept}
 
 -- How many bytes of the text settle the entry.
 abbrev pub reach_of : Entry → ℕ
@@ -93,14 +93,18 @@ pub record IsSkipped (mark : Option ℕ) (end : ℕ) (g : Gapped) (now : Option 
 
 -- How the list with a gap is stored.
 
+-- The entries before the gap, with what settles them, and those after it.
+pub record TwoSides : Type 0 where
+  pub before : List Kept
+  pub after : List Entry
+
 -- The entries before the gap.
 abbrev pub entries_of : List Kept → List Entry
 entries_of ks = map (λ k. k.entry) ks
 
--- The entries after the gap, of which the last is stored first, with its places counted from the
--- end of the text.
+-- The entries after the gap, which are stored with their places counted from the end of the text.
 abbrev pub counted_back : ℕ → List Entry → List Entry
-counted_back len es = reverse (map (mirror len) es)
+counted_back len es = map (mirror len) es
 
 -- They lie in the text, and `most` is how many bytes settle an entry and all before it. A number
 -- that is too great for a `usize` is stored as the greatest one.

@@ -1,30 +1,20 @@
 //! Entries: a list of matches with a gap that follows the edits.
-ghost use Rattle.std.specs.Prelude.{◌≡◌, ◌+◌, ◌++◌, ◌∷◌, ◌<◌, ◌≤◌, ℕ, [], IfErr, IfOk, IsTrue, List, MatchOption, false, min};
+ghost use Rattle.std.specs.Prelude.{◌≡◌, ◌+◌, ◌++◌, ◌∷◌, ◌<◌, ◌≤◌, ℕ, [], IfOk, IsTrue, List, MatchOption, false, min};
 ghost use Rattle.live_matches.specs.Entries.{AreBelow, Rise, counted_back, entries_of, is_before, most_of, reach_of};
 ghost use Rattle.live_matches.specs.Lists.{place_of};
 ghost use Rattle.live_matches.specs.Stretches.{last_start};
-ghost use Rattle.live_matches.specs.declared.entries.Kept.{Kept as a_kept};
+ghost use Rattle.live_matches.specs.declared.sides.Kept.{Kept as a_kept};
 
 use crate::entry::{Edit, Entry};
+use crate::sides::{Kept, Sides};
 use std::alloc::{AllocError, Global};
 use std::marker::Model;
-
-/// An entry before the gap.
-#[derive(Clone, Copy, Debug)]
-pub struct Kept {
-    /// The entry.
-    pub entry: Entry,
-    /// How many bytes settle it and all entries before it.
-    pub most: usize,
-}
 
 /// The entries of a text of `len` bytes, in order. Those before the gap count their places from the
 /// start of the text, and those after it from its end. So an edit at the gap moves none of them.
 #[derive(Drop)]
 pub struct Entries {
-    before: Vec<Kept>,
-    /// The last entry first.
-    after: Vec<Entry>,
+    sides: Sides,
     len: usize,
 }
 
@@ -34,12 +24,12 @@ impl Model for Entries {
     ghost Value = { Gapped };
 
     ghost view = { λ l. record {
-      before = entries_of l.before.items;
-      after = counted_back l.len l.after.items;
+      before = entries_of l.sides.before;
+      after = counted_back l.len l.sides.after;
       len = l.len;
     } };
 
-    ghost invariant = { λ l. Rise l.len 0 l.before.items };
+    ghost invariant = { λ l. Rise l.len 0 l.sides.before };
 }
 
 impl Entries {
@@ -53,8 +43,7 @@ impl Entries {
         ensures { result ≡ record { before = []; after = []; len = len } }
     {
         Entries {
-            before: Vec::new(alloc),
-            after: Vec::new(alloc),
+            sides: Sides::new(alloc),
             len,
         }
     }
@@ -63,8 +52,7 @@ impl Entries {
     pub fn clear(&mut self, len: usize)
         ensures { self.new ≡ record { before = []; after = []; len = len } }
     {
-        self.before.clear();
-        self.after.clear();
+        self.sides.clear();
         self.len = len;
     }
 
@@ -79,56 +67,53 @@ impl Entries {
     pub fn count_before(&self) -> usize
         ensures { result ≡ length self.now.before }
     {
-        self.before.len()
+        self.sides.count_before()
     }
 
     /// The number of entries after the gap.
     pub fn count_after(&self) -> usize
         ensures { result ≡ length self.now.after }
     {
-        self.after.len()
+        self.sides.count_after()
     }
 
     /// The number of entries.
     pub fn len(&self) -> usize
         ensures { result ≡ length (all_of self.now) }
     {
-        self.before.len() + self.after.len()
+        self.sides.len()
     }
 
     /// Roughly the number of bytes that the list has allocated.
     pub fn memory_usage(&self) -> usize {
-        let before = self.before.capacity().saturating_mul(size_of::<Kept>());
-        let after = self.after.capacity().saturating_mul(size_of::<Entry>());
-        before.saturating_add(after)
+        self.sides.memory_usage()
     }
 
     /// The entry with this index, in order, or `None` if there are no more.
     pub fn get(&self, index: usize) -> Option<Entry>
         ensures { result ≡ slice_get (all_of self.now) index }
     {
-        if index < self.before.len() {
-            return Some(self.before[index].entry);
+        let before = self.sides.count_before();
+        if index >= before {
+            return self.get_after(index - before);
         }
-        self.get_after(index - self.before.len())
+        let kept = self.sides.get_before(index)?;
+        Some(kept.entry)
     }
 
     /// The entry after the gap with this index, in order, or `None` if there are no more.
     pub fn get_after(&self, index: usize) -> Option<Entry>
         ensures { result ≡ slice_get self.now.after index }
     {
-        if index < self.after.len() {
-            Some(self.after[self.after.len() - 1 - index].mirrored(self.len))
-        } else {
-            None
-        }
+        let entry = self.sides.get_after(index)?;
+        Some(entry.mirrored(self.len))
     }
 
     /// Drops the entries after the gap.
     pub fn drop_after(&mut self)
         ensures { self.new ≡ record self.old { after = [] } }
     {
-        self.after.clear();
+        self.sides.drop_after();
     }
 
     /// Appends an entry before the gap. An `Err` means out of memory.
@@ -137,8 +122,8 @@ impl Entries {
         ensures { IfOk result (λ _. self.new
             ≡ record self.old { before = self.old.before ++ entry ∷ [] }) }
     {
-        let most = most_of(&self.before);
-        add(&mut self.before, kept_after(most, entry))?;
+        let most = most_of(&self.sides);
+        self.sides.push(kept_after(most, entry))?;
         Ok(())
     }
 
@@ -146,18 +131,15 @@ impl Entries {
     pub fn last_end(&self) -> Option<usize>
         ensures { result ≡ last_end None self.now.before }
     {
-        match self.before.last() {
-            Some(kept) => Some(kept.entry.end()),
-            None => None,
-        }
+        let kept = self.sides.last()?;
+        Some(kept.entry.end())
     }
 
-    /// Drops the last entries before the gap, as long as they begin after a place. An `Err` means
-    /// out of memory.
-    pub fn drop_back(&mut self, at: usize) -> Result<(), AllocError>
-        ensures { IfOk result (λ _. IsDroppedBack at self.old self.new) }
+    /// Drops the last entries before the gap, as long as they begin after a place.
+    pub fn drop_back(&mut self, at: usize)
+        ensures { IsDroppedBack at self.old self.new }
     {
-        drop_back(&mut self.before, at)
+        drop_back(&mut self.sides, at);
     }
 
     /// Drops the first entries after the gap, as long as they end at a place or before it.
@@ -183,12 +165,12 @@ impl Entries {
     }
 
     /// Puts the entries after the gap of another list in place of those of this list. Both are of
-    /// one text.
-    pub fn take_after(&mut self, next: Entries)
+    /// one text. An `Err` means out of memory.
+    pub fn take_after(&mut self, next: Entries) -> Result<(), AllocError>
         requires { next.len ≡ self.old.len }
-        ensures { self.new ≡ record self.old { after = next.after } }
+        ensures { IfOk result (λ _. self.new ≡ record self.old { after = next.after }) }
     {
-        self.after = next.after;
+        self.sides.take_after(next.sides)
     }
 
     /// Takes the first entry after the gap from the list.
@@ -197,10 +179,8 @@ impl Entries {
             (λ e. (self.old.after ≡ e ∷ self.new.after)
             × (self.new ≡ record self.old { after = self.new.after })) }
     {
-        match self.after.pop() {
-            Some(entry) => Some(entry.mirrored(self.len)),
-            None => None,
-        }
+        let entry = self.sides.take_next()?;
+        Some(entry.mirrored(self.len))
     }
 
     /// Drops entries after the gap until one is dropped that ends `margin` bytes after `at`, or
@@ -262,16 +242,14 @@ impl Entries {
     }
 
     /// Moves the gap: before it are then entries that the bytes before `at` settle, together with
-    /// all entries before them. An `Err` means out of memory.
-    pub fn settle_to(&mut self, at: usize) -> Result<(), AllocError>
+    /// all entries before them.
+    pub fn settle_to(&mut self, at: usize)
         requires { at < usize.MAX }
-        ensures { IfOk result (λ _. IsSettledTo at self.old self.new) }
+        ensures { IsSettledTo at self.old self.new }
     {
-        move_back(&mut self.before, &mut self.after, self.len, at)?;
-        move_on(&mut self.before, &mut self.after, self.len, at)?;
-        give_back(&mut self.before);
-        give_back(&mut self.after);
-        Ok(())
+        move_back(&mut self.sides, self.len, at);
+        move_on(&mut self.sides, self.len, at);
+        self.sides.give_back();
     }
 }
 
@@ -307,101 +285,63 @@ fn kept_after(most: usize, entry: Entry) -> Kept
     }
 }
 
-/// Moves entries from before the gap to after it, until `at` bytes settle those before it.
-fn move_back(
-    before: &mut Vec<Kept>,
-    after: &mut Vec<Entry>,
-    len: usize,
-    at: usize,
-) -> Result<(), AllocError>
-    requires rise { Rise len 0 before.old.items }
+/// Moves the gap back, until `at` bytes settle the entries before it.
+fn move_back(sides: &mut Sides, len: usize, at: usize)
+    requires rise { Rise len 0 sides.old.before }
     requires at { at < usize.MAX }
-    ensures rise { Rise len 0 before.new.items }
-    ensures all { IfOk result (λ _. entries_of before.new.items ++ counted_back len after.new.items
-        ≡ entries_of before.old.items ++ counted_back len after.old.items) }
-    ensures below { IfOk result (λ _. AreBelow at (entries_of before.new.items)) }
+    ensures rise { Rise len 0 sides.new.before }
+    ensures all { entries_of sides.new.before ++ counted_back len sides.new.after
+        ≡ entries_of sides.old.before ++ counted_back len sides.old.after }
+    ensures below { AreBelow at (entries_of sides.new.before) }
 {
-    'back: while let Some(kept) = before.pop() {
+    'back: while let Some(kept) = sides.last() {
         if kept.most <= at {
-            before.push(kept)?;
-            return Ok(());
+            return;
         }
-        add(after, kept.entry.mirrored(len))?;
+        sides.move_back(kept.entry.mirrored(len));
     }
-    Ok(())
 }
 
-/// Moves entries from after the gap to before it, as long as `at` bytes settle those before it.
-fn move_on(
-    before: &mut Vec<Kept>,
-    after: &mut Vec<Entry>,
-    len: usize,
-    at: usize,
-) -> Result<(), AllocError>
-    requires rise { Rise len 0 before.old.items }
+/// Moves the gap on, as long as `at` bytes settle the entries before it.
+fn move_on(sides: &mut Sides, len: usize, at: usize)
+    requires rise { Rise len 0 sides.old.before }
     requires at { at < usize.MAX }
-    requires below { AreBelow at (entries_of before.old.items) }
-    ensures rise { Rise len 0 before.new.items }
-    ensures all { IfOk result (λ _. entries_of before.new.items ++ counted_back len after.new.items
-        ≡ entries_of before.old.items ++ counted_back len after.old.items) }
-    ensures below { IfOk result (λ _. AreBelow at (entries_of before.new.items)) }
+    requires below { AreBelow at (entries_of sides.old.before) }
+    ensures rise { Rise len 0 sides.new.before }
+    ensures all { entries_of sides.new.before ++ counted_back len sides.new.after
+        ≡ entries_of sides.old.before ++ counted_back len sides.old.after }
+    ensures below { AreBelow at (entries_of sides.new.before) }
 {
-    'on: while let Some(entry) = after.pop() {
-        let kept = kept_after(most_of(before), entry.mirrored(len));
+    'on: while let Some(entry) = sides.get_after(0) {
+        let kept = kept_after(most_of(sides), entry.mirrored(len));
         if kept.most > at {
-            after.push(entry)?;
-            return Ok(());
+            return;
         }
-        add(before, kept)?;
+        sides.move_on(kept);
     }
-    Ok(())
 }
 
-/// Drops the last entries, as long as they begin after a place. An `Err` means out of memory.
-fn drop_back(before: &mut Vec<Kept>, at: usize) -> Result<(), AllocError>
-    ensures rise { (len : ℕ) → Rise len 0 before.old.items → Rise len 0 before.new.items }
-    ensures dropped { IfOk result (λ _. (dropped : List a_kept)
-        × (before.old.items ≡ before.new.items ++ dropped)) }
-    ensures far { IfOk result (λ _. last_start 0 (entries_of before.new.items) ≤ at) }
+/// Drops the last entries, as long as they begin after a place.
+fn drop_back(sides: &mut Sides, at: usize)
+    ensures rise { (len : ℕ) → Rise len 0 sides.old.before → Rise len 0 sides.new.before }
+    ensures dropped { (dropped : List a_kept) × (sides.old.before ≡ sides.new.before ++ dropped) }
+    ensures after { sides.new.after ≡ sides.old.after }
+    ensures far { last_start 0 (entries_of sides.new.before) ≤ at }
 {
-    'back: while let Some(kept) = before.pop() {
+    'back: while let Some(kept) = sides.last() {
         if kept.entry.start() <= at {
-            before.push(kept)?;
-            return Ok(());
+            return;
         }
+        sides.drop_last();
     }
-    Ok(())
 }
 
-/// How many bytes settle all these entries.
-fn most_of(before: &Vec<Kept>) -> usize
-    ensures { result ≡ most_of 0 before.now.items }
+/// How many bytes settle all entries before the gap.
+fn most_of(sides: &Sides) -> usize
+    ensures { result ≡ most_of 0 sides.now.before }
 {
-    match before.last() {
+    match sides.last() {
         Some(kept) => kept.most,
         None => 0,
-    }
-}
-
-/// Adds an element. The room grows by a quarter, so a list takes little more than its elements. An
-/// `Err` means out of memory.
-fn add<T: Copy>(list: &mut Vec<T>, element: T) -> Result<(), AllocError>
-    ensures added { IfOk result (λ _. list.new.items ≡ list.old.items ++ element ∷ []) }
-    ensures refused { IfErr result (λ _. list.new.items ≡ list.old.items) }
-{
-    if list.len() == list.capacity() {
-        list.reserve_exact(list.len() / 4 + 4)?;
-    }
-    list.push(element)?;
-    Ok(())
-}
-
-/// Gives room back if a list has more than half of its length left.
-fn give_back<T>(list: &mut Vec<T>)
-    ensures { list.new.items ≡ list.old.items }
-{
-    let len = list.len();
-    if list.capacity().saturating_sub(len) > len / 2 + 8 {
-        list.shrink_to(len + len / 4 + 4);
     }
 }

@@ -11,6 +11,7 @@ pub mod live;
 mod quiet;
 mod ranges;
 mod search;
+mod sides;
 mod stretches;
 
 pub use entry::{Changed, Edit};

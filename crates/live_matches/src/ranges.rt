@@ -98,9 +98,9 @@ pub fn join<C: Cursor>(
         input.old.content range.end None (all_of entries.new)) }
 {
     let mut next = next;
-    entries.settle_to(usize::MAX - 1)?;
-    next.settle_to(0)?;
-    entries.take_after(next);
+    entries.settle_to(usize::MAX - 1);
+    next.settle_to(0);
+    entries.take_after(next)?;
     let mark = Some(range.start);
     search_to(entries, None, mark, range.end, regex, cache, input)
 }

@@ -153,8 +153,8 @@ pub fn update<C: Cursor>(
         (founds (all_of entries.new)) c.span) }
 {
     content_fits(input);
-    stretches.edit(edit)?;
-    entries.settle_to(edit.replaced.start)?;
+    stretches.edit(edit);
+    entries.settle_to(edit.replaced.start);
     let ahead = Ahead::of(entries);
     let first = entries.count_before();
     let after = entries.count_after();

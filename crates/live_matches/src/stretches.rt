@@ -132,18 +132,16 @@ impl Stretches {
         self.entries.memory_usage().saturating_add(bytes)
     }
 
-    /// Goes over to the text after an edit. Those go that it may change. An `Err` means out of
-    /// memory.
-    pub fn edit(&mut self, edit: Edit) -> Result<(), AllocError>
+    /// Goes over to the text after an edit. Those go that it may change.
+    pub fn edit(&mut self, edit: Edit)
         requires fits { FitsEdit self.old.entries.len edit }
         requires room { edit.replaced.start < usize.MAX }
         requires rising { AreRising 0 (all_of self.old.entries) }
-        ensures { IfOk result (λ _. IsOverEdit edit self.old.entries self.new.entries) }
+        ensures { IsOverEdit edit self.old.entries self.new.entries }
     {
-        self.entries.settle_to(edit.replaced.start)?;
+        self.entries.settle_to(edit.replaced.start);
         drop_near(&mut self.entries, edit);
         self.entries.edit(edit);
-        Ok(())
     }
 
     /// The longest stretch from a place on that those before the gap make.
@@ -176,7 +174,7 @@ impl Stretches {
             → IfOk result (λ _. AreStretches kind s c 0 (all_of self.new.entries)) }
         ensures len { IfOk result (λ _. self.new.entries.len ≡ self.old.entries.len) }
     {
-        self.entries.drop_back(entry.start())?;
+        self.entries.drop_back(entry.start());
         self.entries.drop_by(entry.end());
         self.entries.skip_over(None, entry.start());
         self.entries.push(*entry)

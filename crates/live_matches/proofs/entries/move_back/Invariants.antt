@@ -5,10 +5,10 @@ use Rattle.live_matches.proofs.entries.move_back.Given as goal
 -- the same entries, wherever the gap is
 abbrev pub invariant-back : goal.invariant-back
 invariant-back l = record {
-  rise : Rise l.len 0 l.before.items;
-  all : entries_of l.before.items ++ counted_back l.len l.after.items
-      ≡ entries_of l.fn.before.items ++ counted_back l.len l.fn.after.items;
+  rise : Rise l.len 0 l.sides.before;
+  all : entries_of l.sides.before ++ counted_back l.len l.sides.after
+      ≡ entries_of l.fn.sides.before ++ counted_back l.len l.fn.sides.after;
 }
 
 abbrev pub decreases-back : goal.decreases-back
-decreases-back l = length l.before.items
+decreases-back l = length l.sides.before

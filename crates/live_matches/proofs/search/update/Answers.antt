@@ -30,7 +30,7 @@ pub carry-requires-clause-stretches_len : goal.carry-requires-clause-stretches_l
 carry-requires-clause-stretches_len g c =
     let r = c.args.regex.now in
     let was = c.requires.stretches in
-    c.in_ok-edit.ensures.len ∙ ap (len_after c.args.edit) was.len
+    c.edit.ensures.len ∙ ap (len_after c.args.edit) was.len
     ∙ sym (sized (regex_kind r) (seeks r) was.old c.args.input.now.content c.args.edit was.edited)
 
 pub carry-requires-clause-are : goal.carry-requires-clause-are
@@ -39,13 +39,13 @@ carry-requires-clause-are g c =
     let was = c.requires.stretches in
     let by = was.edited in
     are_over (regex_kind r) (seeks r) was.old c.args.input.now.content c.args.edit by.order by.inside by.room by.back
-    c.args.stretches.now.entries c.edit.new.self.entries by.front c.in_ok-edit.ensures was.are
+    c.args.stretches.now.entries c.edit.new.self.entries by.front c.edit.ensures was.are
 
 pub carry-requires-clause-were : goal.carry-requires-clause-were
 carry-requires-clause-were g c =
     let r = c.args.regex.now in
     let was = c.requires.were in
-    let settled = c.in_ok-settle_to.ensures in
+    let settled = c.settle_to.ensures in
     record {
       old = was.old;
       are = subst (AreEntries (regex_kind r) (seeks r) was.old None) (sym settled.all) was.are;
@@ -58,7 +58,7 @@ overflow_sub-dropped g c =
     let r = c.args.regex.now in
     let was = c.requires.were in
     let few = fewer (regex_kind r) (seeks r) was.old c.args.input.now.content c.args.edit was.edited c.args.entries.now c.settle_to.new.self
-    c.carry.new.entries c.in_ok-settle_to.ensures c.in_ok-carry.ensures.carried in
+    c.carry.new.entries c.settle_to.ensures c.in_ok-carry.ensures.carried in
     omega (arith, few, c.count_after-after.ensures, c.count_after.ensures)
 
 pub returns-clause-changed : goal.returns-clause-changed
@@ -70,7 +70,7 @@ returns-clause-changed g c =
     let g0 = c.args.entries.now in
     let g1 = c.settle_to.new.self in
     let g4 = c.carry.new.entries in
-    let settled = c.in_ok-settle_to.ensures in
+    let settled = c.settle_to.ensures in
     let on = c.in_ok-carry.ensures in
     let raw = split (regex_kind r) (seeks r) was.old new edit was.edited g0 g1 g4 settled on.carried
     (record { first = c.count_before-first.result; dropped = c.count_after-after.result - c.count_after.result; added = length g4.before - c.count_before-first.result; span = edit.replaced })
@@ -89,7 +89,7 @@ returns-clause-drawn g c =
     let g0 = c.args.entries.now in
     let g1 = c.settle_to.new.self in
     let g4 = c.carry.new.entries in
-    let settled = c.in_ok-settle_to.ensures in
+    let settled = c.settle_to.ensures in
     let on = c.in_ok-carry.ensures in
     let raw = split (regex_kind r) (seeks r) was.old new edit was.edited g0 g1 g4 settled on.carried
     (record { first = c.count_before-first.result; dropped = c.count_after-after.result - c.count_after.result; added = length g4.before - c.count_before-first.result; span = edit.replaced })

@@ -11,7 +11,7 @@ invariant_of-self c =
     let fits = c.requires.edit in
     let len = ap (λ (g : Gapped). g.len) c.self.view_is in
     let below = subst (AreBelow e.replaced.start) (sym (ap (λ (g : Gapped). g.before) c.self.view_is)) c.requires.before in
-    rise_on l.len (l.len - (e.replaced.end - e.replaced.start) + e.inserted) 0 e.replaced.start l.before.items
+    rise_on l.len (l.len - (e.replaced.end - e.replaced.start) + e.inserted) 0 e.replaced.start l.sides.before
     (omega (arith, fits.order, fits.inside, len)) c.self.invariant below
 
 pub returns : goal.returns
@@ -22,6 +22,6 @@ returns c =
     let same = c.self.view_is in
     let behind = subst (AreBehind e.replaced.end) (sym (ap (λ (g : Gapped). g.after) same)) c.requires.after in
     let made : Gapped → Gapped = λ g. record { before = g.before; after = map (moved_with e) g.after; len = len_after e g.len } in
-    ap (λ (es : List Entry). record { before = entries_of l.before.items; after = es; len = len_after e l.len })
-    (edited l.len (e.replaced.end - e.replaced.start) e.inserted e.replaced.end l.after.items (omega arith) behind)
+    ap (λ (es : List Entry). record { before = entries_of l.sides.before; after = es; len = len_after e l.len })
+    (edited l.len (e.replaced.end - e.replaced.start) e.inserted e.replaced.end l.sides.after (omega arith) behind)
     ∙ ap made same
