@@ -1,7 +1,10 @@
 -- A search for one needle by its failure function.
-use Rattle.std.proofs.Common.{◌≡◌, ℕ, zero, suc, ◌+◌, ◌-◌, ◌<◌, ◌≤◌, List, length, length-take, length-drop, true, false, Some, None, sym, ap, subst, ◌∙◌, arith, inl, inr, slice_index, slice_range}
+use Rattle.std.proofs.Common.{◌≡◌, ℕ, zero, suc, ◌+◌, ◌-◌, ◌<◌, ◌≤◌, List, length, length-take, length-drop, true, false, Some, None, sym, ap, subst, ◌∙◌, arith, inl, inr, slice_get, slice_index, slice_range, zero-le}
 use Rattle.std.proofs.lemmas.Bool.{cases_lt}
+use Rattle.std.proofs.lemmas.Bool.Decides.{nat_tests}
 use Rattle.std.proofs.lemmas.List.{ext_get_or}
+use Rattle.std.proofs.lemmas.Option.{get_or_from_slice_get}
+use Rattle.memchr.specs.Find.{Nowhere, Passes, is_byte}
 use Rattle.rc_text.proofs.Ranges.{get_or-slice_range}
 use Rattle.rc_needles.specs.declared.hit.Hit.{Hit}
 use Rattle.rc_needles.specs.Failures.{HasPrefixAt, GoesOn}
@@ -34,6 +37,35 @@ none_by needles content hi i one never =
     (λ k l. let zero : 0 ≡ k = omega (arith, one, l) in
     subst (λ n. stands_within content hi i (numbered needles n) ≡ false) zero
     (false_if_not (stands_within content hi i (numbered needles 0)) (λ e. never (has_needle content (numbered needles 0) hi i e))))
+
+-- it doesn't where a byte of it would stand that it lacks
+pub none_by_byte : (content needle : List ℕ) (hi i last b : ℕ) → slice_get content last ≡ Some b →
+    Nowhere (Passes (is_byte b) needle) 0 (length needle) → i ≤ last → last < i + length needle → stands_within content hi i needle ≡ false
+none_by_byte content needle hi i last b is lacks low high =
+    false_if_not (stands_within content hi i needle)
+    (λ e. let there : i + (last - i) ≡ last = omega (arith, low) in
+    let same : slice_index needle (last - i) ≡ b =
+    sym (has_needle content needle hi i e (last - i) (omega (arith, low, high))) ∙ ap (slice_index content) there ∙ get_or_from_slice_get content last b 0 is in
+    lacks (last - i) zero-le (omega (arith, low, high)) (grind (arith, nat_tests)))
+
+-- no start up to that byte is one
+pub passed_on : (content text needle : List ℕ) (hi from at last b : ℕ) → text ≡ content →
+    ((i : ℕ) → from ≤ i → i < at → stands_within content hi i needle ≡ false) → slice_get text last ≡ Some b →
+    Nowhere (Passes (is_byte b) needle) 0 (length needle) → at ≤ last → last + 1 ≡ at + length needle →
+    ((i : ℕ) → from ≤ i → i < last + 1 → stands_within content hi i needle ≡ false)
+passed_on content text needle hi from at last b same before is lacks low long i a z =
+    elim (cases_lt i at) [
+      | inl l ↦ before i a l
+      | inr g ↦ none_by_byte content needle hi i last b (subst (λ t. slice_get t last ≡ Some b) same is) lacks (omega (arith, z)) (omega (arith, g, long))
+    ]
+
+-- no needle stands where the only one doesn't
+pub none_at_all : (needles : List (List ℕ)) (content needle : List ℕ) (hi i : ℕ) → length needles ≡ 1 → needle ≡ numbered needles 0 →
+    stands_within content hi i needle ≡ false → needle_at needles content hi i ≡ None
+none_at_all needles content needle hi i one own never =
+    none_from needles content hi i 0
+    (λ k l. let zero : 0 ≡ k = omega (arith, one, l) in
+    subst (λ n. stands_within content hi i (numbered needles n) ≡ false) zero (subst (λ w. stands_within content hi i w ≡ false) own never))
 
 -- how far a search came: the bytes before `at` end with `state` bytes of the needle, and it stands
 -- at no start before those
