@@ -1,5 +1,5 @@
 -- Places from which no walk leads on, and threads that go on alone.
-use Rattle.std.proofs.Common.{◌≡◌, ℕ, ◌+◌, ◌<◌, ◌≤◌, ◌-◌, ◌*◌, List, [], ◌∷◌, ◌++◌, length, map, min, inl, inr, ⊎_elim, sym, subst, ap, ◌∙◌, refl, arith, Bool, true, false, not, true≢false, IsTrue, Option, Some, None, slice_get, nat_le, is_none, is_some, replicate}
+use Rattle.std.proofs.Common.{◌≡◌, ℕ, ◌+◌, ◌<◌, ◌≤◌, ◌-◌, ◌*◌, List, [], ◌∷◌, length, map, inl, inr, ⊎_elim, sym, subst, ap, ◌∙◌, refl, arith, Bool, true, false, not, true≢false, IsTrue, Option, Some, None, slice_get, is_none, is_some, replicate}
 use Rattle.std.proofs.lemmas.Bool.{cases_lt}
 use Rattle.std.proofs.lemmas.List.{length-map}
 use Rattle.std.proofs.lemmas.Option.{none-some, same_Some}
@@ -22,7 +22,7 @@ use Rattle.rc_pikevm.specs.Entrances.{IsOnWay}
 use Rattle.rc_pikevm.proofs.LineLemmas.{no_line, one_in_line}
 use Rattle.rc_pikevm.proofs.EntranceLemmas.{choice_on, stops_shut, carries_on}
 use Rattle.rc_pikevm.specs.Trace.{Trace, note, note_at, trace, done, sets_out}
-use Rattle.rc_pikevm.specs.Passing.{IsMoveInside, pending, pairs, Carries, CarriesTo, waiting_starts, AllIn, AllFrom, count_from, Pending, best_of, IsCounted, IsLined, IsPassing}
+use Rattle.rc_pikevm.specs.Passing.{IsMoveInside, pairs, Carries, CarriesTo, waiting_starts, AllFrom, Pending, best_of, IsCounted, IsLined}
 use Rattle.rc_pikevm.specs.Near.{seen_from, size}
 use Rattle.rc_text.specs.Text.{Searched}
 use Rattle.rc_program.specs.Places.{place_of}
@@ -30,13 +30,13 @@ use Rattle.rc_pikevm.specs.declared.spot.Spot.{Spot}
 use Rattle.rc_pikevm.specs.declared.pass.Ending.{Ending}
 use Rattle.rc_pikevm.specs.declared.threads.BareThread.{BareThread}
 use Rattle.rc_pikevm.specs.declared.moves.Move.{Move}
-use Rattle.rc_pikevm.proofs.GrownLemmas.{move_inside, one_at_most}
+use Rattle.rc_pikevm.proofs.GrownLemmas.{move_inside}
 use Rattle.rc_pikevm.specs.Roots.{StandsFor}
 use Rattle.rc_pikevm.specs.Alone.{EndsAlone, EndsBy, IsChosen, IsDead, LeadsTo, ReadsOne}
 use Rattle.rc_pikevm.specs.declared.moves.Move.TheVariants.{Fork, Save, Stays, Reads, DeadEnd}
 use Rattle.rc_pikevm.proofs.MoveLemmas.{slot_on, plain_on, matched, waited, turned}
 use Rattle.rc_pikevm.proofs.PassingLemmas.{no_threads}
-use Rattle.rc_pikevm.specs.Races.{EndsThere, Races, starts_to, IsRunFrom}
+use Rattle.rc_pikevm.specs.Races.{EndsThere}
 use Rattle.rc_pikevm.proofs.RaceMoveLemmas.{raced_on}
 use Rattle.rc_pikevm.proofs.RaceAloneLemmas.{stays_there, first_there, second_there, raced_goes}
 use Rattle.rc_pikevm.proofs.RootLemmas.{carries_root}
@@ -282,31 +282,6 @@ module _ (s : Sight) (n hi width at insertions insertions2 : ℕ) (curr next : T
       let one_times : 1 * (r.at - at) ≡ r.at - at = omega arith in
       omega (arith, e, m, one_times, count, few)
 
-module _ (s : Sight) (n hi width from last at insertions : ℕ) (curr : ThreadList) (best : Option Ending) (found : List (Option ℕ)) where
-  -- A pass whose only thread has gone on to x.
-  pub passing_runs : (t : Thread) (r : BareThread) (insertions2 : ℕ) (next : ThreadList) (is_open : Bool) →
-      IsPassing s n hi width from last at insertions curr best found → curr.items ≡ t ∷ [] →
-      next ≡ record curr { items = thread_of r t.slots ∷ [] } → t.at ≡ at → r.start ≡ t.start → r.place < n → at ≤ r.at → r.at ≤ hi →
-      insertions2 ≡ insertions + (r.at - at) → is_open ≡ is_none best →
-      ((slots : List (Option ℕ)) (width : ℕ) (best o : Option Trace)
-      → Carries s r.at [] [] ((trace r.start slots, (r.place, r.at)) ∷ waiting_starts is_open width r.at last) best o
-      → Carries s t.at [] [] ((trace t.start slots, (t.place, t.at)) ∷ waiting_starts is_open width t.at last) best o) →
-      IsPassing s n hi width from last r.at insertions2 next best found
-  passing_runs t r insertions2 next is_open p one moved here start place later within count open_is run = record {
-    law = λ o x. p.law o
-        (subst (λ ts. Pending s width last at ts best found o) (sym one)
-        (subst (λ y. Carries s y [] [] ((trace t.start t.slots, (t.place, t.at)) ∷ waiting_starts (is_none best) width y last) (best_of best found) o) here
-        (subst (λ b. Carries s t.at [] [] ((trace t.start t.slots, (t.place, t.at)) ∷ waiting_starts b width t.at last) (best_of best found) o) open_is
-        (run t.slots width (best_of best found) o
-        (subst (λ b. Carries s r.at [] [] ((trace r.start t.slots, (r.place, r.at)) ∷ waiting_starts b width r.at last) (best_of best found) o) (sym open_is)
-        (subst (λ (l : ThreadList). Pending s width last r.at l.items best found o) moved x))))));
-    lined = lined_moved s n hi width at insertions insertions2 curr next t r one moved later count p.lined start place within;
-    ended = counted_more insertions insertions2 best (omega (arith, count)) p.ended;
-    few = few_moved s n hi width at insertions insertions2 curr next t r one moved later count from p.few p.reached place;
-    reached = omega (arith, later, p.reached);
-    within = omega (arith, within);
-  }
-
 module _ (s : Sight) (n hi width last at insertions : ℕ) (curr : ThreadList) (lined : IsLined s n hi width at insertions curr) where
   -- The walk of the only thread ends.
   pub ends_alone : (pattern : ℕ) (best : Option Ending) (found : List (Option ℕ)) (o : Option Trace) (slots : List (Option ℕ)) (t : Thread) (next : List Thread) →
@@ -361,23 +336,3 @@ module _ (s : Sight) (n hi width last at insertions : ℕ) (curr : ThreadList) (
       rw e (subst (λ x. IsLined s n hi width x (insertions + 1) (record curr { items = thread_of r slots ∷ [] })) here
       (one_in_line s n hi width (insertions + 1) (record curr { items = thread_of r slots ∷ [] }) lined.width_is lined.room r slots refl place high
       (omega (arith, here, start))))
-
-module _ (s : Sight) (n hi width from last at insertions : ℕ) (curr : ThreadList) (best : Option Ending) (found : List (Option ℕ)) where
-  -- A pass for the longest walk whose only thread has gone on to x.
-  pub runs_alone : (t : Thread) (r : BareThread) (insertions2 : ℕ) (next : ThreadList) → IsRunFrom s n hi width from last at insertions curr best found →
-      curr.items ≡ t ∷ [] → next ≡ record curr { items = thread_of r t.slots ∷ [] } → t.at ≡ at → r.start ≡ t.start → r.place < n → at ≤ r.at →
-      r.at ≤ hi → insertions2 ≡ insertions + (r.at - at) →
-      ((all : List (Trace × Pair)) → Races s all t.at [] [] ((trace t.start t.slots, (t.place, t.at)) ∷ starts_to width t.at last) best found →
-      Races s all r.at [] [] ((trace r.start t.slots, (r.place, r.at)) ∷ starts_to width r.at last) best found) →
-      IsRunFrom s n hi width from last r.at insertions2 next best found
-  runs_alone t r insertions2 next p one moved here start place later within count run = record {
-    law = subst (λ (l : ThreadList). Races s (starts_to width from last) r.at [] [] (map pending l.items ++ starts_to width r.at last) best found) (sym moved)
-        (run (starts_to width from last)
-        (subst (λ y. Races s (starts_to width from last) y [] [] ((trace t.start t.slots, (t.place, t.at)) ∷ starts_to width y last) best found) (sym here)
-        (subst (λ ts. Races s (starts_to width from last) at [] [] (map pending ts ++ starts_to width at last) best found) one p.law)));
-    lined = lined_moved s n hi width at insertions insertions2 curr next t r one moved later count p.lined start place within;
-    ended = counted_more insertions insertions2 best (omega (arith, count)) p.ended;
-    few = few_moved s n hi width at insertions insertions2 curr next t r one moved later count from p.few p.reached place;
-    reached = omega (arith, later, p.reached);
-    within = omega (arith, within);
-  }

@@ -1,5 +1,5 @@
 -- What a pass tells that ends at the first position at which a walk ends.
-use Rattle.std.proofs.Common.{◌≡◌, ◌∙◌, ap, ℕ, ◌+◌, ◌*◌, ◌<◌, ◌≤◌, List, [], ◌∷◌, ◌++◌, length, map, min, Option, Some, None, IsTrue, is_some, true, true≢false, false, ⊎_elim, refl, sym, arith}
+use Rattle.std.proofs.Common.{◌≡◌, ◌∙◌, ap, ℕ, ◌+◌, ◌*◌, ◌<◌, ◌≤◌, List, [], ◌∷◌, ◌++◌, length, map, Option, Some, None, IsTrue, is_some, true, true≢false, false, ⊎_elim, refl, sym, arith}
 use Rattle.std.proofs.lemmas.Option.{none-some}
 use Rattle.rc_walks.specs.Walks.{Pair}
 use Rattle.rc_walks.specs.Tries.{walk_by}
@@ -14,9 +14,9 @@ use Rattle.rc_program.specs.Greatest.{IsSpelledIn, greatest}
 use Rattle.rc_program.proofs.GreatestLemmas.{greatest_none, spelled_within, answer_spelled, no_answer_no_span}
 use Rattle.rc_program.proofs.AnswerLemmas.{last_start_of, start_within_last, start_to_last, match_place_is, walk_ends, answer_law}
 use Rattle.rc_program.proofs.WayLemmas.{same_pair}
-use Rattle.rc_pikevm.specs.Threads.{Thread, ThreadList}
+use Rattle.rc_pikevm.specs.Threads.{Thread}
 use Rattle.rc_pikevm.specs.Trace.{Trace, note, done}
-use Rattle.rc_pikevm.specs.Passing.{pending, AllIn, GivesTrace, Tells, IsPassing, best_of}
+use Rattle.rc_pikevm.specs.Passing.{pending, AllIn, GivesTrace, Pending, Tells, best_of}
 use Rattle.rc_pikevm.specs.declared.pass.Ending.{Ending}
 use Rattle.rc_pikevm.proofs.SightLemmas.{last_pair, is_bounded}
 
@@ -47,21 +47,16 @@ module _ (s : Sight) where
       goes_by (pending t) (map pending ts ++ []) d (tried (t.place, t.at)) (tried_finds (t.place, t.at) (omega (arith, all.0, high)))
       (threads_give n lo top ts d high all.1)
 
-  module _ (n hi width from last : ℕ) where
+  module _ (width from last : ℕ) where
     tells_some : (r : Ending) (t : Trace) → GivesTrace s width from last (Some t) → Tells s from last (Some r)
     tells_some r t g = ⊎_elim (λ e. absurd (none-some t (sym e.0))) (λ m. (m.0, m.1, m.2, m.3, m.4)) g
 
     -- some start has a walk, where one has ended
-    pub early_tells : (at insertions : ℕ) (curr : ThreadList) (r : Ending) (slots : List (Option ℕ)) → hi ≡ s.hi →
-        IsPassing s n hi width from last at insertions curr (Some r) slots → Tells s from last (Some r)
-    early_tells at insertions curr r slots high p =
-        let got = threads_give n at (min hi (at + 3)) curr.items (done r.pattern r.start r.end slots) (omega (arith, high)) p.lined.inside in
-        tells_some r got.0 (p.law (Some got.0) (over got.1))
-
-    pub early_tells_if : (at insertions : ℕ) (curr : ThreadList) (best : Option Ending) (slots : List (Option ℕ)) → hi ≡ s.hi →
-        is_some best ≡ true → IsPassing s n hi width from last at insertions curr best slots → Tells s from last best
-    early_tells_if at insertions curr None slots high some p = absurd (true≢false (sym some))
-    early_tells_if at insertions curr (Some r) slots high some p = early_tells at insertions curr r slots high p
+    pub early_tells : (n lo top at : ℕ) (curr : List Thread) (best : Option Ending) (slots : List (Option ℕ)) → is_some best ≡ true → top ≤ s.hi →
+        AllIn n lo top curr → ((o : Option Trace) → Pending s width last at curr best slots o → GivesTrace s width from last o) → Tells s from last best
+    early_tells n lo top at curr None slots some high all law = absurd (true≢false (sym some))
+    early_tells n lo top at curr (Some r) slots some high all law =
+        let got = threads_give n lo top curr (done r.pattern r.start r.end slots) high all in tells_some r got.0 (law (Some got.0) (over got.1))
 
     -- what a whole pass gives tells it too
     pub whole_tells : (best : Option Ending) (slots : List (Option ℕ)) → GivesTrace s width from last (best_of best slots) → Tells s from last best

@@ -67,9 +67,6 @@ pub count_push : (q : ℕ) (ts : List Thread) (t : Thread) → count_from q (ts 
 count_push q [] t = omega arith
 count_push q (u ∷ ts) t = let e = count_push q ts t in omega (arith, e)
 
-pub count_one_more : (q : ℕ) (ts : List Thread) (t : Thread) → count_from q (ts ++ t ∷ []) ≤ count_from q ts + 1
-count_one_more q ts t = let e = count_push q ts t in let o = one_at_most (nat_le q t.at) in omega (arith, e, o)
-
 -- fewer wait for a later position
 pub count_later : (q r : ℕ) (ts : List Thread) → q ≤ r → count_from r ts ≤ count_from q ts
 count_later q r [] h = omega arith

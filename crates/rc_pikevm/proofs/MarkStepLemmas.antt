@@ -1,6 +1,6 @@
 -- The threads of one position, and all positions, of a pass that marks patterns.
 use Rattle.std.proofs.Common.{◌≡◌, ◌↔◌, ℕ, zero, suc, ◌+◌, ◌-◌, ◌*◌, ◌<◌, ◌≤◌, ◌⊎◌, Bool, true, List, [], ◌∷◌, ◌++◌, length, map, drop, min, inl, inr, ⊎_elim, sym, subst, ap, ◌∙◌, refl, arith, Some, slice_get, IsTrue}
-use Rattle.std.proofs.Math.Nat.{mul-le-mul_left, mul-le-mul_right}
+use Rattle.std.proofs.Math.Nat.{mul-le-mul_left}
 use Rattle.std.proofs.lemmas.Bool.{cases_lt}
 use Rattle.std.proofs.lemmas.Option.{slice_get_within}
 use Rattle.rc_text.specs.Found.{Found}
@@ -71,23 +71,23 @@ starts_skipped s p (suc count) at last none =
     (starts_skipped s p count (at + 1) last (λ y l u. none y (omega (arith, l)) (omega (arith, u)))))))
     (cases_lt last at)
 
-module _ (s : Sight) (n hi at : ℕ) (all : List Thread) (threads0 : ThreadList) (set0 : List Bool) where
-  pub marking_begins : (entered : Members) → threads0.items ≡ [] → entered.items ≡ [] → entered.capacity ≡ n → still s at (at + 1) [] < threads0.room →
+module _ {s : Sight} {n hi at : ℕ} {all : List Thread} {threads0 : ThreadList} {set0 : List Bool} where
+  pub marking_begins : {entered : Members} → threads0.items ≡ [] → entered.items ≡ [] → entered.capacity ≡ n → still s at (at + 1) [] < threads0.room →
       IsMarkingOn s n hi at all all threads0 set0 threads0 entered set0
-  marking_begins entered no_threads no_places capacity room = record {
+  marking_begins no_threads no_places capacity room = record {
     same = λ below p low. rw (no_threads, no_places) (λ h. h, λ h. h);
     long = refl;
     more = λ p h. h;
     gone = gone_begins no_threads no_places capacity room;
   }
 
-  module _ (threads : ThreadList) (entered : Members) (set : List Bool) (index : ℕ) (t : Thread) (item : slice_get all index ≡ Some t)
+  module _ {threads : ThreadList} {entered : Members} {set : List Bool} (index : ℕ) {t : Thread} (item : slice_get all index ≡ Some t)
       (inside : AllIn n at (min hi (at + 3)) all) (so_far : IsMarkingOn s n hi at all (drop index all) threads0 set0 threads entered set) where
     -- a thread that goes on later waits
-    pub marking_waits : (threads2 : ThreadList) → at < t.at → count_from (at + 1) all + still s at (at + 1) [] < threads0.room →
+    pub marking_waits : {threads2 : ThreadList} → at < t.at → count_from (at + 1) all + still s at (at + 1) [] < threads0.room →
         threads2 ≡ record threads { items = threads.items ++ t ∷ [] } →
         IsMarkingOn s n hi at all (drop (index + 1) all) threads0 set0 threads2 entered set
-    marking_waits threads2 later room e = rw e (record {
+    marking_waits later room e = rw e (record {
       same = λ below p low.
           same_then (so_far.same below p low)
           (subst (λ ts. Owed s at threads.items entered.items (map going ts ++ below) set p
@@ -99,12 +99,12 @@ module _ (s : Sight) (n hi at : ℕ) (all : List Thread) (threads0 : ThreadList)
     })
 
     -- a thread goes on here
-    pub marking_closes : (threads2 : ThreadList) (entered2 : Members) (set2 : List Bool) → t.at ≤ at →
+    pub marking_closes : {threads2 : ThreadList} {entered2 : Members} {set2 : List Bool} → t.at ≤ at →
         ((below : List Pair) → AreSame (length set) (Owed s at threads.items entered.items ((t.place, at) ∷ below) set)
         (Owed s at threads2.items entered2.items below set2)) →
         length set2 ≡ length set → KeepsMarks set set2 → IsGrown s n hi t.start at threads entered threads2 entered2 →
         IsMarkingOn s n hi at all (drop (index + 1) all) threads0 set0 threads2 entered2 set2
-    marking_closes threads2 entered2 set2 now closing long more grown = record {
+    marking_closes {threads2 = threads2} {entered2 = entered2} {set2 = set2} now closing long more grown = record {
       same = λ below p low.
           same_then (so_far.same below p low)
           (subst (λ ts. Owed s at threads.items entered.items (map going ts ++ below) set p
@@ -126,10 +126,10 @@ no_threads : (ts : List Thread) → length ts ≡ 0 → ts ≡ []
 no_threads [] e = refl
 no_threads (t ∷ ts) e = absurd (omega (arith, e))
 
-module _ (s : Sight) (n hi from last first end : ℕ) (set0 : List Bool) where
-  pub marking_from : (curr : ThreadList) → curr.items ≡ [] → curr.width ≡ 0 → reader_count s.places < curr.room → from ≤ last → last ≤ hi →
+module _ {s : Sight} {n hi from last : ℕ} {set0 : List Bool} where
+  pub marking_from : {curr : ThreadList} → curr.items ≡ [] → curr.width ≡ 0 → reader_count s.places < curr.room → from ≤ last → last ≤ hi →
       IsMarkingFrom s n hi from last from 0 curr set0 set0
-  marking_from curr no_items wide room low high = record {
+  marking_from {curr = curr} no_items wide room low high = record {
     same = λ p l. rw no_items (λ h. h, λ h. h);
     long = refl;
     more = λ p h. h;
@@ -139,14 +139,14 @@ module _ (s : Sight) (n hi from last first end : ℕ) (set0 : List Bool) where
     within = omega (arith, low, high);
   }
 
-  pub marking_turns : (at insertions insertions2 : ℕ) (curr next : ThreadList) (set set2 : List Bool) →
+  pub marking_turns : {at insertions insertions2 : ℕ} {curr next : ThreadList} {set set2 : List Bool} →
       IsMarkingFrom s n hi from last at insertions curr set0 set → at ≤ hi →
       AreSame (length set) (Owed s at [] [] (map going curr.items ++ entering at last) set)
       (Owed s (at + 1) [] [] (map going next.items ++ entering (at + 1) last) set2) →
       length set2 ≡ length set → KeepsMarks set set2 →
       IsLined s n hi 0 (at + 1) insertions2 next → insertions2 ≤ insertions + n →
       IsMarkingFrom s n hi from last (at + 1) insertions2 next set0 set2
-  marking_turns at insertions insertions2 curr next set set2 p within turn long more lined few = record {
+  marking_turns {at = at} {set = set} p within turn long more lined few = record {
     same = λ q low. same_then (p.same q low) (turn q (low_in q set0 set p.long low));
     long = long ∙ p.long;
     more = λ q h. more q (p.more q h);
@@ -160,10 +160,10 @@ module _ (s : Sight) (n hi from last first end : ℕ) (set0 : List Bool) where
   }
 
   -- a pass under way stays where it is, and an idle one goes on at the next start
-  pub marking_skips : (at x start insertions : ℕ) (curr : ThreadList) (set : List Bool) → IsMarkingFrom s n hi from last at insertions curr set0 set →
+  pub marking_skips : {at x : ℕ} (start : ℕ) {insertions : ℕ} {curr : ThreadList} {set : List Bool} → IsMarkingFrom s n hi from last at insertions curr set0 set →
       at ≤ x → x ≤ hi + 1 → HasNoneBefore s at start → (x ≡ at) ⊎ ((length curr.items ≡ 0) × (x ≡ start)) →
       IsMarkingFrom s n hi from last x insertions curr set0 set
-  marking_skips at x start insertions curr set m low most none idle =
+  marking_skips {at = at} {x = x} start {insertions = insertions} {curr = curr} {set = set} m low most none idle =
       ⊎_elim (λ e. subst (λ z. IsMarkingFrom s n hi from last z insertions curr set0 set) (sym e) m)
       (λ i. let no_items = no_threads curr.items i.0 in
       record {
@@ -186,18 +186,18 @@ module _ (s : Sight) (n hi from last first end : ℕ) (set0 : List Bool) where
           (starts_skipped s p (x - at) at last (λ y l u. none y l (omega (arith, u, low, is))))))
 
   -- what is marked is led to
-  led_by : (at insertions : ℕ) (curr : ThreadList) (set : List Bool) → IsMarkingFrom s n hi from last at insertions curr set0 set →
+  led_by : {at insertions : ℕ} {curr : ThreadList} {set : List Bool} → IsMarkingFrom s n hi from last at insertions curr set0 set →
       (p : ℕ) → p < length set0 → Has set p → SomeLeads s [] (entering from last) p ⊎ Has set0 p
-  led_by at insertions curr set m p low h =
+  led_by m p low h =
       ⊎_elim (λ never. absurd never) (λ q. q) ((m.same p low).1 (inr (inr h)))
 
   -- nothing is left to go on
-  pub marking_done : (at insertions : ℕ) (curr : ThreadList) (set : List Bool) → IsMarkingFrom s n hi from last at insertions curr set0 set →
+  pub marking_done : {at insertions first end : ℕ} {curr : ThreadList} {set : List Bool} → IsMarkingFrom s n hi from last at insertions curr set0 set →
       length curr.items ≡ 0 → last < at → MarksFrom s from last first end set0 set
-  marking_done at insertions curr set m none over = record {
+  marking_done {at = at} {curr = curr} m none over = record {
     long = m.long;
     more = m.more;
-    led = led_by at insertions curr set m;
+    led = led_by m;
     all = λ p low h.
         inl (⊎_elim (λ never. absurd never) (λ q. ⊎_elim (λ x. absurd (subst (λ ns. SomeLeads s [] ns p) nothing x)) (λ x. x) q)
         ((m.same p low).0 (inr (inl h))));
@@ -207,18 +207,18 @@ module _ (s : Sight) (n hi from last first end : ℕ) (set0 : List Bool) where
       nothing = rw (no_threads curr.items none) (entering_over at last over)
 
   -- all positions are done
-  pub marking_ends : (at insertions : ℕ) (curr : ThreadList) (set : List Bool) → IsMarkingFrom s n hi from last at insertions curr set0 set →
+  pub marking_ends : {at insertions first end : ℕ} {curr : ThreadList} {set : List Bool} → IsMarkingFrom s n hi from last at insertions curr set0 set →
       hi < at → last ≤ hi → MarksFrom s from last first end set0 set
-  marking_ends at insertions curr set m past high =
-      marking_done at insertions curr set m (none_in n at (min hi (at + 3)) curr.items m.lined.inside (omega (arith, past))) (omega (arith, past, high))
+  marking_ends {at = at} {curr = curr} m past high =
+      marking_done m (none_in n at (min hi (at + 3)) curr.items m.lined.inside (omega (arith, past))) (omega (arith, past, high))
 
   -- all that are wanted are marked
-  pub marking_full : (at insertions absent : ℕ) (curr : ThreadList) (set : List Bool) → IsMarkingFrom s n hi from last at insertions curr set0 set →
+  pub marking_full : {at insertions first end : ℕ} (absent : ℕ) {curr : ThreadList} {set : List Bool} → IsMarkingFrom s n hi from last at insertions curr set0 set →
       HasAll first absent set → end ≤ absent → MarksFrom s from last first end set0 set
-  marking_full at insertions absent curr set m full over = record {
+  marking_full absent m full over = record {
     long = m.long;
     more = m.more;
-    led = led_by at insertions curr set m;
+    led = led_by m;
     all = λ p low h. inr (λ q l u. full q l (omega (arith, u, over)));
   }
 

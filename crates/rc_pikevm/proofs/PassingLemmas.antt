@@ -1,16 +1,14 @@
 -- The pass over all positions.
-use Rattle.std.proofs.Common.{◌≡◌, ℕ, suc, ◌+◌, ◌-◌, ◌*◌, ◌^◌, ◌<◌, ◌≤◌, ◌⊎◌, List, [], ◌∷◌, ◌++◌, length, map, min, ⊎_elim, sym, subst, ap, refl, arith, Bool, true, false, true≢false, IsTrue, Option, Some, None, is_none}
-use Rattle.std.proofs.Math.Nat.{mul-le-mul_left, mul-le-mul_right}
+use Rattle.std.proofs.Common.{◌≡◌, ℕ, suc, ◌+◌, ◌-◌, ◌*◌, ◌^◌, ◌<◌, ◌≤◌, ◌⊎◌, List, [], ◌∷◌, ◌++◌, length, map, sym, subst, refl, arith, Bool, true, false, true≢false, IsTrue, Option, Some, None, is_none}
+use Rattle.std.proofs.Math.Nat.{mul-le-mul_left}
 use Rattle.rc_walks.specs.Threads.{IsFirstOf, over}
 use Rattle.rc_pikevm.specs.Sights.{Sight, next_of, next_to, HasNoWalkFrom}
 use Rattle.rc_pikevm.specs.Threads.{Thread, ThreadList}
 use Rattle.rc_pikevm.specs.Trace.{Trace, note, starts}
-use Rattle.rc_pikevm.specs.Passing.{pending, Carries, CarriesTo, AllIn, IsLined, IsPassing, IsCounted, waiting_starts, Pending, PendingTo, GivesTrace, GivesTraceTo, best_of}
+use Rattle.rc_pikevm.specs.Passing.{pending, Carries, CarriesTo, AllIn, waiting_starts, Pending, PendingTo, GivesTraceTo, best_of}
 use Rattle.rc_pikevm.specs.declared.pass.Ending.{Ending}
-use Rattle.rc_pikevm.specs.Readers.{reader_count}
-use Rattle.rc_pikevm.proofs.LineLemmas.{no_line}
 use Rattle.rc_pikevm.proofs.MoveLemmas.{Ends, EndsTo}
-use Rattle.rc_pikevm.proofs.StartLemmas.{starts_give, waiting_over, starts_skipped}
+use Rattle.rc_pikevm.proofs.StartLemmas.{starts_give, starts_skipped}
 
 pub none_in : (n lo hi : ℕ) (ts : List Thread) → AllIn n lo hi ts → hi < lo → ts ≡ []
 none_in n lo hi [] all h = refl
@@ -27,7 +25,7 @@ none_before x y l h = omega arith
 abbrev pub GoesOn : Sight → ℕ → Bool → ℕ → ℕ → Type 0
 GoesOn s hi idle at x = (at ≤ x) × (x ≤ hi) × ((x ≡ at) ⊎ (IsTrue idle × ((y : ℕ) → at ≤ y → y < x → HasNoWalkFrom s y)))
 
-module _ (s : Sight) (n hi width from last : ℕ) where
+module _ (s : Sight) (width from last : ℕ) where
   -- all starts give what the pass is to give
   pub begins_to : (limit : Option ℕ) (curr : List Thread) (found : List (Option ℕ)) → curr ≡ [] → from ≤ last → (o : Option Trace) →
       PendingTo limit s width last from curr None found o → GivesTraceTo limit s width from last o
@@ -39,34 +37,6 @@ module _ (s : Sight) (n hi width from last : ℕ) where
           IsFirstOf (next_to limit s) (EndsTo limit s) Trace (note s.places) [] (λ q. q ≡ None) (starts width from (last + 1 - from)) o
       all_starts o (over x) = x
 
-  pub passing_begins : (curr : ThreadList) (found : List (Option ℕ)) → curr.items ≡ [] → curr.width ≡ width → reader_count s.places < curr.room →
-      from ≤ last → last ≤ hi → IsPassing s n hi width from last from 0 curr None found
-  passing_begins curr found no_items wide room low high = record {
-    law = λ o x. begins_to None curr.items found no_items low o x;
-    lined = no_line s n hi width 0 curr wide room from no_items;
-    ended = tt;
-    few = omega arith;
-    reached = omega arith;
-    within = omega arith;
-  }
-
-  pub passing_turns : (at insertions insertions2 : ℕ) (curr next : ThreadList) (best best2 : Option Ending) (found found2 : List (Option ℕ)) →
-      IsPassing s n hi width from last at insertions curr best found → at ≤ hi →
-      ((o : Option Trace) → Pending s width last (at + 1) next.items best2 found2 o → Pending s width last at curr.items best found o) →
-      IsLined s n hi width (at + 1) insertions2 next → IsCounted insertions2 best2 → insertions2 ≤ insertions + n →
-      IsPassing s n hi width from last (at + 1) insertions2 next best2 found2
-  passing_turns at insertions insertions2 curr next best best2 found found2 p within turn lined ended few = record {
-    law = λ o x. p.law o (turn o x);
-    lined = lined;
-    ended = ended;
-    few =
-        let e : at + 1 - from ≡ suc (at - from) = omega (arith, p.reached) in
-        let m : n * suc (at - from) ≡ n * (at - from) + n = omega arith in
-        rw e (omega (arith, m, few, p.few));
-    reached = omega (arith, p.reached);
-    within = omega (arith, within);
-  }
-
   -- nothing is left to go on
   pub done_to : (limit : Option ℕ) (at : ℕ) (curr : List Thread) (best : Option Ending) (found : List (Option ℕ)) →
       ((o : Option Trace) → PendingTo limit s width last at curr best found o → GivesTraceTo limit s width from last o) →
@@ -77,28 +47,8 @@ module _ (s : Sight) (n hi width from last : ℕ) where
       (sym (no_threads curr none))
       (subst (λ ws. CarriesTo limit s at [] [] ws (best_of best found) (best_of best found)) (sym no_starts) (over (over refl))))
 
-  passing_done : (at insertions : ℕ) (curr : ThreadList) (best : Option Ending) (found : List (Option ℕ)) →
-      IsPassing s n hi width from last at insertions curr best found → length curr.items ≡ 0 → waiting_starts (is_none best) width at last ≡ [] →
-      GivesTrace s width from last (best_of best found)
-  passing_done at insertions curr best found p none no_starts = done_to None at curr.items best found p.law none no_starts
-
-  -- no thread is left, and no start
-  pub passing_stops : (at insertions : ℕ) (curr : ThreadList) (best : Option Ending) (found : List (Option ℕ)) →
-      IsPassing s n hi width from last (at + 1) insertions curr best found → length curr.items ≡ 0 → (is_none best ≡ false) ⊎ (last ≤ at) →
-      GivesTrace s width from last (best_of best found)
-  passing_stops at insertions curr best found p none ended =
-      passing_done (at + 1) insertions curr best found p none
-      (⊎_elim (λ e. ap (λ b. waiting_starts b width (at + 1) last) e) (λ l. waiting_over (is_none best) width (at + 1) last (omega arith)) ended)
-
-  -- no thread is left, and a walk has ended
-  pub passing_over : (at insertions : ℕ) (curr : ThreadList) (best : Option Ending) (found : List (Option ℕ)) →
-      IsPassing s n hi width from last at insertions curr best found → length curr.items ≡ 0 → is_none best ≡ false →
-      GivesTrace s width from last (best_of best found)
-  passing_over at insertions curr best found p none ended =
-      passing_done at insertions curr best found p none (ap (λ b. waiting_starts b width at last) ended)
-
   -- what an idle pass carries at a later start, it carries at an earlier one, where no start between them has a walk
-  skips_carries : (at x : ℕ) (curr : ThreadList) (best : Option Ending) (found : List (Option ℕ)) (o : Option Trace) → length curr.items ≡ 0 →
+  pub skips_carries : (at x : ℕ) (curr : ThreadList) (best : Option Ending) (found : List (Option ℕ)) (o : Option Trace) → length curr.items ≡ 0 →
       is_none best ≡ true → at ≤ x → ((y : ℕ) → at ≤ y → y < x → HasNoWalkFrom s y) → Pending s width last x curr.items best found o →
       Pending s width last at curr.items best found o
   skips_carries at x curr (Some r) found o none unmatched low no_walk p = absurd (true≢false (sym unmatched))
@@ -112,47 +62,6 @@ module _ (s : Sight) (n hi width from last : ℕ) where
       waits_alone : (z : ℕ) (o : Option Trace) → Carries s z [] [] (waiting_starts true width z last) None o →
           IsFirstOf (next_of s) (Ends s) Trace (note s.places) [] (λ q. q ≡ None) (waiting_starts true width z last) o
       waits_alone z o (over y) = y
-
-  -- an idle pass goes on at a later position, where no start between has a walk
-  pub passing_skips : (at x insertions : ℕ) (curr : ThreadList) (best : Option Ending) (found : List (Option ℕ)) →
-      IsPassing s n hi width from last at insertions curr best found → length curr.items ≡ 0 → is_none best ≡ true → at ≤ x → x ≤ hi →
-      ((y : ℕ) → at ≤ y → y < x → HasNoWalkFrom s y) → IsPassing s n hi width from last x insertions curr best found
-  passing_skips at x insertions curr best found p none unmatched low high no_walk =
-      let no_items = no_threads curr.items none in
-      record {
-        law = λ o y. p.law o (skips_carries at x curr best found o none unmatched low no_walk y);
-        lined = no_line s n hi width insertions curr p.lined.width_is p.lined.room x no_items;
-        ended = p.ended;
-        few = let m : n * (at - from) ≤ n * (x - from) = mul-le-mul_left n (omega (arith, low)) in omega (arith, m, p.few);
-        reached = omega (arith, low, p.reached);
-        within = omega (arith, high);
-      }
-
-  pub passing_goes_on : (at x insertions : ℕ) (idle : Bool) (curr : ThreadList) (best : Option Ending) (found : List (Option ℕ)) →
-      IsPassing s n hi width from last at insertions curr best found → (IsTrue idle → (length curr.items ≡ 0) × (is_none best ≡ true)) →
-      GoesOn s hi idle at x → IsPassing s n hi width from last x insertions curr best found
-  passing_goes_on at x insertions idle curr best found p alone on =
-      ⊎_elim (λ e. subst (λ z. IsPassing s n hi width from last z insertions curr best found) (sym e) p)
-      (λ skips. passing_skips at x insertions curr best found p (alone skips.0).0 (alone skips.0).1 on.0 on.1 skips.1) on.2
-
-  -- the pass is idle, and no start is left that has a walk
-  pub passing_gives_up : (at insertions : ℕ) (curr : ThreadList) (best : Option Ending) (found : List (Option ℕ)) →
-      IsPassing s n hi width from last at insertions curr best found → length curr.items ≡ 0 → is_none best ≡ true → at ≤ hi → last ≤ hi →
-      ((y : ℕ) → at ≤ y → y ≤ hi → HasNoWalkFrom s y) → GivesTrace s width from last None
-  passing_gives_up at insertions curr (Some r) found p none unmatched within high no_walk = absurd (true≢false (sym unmatched))
-  passing_gives_up at insertions curr None found p none unmatched within high no_walk =
-      p.law None
-      (skips_carries at (hi + 1) curr None found None none unmatched (omega (arith, within)) (λ y a b. no_walk y a (omega (arith, b)))
-      (subst (λ ts. Carries s (hi + 1) [] [] (map pending ts ++ waiting_starts true width (hi + 1) last) None None)
-      (sym (no_threads curr.items none))
-      (subst (λ ws. Carries s (hi + 1) [] [] ws None None) (sym (waiting_over true width (hi + 1) last (omega (arith, high)))) (over (over refl)))))
-
-  -- all positions are done
-  pub passing_ends : (at insertions : ℕ) (curr : ThreadList) (best : Option Ending) (found : List (Option ℕ)) →
-      IsPassing s n hi width from last at insertions curr best found → hi < at → last ≤ hi → GivesTrace s width from last (best_of best found)
-  passing_ends at insertions curr best found p past high =
-      passing_done at insertions curr best found p (ap length (none_in n at (min hi (at + 3)) curr.items p.lined.inside (omega arith)))
-      (waiting_over (is_none best) width at last (omega arith))
 
 -- at most n at each of the positions
 pub counted_in_all : (n at from hi insertions : ℕ) → insertions ≤ n * (at - from) → at ≤ hi + 1 → from ≤ hi → insertions ≤ n * (hi - from + 1)

@@ -1,6 +1,5 @@
 -- The pass for the longest walk of the least start over all positions.
-use Rattle.std.proofs.Common.{◌≡◌, ℕ, zero, suc, ◌+◌, ◌-◌, ◌*◌, ◌<◌, ◌≤◌, ◌⊎◌, List, [], ◌∷◌, ◌++◌, length, map, min, inl, inr, ⊎_elim, sym, subst, ap, ◌∙◌, refl, arith, Bool, true, true≢false, IsTrue, Option, Some, None, option_map, is_none}
-use Rattle.std.proofs.Math.Nat.{mul-le-mul_left, mul-le-mul_right}
+use Rattle.std.proofs.Common.{◌≡◌, ℕ, zero, suc, ◌+◌, ◌-◌, ◌<◌, ◌≤◌, ◌⊎◌, List, [], ◌∷◌, ◌++◌, length, map, inl, inr, ⊎_elim, sym, subst, ap, ◌∙◌, refl, arith, true, IsTrue, Option, Some, None, option_map}
 use Rattle.std.proofs.lemmas.Bool.{cases_lt}
 use Rattle.rc_walks.specs.Walks.{Pair, HasNoWalk}
 use Rattle.rc_walks.specs.Threads.{passes, AllPast, Pends}
@@ -8,16 +7,14 @@ use Rattle.rc_walks.proofs.ThreadLemmas.{of_rest}
 use Rattle.rc_program.proofs.LongestLemmas.{none_to}
 use Rattle.rc_program.proofs.WayLemmas.{same_pair}
 use Rattle.rc_pikevm.specs.Sights.{Sight, ends, next_of, HasNoWalkFrom}
-use Rattle.rc_pikevm.specs.Threads.{Thread, ThreadList}
+use Rattle.rc_pikevm.specs.Threads.{Thread}
 use Rattle.rc_pikevm.specs.Trace.{Trace, note, starts, sets_out}
-use Rattle.rc_pikevm.specs.Passing.{pending, IsLined, IsCounted, best_of}
-use Rattle.rc_pikevm.specs.Races.{EndsThere, IsLongestOf, ended, longest, next, upto, Each, AreApart, AreReady, IsRacing, began, leading, kept, Races, IsCutOff, starts_to, GivesLongest, IsRunFrom}
+use Rattle.rc_pikevm.specs.Passing.{pending, best_of}
+use Rattle.rc_pikevm.specs.Races.{EndsThere, IsLongestOf, ended, longest, next, upto, Each, AreApart, AreReady, IsRacing, began, leading, kept, Races, IsCutOff, starts_to, GivesLongest}
 use Rattle.rc_pikevm.specs.declared.pass.Ending.{Ending}
-use Rattle.rc_pikevm.specs.Readers.{reader_count}
-use Rattle.rc_pikevm.proofs.LineLemmas.{no_line}
 use Rattle.rc_pikevm.proofs.SightLemmas.{last_pair}
 use Rattle.rc_pikevm.proofs.MoveLemmas.{Ends, onward}
-use Rattle.rc_pikevm.proofs.PassingLemmas.{GoesOn, none_in, no_threads}
+use Rattle.rc_pikevm.proofs.PassingLemmas.{no_threads}
 use Rattle.rc_pikevm.proofs.StartLemmas.{waiting_next, waiting_over, waiting_past}
 use Rattle.rc_pikevm.proofs.RaceListLemmas.{upto_in, upto_out, upto_none, upto_append, upto_all, past_upto}
 use Rattle.rc_pikevm.proofs.RaceLemmas.{race_begins, race_turns, race_ends, apart_rising}
@@ -141,119 +138,36 @@ leads_to : (best : Option Ending) (found : List (Option ℕ)) → option_map (λ
 leads_to None found = refl
 leads_to (Some r) found = refl
 
-module _ (s : Sight) (n hi width from last : ℕ) where
-  pub runs_begin : (curr : ThreadList) (found : List (Option ℕ)) → curr.items ≡ [] → curr.width ≡ width → reader_count s.places < curr.room →
-      from ≤ last → last ≤ hi → IsRunFrom s n hi width from last from 0 curr None found
-  runs_begin curr found no_items wide room low high = record {
-    law = subst (λ ts. Races s (starts_to width from last) from [] [] (map pending ts ++ starts_to width from last) None found) (sym no_items)
-        (race_begins (next_of s) (Ends s) Trace (note s.places) began (note_keeps s.places) same_pair (last_pair s) (onward s) (starts_to width from last) from
-        (starts_ready width from from (last + 1 - from) (omega arith))
-        (apart_rising (next_of s) (Ends s) Trace (note s.places) began (note_keeps s.places) same_pair (last_pair s) (onward s) (starts_to width from last)
-        (starts_apart width from (last + 1 - from))));
-    lined = no_line s n hi width 0 curr wide room from no_items;
-    ended = tt;
-    few = omega arith;
-    reached = omega arith;
-    within = omega (arith, low, high);
-  }
+module _ (s : Sight) (width from last : ℕ) where
+  abbrev Runs : ℕ → List Thread → Option Ending → List (Option ℕ) → Type 0
+  Runs at curr best found = Races s (starts_to width from last) at [] [] (map pending curr ++ starts_to width at last) best found
 
-  pub runs_turn : (at insertions insertions2 : ℕ) (curr threads : ThreadList) (best best2 : Option Ending) (found found2 : List (Option ℕ)) →
-      IsRunFrom s n hi width from last at insertions curr best found → at ≤ hi →
-      ((all : List (Trace × Pair)) → Races s all at [] [] (map pending curr.items ++ starts_to width at last) best found →
-      Races s all (at + 1) [] [] (map pending threads.items ++ starts_to width (at + 1) last) best2 found2) →
-      IsLined s n hi width (at + 1) insertions2 threads → IsCounted insertions2 best2 → insertions2 ≤ insertions + n →
-      IsRunFrom s n hi width from last (at + 1) insertions2 threads best2 found2
-  runs_turn at insertions insertions2 curr threads best best2 found found2 p within turn lined counted few = record {
-    law = turn (starts_to width from last) p.law;
-    lined = lined;
-    ended = counted;
-    few =
-        let e : at + 1 - from ≡ suc (at - from) = omega (arith, p.reached) in
-        let m : n * suc (at - from) ≡ n * (at - from) + n = omega arith in
-        rw e (omega (arith, m, few, p.few));
-    reached = omega (arith, p.reached);
-    within = omega (arith, within);
-  }
+  pub runs_begin : (curr : List Thread) (found : List (Option ℕ)) → curr ≡ [] → Runs from curr None found
+  runs_begin curr found no_items =
+      subst (λ ts. Runs from ts None found) (sym no_items)
+      (race_begins (next_of s) (Ends s) Trace (note s.places) began (note_keeps s.places) same_pair (last_pair s) (onward s) (starts_to width from last) from
+      (starts_ready width from from (last + 1 - from) (omega arith))
+      (apart_rising (next_of s) (Ends s) Trace (note s.places) began (note_keeps s.places) same_pair (last_pair s) (onward s) (starts_to width from last)
+      (starts_apart width from (last + 1 - from))))
 
   -- nothing is left to go on
-  done : (at : ℕ) (best : Option Ending) (found : List (Option ℕ)) → Races s (starts_to width from last) at [] [] [] best found →
-      from ≤ last → GivesLongest s width from last (best_of best found)
-  done at best found x low =
+  pub runs_done : (at : ℕ) (curr : List Thread) (best : Option Ending) (found : List (Option ℕ)) → Runs at curr best found → length curr ≡ 0 →
+      kept best (starts_to width at last) ≡ [] → from ≤ last → GivesLongest s width from last (best_of best found)
+  runs_done at curr best found run none no_starts low =
       starts_give s width from from (last + 1 - from) last (omega arith) (omega (arith, low)) (λ y l h. absurd (omega (arith, l, h)))
       (subst (IsLongestOf (next_of s) (Ends s) Trace (note s.places) (starts_to width from last)) (leads_to best found)
       (race_ends (next_of s) (Ends s) Trace (note s.places) began (note_keeps s.places) same_pair (last_pair s) (onward s) (starts_to width from last) at []
       (leading best found) (starts_apart width from (last + 1 - from))
-      (subst (λ ts. IsRacing (next_of s) (Ends s) Trace (note s.places) began (starts_to width from last) at [] [] ts (leading best found)) (none_kept best) x)))
+      (subst (λ ts. IsRacing (next_of s) (Ends s) Trace (note s.places) began (starts_to width from last) at [] [] ts (leading best found)) no_starts
+      (subst (λ ts. Runs at ts best found) (no_threads curr none) run))))
 
-  -- no thread is left
-  alone : (at insertions : ℕ) (curr : ThreadList) (best : Option Ending) (found : List (Option ℕ)) →
-      IsRunFrom s n hi width from last at insertions curr best found → curr.items ≡ [] →
-      Races s (starts_to width from last) at [] [] (starts_to width at last) best found
-  alone at insertions curr best found p none =
-      subst (λ ts. Races s (starts_to width from last) at [] [] (map pending ts ++ starts_to width at last) best found) none p.law
-
-  past_last : (at insertions : ℕ) (curr : ThreadList) (best : Option Ending) (found : List (Option ℕ)) →
-      IsRunFrom s n hi width from last at insertions curr best found → curr.items ≡ [] → last < at → from ≤ last →
-      GivesLongest s width from last (best_of best found)
-  past_last at insertions curr best found p none past low =
-      done at best found
-      (subst (λ ts. Races s (starts_to width from last) at [] [] ts best found) (starts_over width at last past) (alone at insertions curr best found p none)) low
-
-  -- no thread is left, and no start that is sought
-  pub runs_spent : (at insertions : ℕ) (curr : ThreadList) (best : Option Ending) (found : List (Option ℕ)) →
-      IsRunFrom s n hi width from last at insertions curr best found → length curr.items ≡ 0 → IsCutOff best at → from ≤ last →
-      GivesLongest s width from last (best_of best found)
-  runs_spent at insertions curr best found p none cut low =
-      done at best found
-      (subst (λ ts. IsRacing (next_of s) (Ends s) Trace (note s.places) began (starts_to width from last) at [] [] ts (leading best found))
-      (cut_starts best width at last cut ∙ sym (none_kept best)) (alone at insertions curr best found p (no_threads curr.items none))) low
-
-  pub runs_stop : (at insertions : ℕ) (curr : ThreadList) (best : Option Ending) (found : List (Option ℕ)) →
-      IsRunFrom s n hi width from last (at + 1) insertions curr best found → length curr.items ≡ 0 → (last ≤ at) ⊎ IsCutOff best (at + 1) → from ≤ last →
-      GivesLongest s width from last (best_of best found)
-  runs_stop at insertions curr best found p none no_start low =
-      ⊎_elim (λ l. past_last (at + 1) insertions curr best found p (no_threads curr.items none) (omega (arith, l)) low)
-      (λ cut. runs_spent (at + 1) insertions curr best found p none cut low) no_start
-
-  -- all positions are done
-  pub runs_end : (at insertions : ℕ) (curr : ThreadList) (best : Option Ending) (found : List (Option ℕ)) →
-      IsRunFrom s n hi width from last at insertions curr best found → hi < at → last ≤ hi → from ≤ last →
-      GivesLongest s width from last (best_of best found)
-  runs_end at insertions curr best found p past high low =
-      past_last at insertions curr best found p (none_in n at (min hi (at + 3)) curr.items p.lined.inside (omega (arith, past))) (omega (arith, past, high)) low
+  -- no start is left
+  pub starts_past : (best : Option Ending) (at : ℕ) → last < at → kept best (starts_to width at last) ≡ []
+  starts_past best at past = ap (kept best) (starts_over width at last past) ∙ none_kept best
 
   -- an idle pass goes on at a later position, where no start between has a walk
-  pub runs_skip : (at x insertions : ℕ) (curr : ThreadList) (found : List (Option ℕ)) → IsRunFrom s n hi width from last at insertions curr None found →
-      curr.items ≡ [] → at ≤ x → x ≤ hi → ((y : ℕ) → at ≤ y → y < x → HasNoWalkFrom s y) → IsRunFrom s n hi width from last x insertions curr None found
-  runs_skip at x insertions curr found p no_items low high none = record {
-    law = subst (λ ts. Races s (starts_to width from last) x [] [] (map pending ts ++ starts_to width x last) None found) (sym no_items)
-        (raced_jumps s (starts_to width from last) width last at x low none (alone at insertions curr None found p no_items));
-    lined = no_line s n hi width insertions curr p.lined.width_is p.lined.room x no_items;
-    ended = p.ended;
-    few = let m : n * (at - from) ≤ n * (x - from) = mul-le-mul_left n (omega (arith, low)) in omega (arith, m, p.few);
-    reached = omega (arith, low, p.reached);
-    within = omega (arith, high);
-  }
-
-  pub runs_go_on : (at x insertions : ℕ) (idle : Bool) (curr : ThreadList) (best : Option Ending) (found : List (Option ℕ)) →
-      IsRunFrom s n hi width from last at insertions curr best found → (IsTrue idle → (length curr.items ≡ 0) × (is_none best ≡ true)) →
-      GoesOn s hi idle at x → IsRunFrom s n hi width from last x insertions curr best found
-  runs_go_on at x insertions idle curr best found p idles on =
-      ⊎_elim (λ e. subst (λ z. IsRunFrom s n hi width from last z insertions curr best found) (sym e) p)
-      (λ skips. unmatched best p (idles skips.0).1 (no_threads curr.items (idles skips.0).0) skips.1) on.2
-    where
-      unmatched : (best : Option Ending) → IsRunFrom s n hi width from last at insertions curr best found → is_none best ≡ true → curr.items ≡ [] →
-          ((y : ℕ) → at ≤ y → y < x → HasNoWalkFrom s y) → IsRunFrom s n hi width from last x insertions curr best found
-      unmatched (Some r) q e none no_walk = absurd (true≢false (sym e))
-      unmatched None q e none no_walk = runs_skip at x insertions curr found q none on.0 on.1 no_walk
-
-  -- the pass is idle, and no start is left that has a walk
-  pub runs_give_up : (at insertions : ℕ) (curr : ThreadList) (best : Option Ending) (found : List (Option ℕ)) →
-      IsRunFrom s n hi width from last at insertions curr best found → length curr.items ≡ 0 → is_none best ≡ true → at ≤ hi → last ≤ hi → from ≤ last →
-      ((y : ℕ) → at ≤ y → y ≤ hi → HasNoWalkFrom s y) → GivesLongest s width from last None
-  runs_give_up at insertions curr (Some r) found p none e within high low no_walk = absurd (true≢false (sym e))
-  runs_give_up at insertions curr None found p none e within high low no_walk =
-      done (hi + 1) None found
-      (subst (λ ts. Races s (starts_to width from last) (hi + 1) [] [] ts None found) (starts_over width (hi + 1) last (omega (arith, high)))
-      (raced_jumps s (starts_to width from last) width last at (hi + 1) (omega (arith, within)) (λ y a b. no_walk y a (omega (arith, b)))
-      (alone at insertions curr None found p (no_threads curr.items none)))) low
+  pub runs_skip : (at x : ℕ) (curr : List Thread) (found : List (Option ℕ)) → Runs at curr None found → length curr ≡ 0 → at ≤ x →
+      ((y : ℕ) → at ≤ y → y < x → HasNoWalkFrom s y) → Runs x curr None found
+  runs_skip at x curr found run none low no_walk =
+      subst (λ ts. Runs x ts None found) (sym (no_threads curr none))
+      (raced_jumps s (starts_to width from last) width last at x low no_walk (subst (λ ts. Runs at ts None found) (no_threads curr none) run))

@@ -25,8 +25,10 @@ use Rattle.rc_text.specs.Text.{Searched}
 use Rattle.rc_program.specs.Programs.{search_of}
 use Rattle.rc_program.specs.declared.program.Program.{Program}
 use Rattle.rc_pikevm.specs.declared.pass.Ending.{Ending}
+use Rattle.rc_pikevm.specs.declared.rule.Rule.TheVariants.{First}
 use Rattle.rc_pikevm.proofs.NotedLemmas.{noted_last, noted_start}
-use Rattle.rc_pikevm.proofs.SearchLemmas.{allowed_free, best_chosen, none_chosen, none_gives, passed_at_first, some_gives}
+use Rattle.rc_pikevm.proofs.RuleLemmas.{chosen_by, left_by, none_below_by, none_by, some_by}
+use Rattle.rc_pikevm.proofs.SearchLemmas.{allowed_free}
 use Rattle.rc_pikevm.proofs.SightLemmas.{last_pair, way_to}
 
 -- a limit that isn't before a position isn't before an earlier one
@@ -120,10 +122,10 @@ module _ (s : Search) (at : ℕ) where
       -- the walk that was found is the one that the search chooses
       pub picked : (best : Option Ending) → GivesTraceTo None (sight_of s) width s.lo last (best_of best slots) →
           IsPickedBy last_filled s (chosen s) best slots
-      picked None g = none_chosen s width s.lo last (passed_at_first s) last_is (none_gives s width s.lo last slots g)
+      picked None g = left_by (First 0) s s.lo last (none_below_by (First 0) s s.lo refl) last_is (none_by (First 0) s width s.lo last slots g)
       picked (Some e) g =
-          let b = some_gives s width s.lo last e slots g in
-          best_chosen s width s.lo last (passed_at_first s) last_is e slots b.0 wide (omega arith) b.1 (allowed_free s b.0 free)
+          let b = some_by (First 0) s width s.lo last e slots g in
+          chosen_by (none_below_by (First 0) s s.lo refl) last_is b.1 wide (omega arith) (allowed_free s b.0 free)
 
       reads : (best : Option Ending) → MatchOption best ⊤ (λ r. r.end ≤ at) → (is_none best ≡ true → last ≤ at) →
           GivesTraceTo None (sight_of s) width s.lo last (best_of best slots) → GivesTraceTo (Some at) (sight_of s) width s.lo last (best_of best slots) →

@@ -1,7 +1,6 @@
 -- What a thread gives that enters at a place which stands for place 0.
-use Rattle.std.proofs.Common.{◌≡◌, ◌∙◌, ℕ, ◌<◌, ◌≤◌, ◌⊎◌, List, [], ◌∷◌, ◌++◌, MatchOption, Option, Some, None, IsTrue, ⊎_elim, sym, subst, ap, refl}
+use Rattle.std.proofs.Common.{◌≡◌, ◌∙◌, ℕ, ◌≤◌, ◌⊎◌, List, [], ◌∷◌, ◌++◌, Option, Some, None, IsTrue, ⊎_elim, sym, subst, ap, refl}
 use Rattle.std.proofs.Math.Logic.{∥∥₁_elim}
-use Rattle.std.specs.Bool.{⊤}
 use Rattle.std.specs.List.{AllByRecursion}
 use Rattle.std.proofs.lemmas.List.Elements.{All-nil, recursion_from_All}
 use denote.Struct.Props.{props}
@@ -12,12 +11,10 @@ use Rattle.rc_walks.proofs.ThreadLemmas.{of_none, of_one}
 use Rattle.rc_walks.proofs.TryLemmas.{Finds}
 use Rattle.rc_program.specs.Columns.{column_at}
 use Rattle.rc_program.specs.Program.{Place}
-use Rattle.rc_program.specs.Answer.{Search}
 use Rattle.rc_program.specs.Laws.{IsChoice}
 use Rattle.rc_pikevm.specs.Sights.{Sight, sight_of, ends, next_of, IsFirstFrom}
 use Rattle.rc_pikevm.specs.Trace.{Trace, note, note_at}
-use Rattle.rc_pikevm.specs.Threads.{Thread}
-use Rattle.rc_pikevm.specs.Passing.{AllFrom, Carries, CarriesTo}
+use Rattle.rc_pikevm.specs.Passing.{Carries, CarriesTo}
 use Rattle.rc_pikevm.specs.Roots.{StandsFor, StandsIn}
 use Rattle.rc_pikevm.proofs.EarlyLemmas.{tried, tried_finds}
 use Rattle.rc_text.specs.Text.{Searched, Keeps}
@@ -30,12 +27,9 @@ use Rattle.rc_pikevm.proofs.KeptLemmas.{kept_seen}
 pub stands_itself : (s : Sight) → StandsFor s 0
 stands_itself s x = (λ v f. ∣ ([], All-nil (IsChoice s.places), f) ∣₁, λ none. none)
 
-pub itself_in : (s : Search) → StandsIn s 0
-itself_in s x = (λ v f. ∣ ([], All-nil (IsChoice s.places), f) ∣₁, λ none. none)
-
 -- a pass by an input that shows the same sees it too
 pub stands_kept : (p : Program) (a b : Searched) (root : ℕ) → Keeps a b → StandsIn (search_of p a) root → StandsFor (sight_of (seen p b)) root
-stands_kept p a b root keeps stands = subst (λ s. StandsFor (sight_of s) root) (sym (kept_seen p a b keeps)) stands
+stands_kept p a b root keeps stands = subst (λ s. StandsFor (sight_of s) root) (sym (kept_seen p keeps)) stands
 
 -- nothing is noted at choices
 noted_choice : (places : List Place) (h : Trace) (n : Pair) → IsChoice places n → note places h n ≡ h
@@ -90,9 +84,3 @@ carries_root_to limit s root stands free h x ts best o within c =
     (λ e. subst (λ l. CarriesTo l s x [] [] ((h, (0, x)) ∷ ts) best o) (sym e)
     (carries_root s root stands h x ts best o within (subst (λ l. CarriesTo l s x [] [] ((h, (root, x)) ∷ ts) best o) e c)))
     (λ e. subst (λ r. CarriesTo limit s x [] [] ((h, (r, x)) ∷ ts) best o) e c) free
-
--- what a thread gives that sets out alone, whatever threads went before it
-pub ended_alone : (o : Option (ℕ × ℕ)) (n at : ℕ) (ts : List Thread) → MatchOption o ⊤ (λ r. (0 < n) × ((x : ℕ) → x ≤ at → x ≤ r.1)) →
-    MatchOption o ⊤ (λ r. (0 < n) × ((x : ℕ) → x ≤ at → AllFrom x ts → x ≤ r.1))
-ended_alone None n at ts h = tt
-ended_alone (Some r) n at ts h = (h.0, λ x l _. h.1 x l)

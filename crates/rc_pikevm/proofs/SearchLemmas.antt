@@ -1,38 +1,22 @@
 -- From passes to the answer of a search.
-use Rattle.std.proofs.Common.{◌≡◌, ◌≢◌, ℕ, ◌+◌, ◌*◌, ◌<◌, ◌≤◌, List, [], ◌∷◌, length, inl, inr, ⊎_elim, sym, subst, ap, ap₂, ◌∙◌, refl, arith, true, false, IsTrue, Option, Some, None, not, slice_index_or, slice_set, get_or-set_same, get_or-set_other, length-set, nat_eq, if◌then◌else◌, eq-eqb, ne_eqb}
+use Rattle.std.proofs.Common.{◌≡◌, ◌≢◌, ℕ, ◌+◌, ◌*◌, ◌<◌, ◌≤◌, List, [], ◌∷◌, length, ⊎_elim, sym, subst, ap, ap₂, ◌∙◌, refl, arith, true, false, IsTrue, Option, Some, None, not, slice_index_or, slice_set, get_or-set_same, get_or-set_other, length-set, nat_eq, if◌then◌else◌, eq-eqb, ne_eqb}
 use Rattle.std.specs.Option.{option_map}
-use Rattle.std.proofs.lemmas.Bool.{cases_lt, cases_eq, or_right}
+use Rattle.std.proofs.lemmas.Bool.{cases_eq, or_right}
 use Rattle.std.proofs.lemmas.List.FromFn.{fill_by_all}
-use Rattle.std.proofs.lemmas.Option.{none-some, same_Some}
+use Rattle.std.proofs.lemmas.Option.{same_Some}
 use Rattle.rc_text.specs.Text.{is_boundary}
 use Rattle.rc_text.specs.Found.{Found}
 use Rattle.rc_walks.specs.Walks.{Pair, IsWalk}
 use Rattle.rc_walks.specs.Threads.{noted}
 use Rattle.rc_program.specs.Program.{place_at, accept}
-use Rattle.rc_program.specs.Answer.{Search, only, ends, next_of, IsFirstFrom, HasNoWalkFrom, IsPassed, is_allowed, last_of, Chosen, chosen, answer, groups, found, pattern_of, pattern_at, slot_of, slots_of, last_visit, Anchoring, is_anchored}
-use Rattle.rc_program.proofs.AnswerLemmas.{first_start_chosen, no_start_chosen, last_start_of, start_within_last, start_to_last, match_place_is, chosen_law, chosen_within, chosen_accepts}
+use Rattle.rc_program.specs.Answer.{Search, only, ends, next_of, is_allowed, last_of, Chosen, chosen, answer, groups, found, pattern_of, pattern_at, slot_of, slots_of, last_visit, Anchoring, is_anchored}
+use Rattle.rc_program.proofs.AnswerLemmas.{last_start_of, match_place_is, chosen_law, chosen_within, chosen_accepts}
 use Rattle.rc_pikevm.specs.Trace.{Trace, note, sets_out, done}
-use Rattle.rc_pikevm.specs.Passing.{GivesTrace, best_of}
-use Rattle.rc_pikevm.specs.Found.{IsChosen, IsChosenRow, last_filled}
+use Rattle.rc_pikevm.specs.Found.{IsChosen, last_filled}
 use Rattle.rc_pikevm.specs.declared.pass.Ending.{Ending}
-use Rattle.rc_pikevm.specs.Sights.{sight_of}
 use Rattle.rc_pikevm.proofs.NotedLemmas.{noted_start, noted_visit, noted_end}
 
--- what a pass that found a walk has shown of it
-pub record IsBest (s : Search) (width from last : ℕ) (e : Ending) (slots : List (Option ℕ)) (w : List Pair) : Type 0 where
-  pub low : from ≤ e.start
-  pub high : e.start ≤ last
-  pub first : IsFirstFrom s e.start w
-  pub before : (y : ℕ) → from ≤ y → y < e.start → HasNoWalkFrom s y
-  pub pattern : e.pattern ≡ pattern_at (place_at s.places (last_of w).0)
-  pub end : e.end ≡ (last_of w).1
-  pub visits : (k : ℕ) → k < width → slice_index_or slots k None ≡ last_filled s.places k w
-
-module _ (s : Search) (width from last : ℕ) where
-  -- no start has a walk
-  pub none_gives : (slots : List (Option ℕ)) → GivesTrace (sight_of s) width from last (best_of None slots) → (y : ℕ) → from ≤ y → y ≤ last → HasNoWalkFrom s y
-  none_gives slots g = ⊎_elim (λ n. n.1) (λ m. absurd (none-some _ m.6)) g
-
+module _ (s : Search) (width : ℕ) where
   -- what is told of a walk along which that was noted
   pub record IsTold (x : ℕ) (e : Ending) (slots : List (Option ℕ)) (w : List Pair) : Type 0 where
     pub start : e.start ≡ x
@@ -53,29 +37,6 @@ module _ (s : Search) (width from last : ℕ) where
         visits = λ k l. ap (λ (t : Trace). slice_index_or t.slots k None) same ∙ noted_visit s.places (sets_out width x).0 w width k refl l;
       }
 
-  best_gives : (e : Ending) (slots : List (Option ℕ)) (x : ℕ) (w : List Pair) → from ≤ x → x ≤ last → IsFirstFrom s x w →
-      ((y : ℕ) → from ≤ y → y < x → HasNoWalkFrom s y) → done e.pattern e.start e.end slots ≡ noted (note s.places) (sets_out width x).0 w →
-      IsBest s width from last e slots w
-  best_gives e slots x w low high first before same =
-      let told = told_by e slots x w first.is_walk same in
-      let begun = told.start in
-      record {
-        low = omega (arith, begun, low);
-        high = omega (arith, begun, high);
-        first = subst (λ y. IsFirstFrom s y w) (sym begun) first;
-        before = λ y l h. before y l (omega (arith, begun, h));
-        pattern = told.pattern;
-        end = told.end;
-        visits = told.visits;
-      }
-
-  -- the least start that has a walk, and its first walk
-  pub some_gives : (e : Ending) (slots : List (Option ℕ)) → GivesTrace (sight_of s) width from last (best_of (Some e) slots) →
-      (w : List Pair) × IsBest s width from last e slots w
-  some_gives e slots g =
-      ⊎_elim (λ n. absurd (none-some _ (sym n.0)))
-      (λ m. (m.1, best_gives e slots m.0 m.1 m.2 m.3 m.4 m.5 (same_Some _ _ m.6))) g
-
 -- the last start, as the code finds it
 pub last_found : (s : Search) (last lo hi : ℕ) (anchoring : Anchoring) → last ≡ (if is_anchored anchoring then lo else hi) → lo ≡ s.lo → hi ≡ s.hi →
     anchoring ≡ s.anchoring → s.lo ≤ s.hi → last ≡ last_start_of s
@@ -93,55 +54,6 @@ module _ (s : Search) where
   pub not_allowed : (w : List Pair) (end : ℕ) → end ≡ (last_of w).1 → s.passes_over ≡ true → is_boundary s.text.content end ≡ false →
       is_allowed s w ≡ false
   not_allowed w end e on b = rw on (ap (is_boundary s.text.content) (sym e) ∙ b)
-
-  -- below x no start gives an answer
-  abbrev pub PassedBelow : ℕ → Type 0
-  PassedBelow x = (y : ℕ) → s.lo ≤ y → y < x → IsPassed s y
-
-  pub passed_at_first : PassedBelow s.lo
-  passed_at_first y l h = absurd (omega arith)
-
-  module _ (width from last : ℕ) (passed : PassedBelow from) (last_is : last ≡ last_start_of s) where
-    -- the found walk is passed over
-    pub passed_on : (e : Ending) (slots : List (Option ℕ)) (w : List Pair) → IsBest s width from last e slots w → is_allowed s w ≡ false →
-        PassedBelow (e.start + 1)
-    passed_on e slots w best off y l h =
-        ⊎_elim (λ b. passed y l b)
-        (λ ge. ⊎_elim (λ b. inl (best.before y ge b))
-        (λ le. let same : e.start ≡ y = omega arith in subst (IsPassed s) same (inr (w, best.first, off))) (cases_lt y e.start))
-        (cases_lt y from)
-
-    -- the found walk is the answer's
-    pub best_chosen : (e : Ending) (slots : List (Option ℕ)) (w : List Pair) → length slots ≡ width → s.lo ≤ from → IsBest s width from last e slots w →
-        is_allowed s w ≡ true → (c : Chosen) × IsChosenRow s (chosen s) e slots c
-    best_chosen e slots w wide low best allowed = (
-      record { start = e.start; walk = w },
-      record {
-        is_chosen = sym (first_start_chosen s e.start w (start_within_last s e.start (omega (arith, low, best.low)) (omega (arith, best.high, last_is)))
-            best.first allowed before);
-        pattern = best.pattern;
-        start = refl;
-        end = best.end;
-        visits = λ k l. best.visits k (omega (arith, wide, l));
-      },
-    )
-      where
-        before : (y : ℕ) → s.lo ≤ y → y < e.start → IsPassed s y
-        before y l h = ⊎_elim (λ b. passed y l b) (λ ge. inl (best.before y ge h)) (cases_lt y from)
-
-    -- no start is left
-    pub past_chosen : last < from → chosen s ≡ None
-    past_chosen past = sym (no_start_chosen s (λ y h. let b = start_to_last s y h in passed y h.0 (omega (arith, past, last_is, b))))
-
-    -- no start that is left has a walk
-    pub none_chosen : ((y : ℕ) → from ≤ y → y ≤ last → HasNoWalkFrom s y) → chosen s ≡ None
-    none_chosen none =
-        sym (no_start_chosen s (λ y h. let b = start_to_last s y h in
-        ⊎_elim (λ l. passed y h.0 l) (λ ge. inl (none y ge (omega (arith, last_is, b)))) (cases_lt y from)))
-
-  -- there is no position
-  pub outside_chosen : s.hi < s.lo → chosen s ≡ None
-  outside_chosen past = sym (no_start_chosen s (λ y h. absurd (omega (arith, past, h.0, h.1))))
 
   pub answer_none : chosen s ≡ None → answer s ≡ None
   unfolding answer

@@ -1,6 +1,5 @@
 -- The pass for the greatest span over all positions.
 use Rattle.std.proofs.Common.{◌≡◌, ℕ, zero, suc, ◌+◌, ◌-◌, ◌*◌, ◌<◌, ◌≤◌, List, [], ◌∷◌, ◌++◌, length, map, min, inl, inr, ⊎_elim, sym, subst, ap, refl, arith, Option, Some, None, option_map, IsTrue}
-use Rattle.std.proofs.Math.Nat.{mul-le-mul_right}
 use Rattle.std.proofs.lemmas.Bool.{cases_lt}
 use Rattle.std.proofs.lemmas.Option.{none-some, same_Some}
 use Rattle.rc_text.specs.Found.{Found}
@@ -15,8 +14,6 @@ use Rattle.rc_pikevm.specs.Threads.{Thread, ThreadList}
 use Rattle.rc_pikevm.specs.Passing.{AllIn, AllFrom, IsLined, IsCounted}
 use Rattle.rc_pikevm.specs.Spread.{running, SomeSpells, IsTop, Seeks, Offers, span_of, setting_out, starting, IsOrdered, IsCovering}
 use Rattle.rc_pikevm.specs.declared.pass.Ending.{Ending}
-use Rattle.rc_pikevm.specs.Readers.{reader_count}
-use Rattle.rc_pikevm.proofs.LineLemmas.{no_line}
 use Rattle.rc_pikevm.proofs.SpreadLemmas.{top_back, no_greater_self}
 use Rattle.rc_pikevm.proofs.SpreadStepLemmas.{starting_over}
 
@@ -36,26 +33,22 @@ no_threads : (ts : List Thread) → length ts ≡ 0 → ts ≡ []
 no_threads [] e = refl
 no_threads (t ∷ ts) e = absurd (omega (arith, e))
 
-module _ (s : Sight) (n hi from last : ℕ) where
-  pub covering_begins : (curr : ThreadList) → curr.items ≡ [] → curr.width ≡ 0 → reader_count s.places < curr.room → from ≤ last → last ≤ hi →
-      IsCovering s n hi from last from 0 curr None
-  covering_begins curr no_items wide room low high = record {
-    seeks = λ o x. subst (λ ts. Seeks s from [] [] (map running ts ++ starting from last) None o) no_items x;
-    lined = no_line s n hi 0 0 curr wide room from no_items;
-    ordered = rw no_items (record { rising = tt; before = tt });
-    ended = tt;
-    few = omega arith;
-    reached = omega arith;
-    within = omega (arith, low, high);
-  }
+best_alone : (s : Sight) (at : ℕ) (best : Option Ending) → Seeks s at [] [] [] best (option_map span_of best)
+best_alone s at None = λ m h. ⊎_elim (λ never. never) (λ q. ⊎_elim (λ never. never) (λ e. none-some m e) q) h
+best_alone s at (Some b) = (
+  inr (inr refl),
+  λ m h. ⊎_elim (λ never. absurd never)
+      (λ q. ⊎_elim (λ never. absurd never) (λ e. subst (λ x. IsNoGreater x (span_of b)) (same_Some _ _ e) (no_greater_self (span_of b))) q) h,
+)
 
-  pub covering_turns : (at insertions insertions2 : ℕ) (curr next : ThreadList) (best best2 : Option Ending) →
+module _ {s : Sight} {n hi from last : ℕ} where
+  pub covering_turns : {at insertions insertions2 : ℕ} {curr next : ThreadList} {best best2 : Option Ending} →
       IsCovering s n hi from last at insertions curr best → at ≤ hi →
       ((o : Option Found) → Seeks s (at + 1) [] [] (map running next.items ++ starting (at + 1) last) best2 o →
       Seeks s at [] [] (map running curr.items ++ starting at last) best o) →
       IsLined s n hi 0 (at + 1) insertions2 next → IsOrdered (at + 1) next.items → IsCounted insertions2 best2 → insertions2 ≤ insertions + n →
       IsCovering s n hi from last (at + 1) insertions2 next best2
-  covering_turns at insertions insertions2 curr next best best2 p within turn lined ordered ended few = record {
+  covering_turns {at = at} p within turn lined ordered ended few = record {
     seeks = λ o x. p.seeks o (turn o x);
     lined = lined;
     ordered = ordered;
@@ -68,18 +61,10 @@ module _ (s : Sight) (n hi from last : ℕ) where
     within = omega (arith, within);
   }
 
-  best_alone : (at : ℕ) (best : Option Ending) → Seeks s at [] [] [] best (option_map span_of best)
-  best_alone at None = λ m h. ⊎_elim (λ never. never) (λ q. ⊎_elim (λ never. never) (λ e. none-some m e) q) h
-  best_alone at (Some b) = (
-    inr (inr refl),
-    λ m h. ⊎_elim (λ never. absurd never)
-        (λ q. ⊎_elim (λ never. absurd never) (λ e. subst (λ x. IsNoGreater x (span_of b)) (same_Some _ _ e) (no_greater_self (span_of b))) q) h,
-  )
-
   -- nothing is left to go on
-  pub covering_done : (at insertions : ℕ) (curr : ThreadList) (best : Option Ending) → IsCovering s n hi from last at insertions curr best →
+  pub covering_done : {at insertions : ℕ} {curr : ThreadList} {best : Option Ending} → IsCovering s n hi from last at insertions curr best →
       length curr.items ≡ 0 → last < at → IsTop (SomeSpells s [] (starting from last)) (option_map span_of best)
-  covering_done at insertions curr best p none over =
+  covering_done {at = at} {curr = curr} {best = best} p none over =
       top_back (SomeSpells s [] (starting from last)) (Offers s from [] [] (starting from last) None) (option_map span_of best)
       (record {
         fewer = λ m h. ⊎_elim (λ never. absurd never) (λ q. ⊎_elim (λ a. a) (λ e. absurd (none-some m e)) q) h;
@@ -87,13 +72,13 @@ module _ (s : Sight) (n hi from last : ℕ) where
       })
       (p.seeks (option_map span_of best)
       (subst (λ ts. Seeks s at [] [] (map running ts ++ starting at last) best (option_map span_of best)) (sym (no_threads curr.items none))
-      (subst (λ rs. Seeks s at [] [] rs best (option_map span_of best)) (sym (starting_over at last over)) (best_alone at best))))
+      (subst (λ rs. Seeks s at [] [] rs best (option_map span_of best)) (sym (starting_over at last over)) (best_alone s at best))))
 
   -- all positions are done
-  pub covering_ends : (at insertions : ℕ) (curr : ThreadList) (best : Option Ending) → IsCovering s n hi from last at insertions curr best →
+  pub covering_ends : {at insertions : ℕ} {curr : ThreadList} {best : Option Ending} → IsCovering s n hi from last at insertions curr best →
       hi < at → last ≤ hi → IsTop (SomeSpells s [] (starting from last)) (option_map span_of best)
-  covering_ends at insertions curr best p past high =
-      covering_done at insertions curr best p (ap length (none_in n at (min hi (at + 3)) curr.items p.lined.inside (omega (arith, past)))) (omega (arith, past, high))
+  covering_ends {at = at} {curr = curr} p past high =
+      covering_done p (ap length (none_in n at (min hi (at + 3)) curr.items p.lined.inside (omega (arith, past)))) (omega (arith, past, high))
 
 module _ (s : Search) where
   -- what a start from x on spells, the search spells

@@ -40,10 +40,10 @@ pub all_from_zero : (ts : List Thread) → AllFrom 0 ts
 all_from_zero [] = tt
 all_from_zero (t ∷ ts) = (omega arith, all_from_zero ts)
 
-module _ (s : Sight) (n hi at : ℕ) (all : List Thread) (threads0 : ThreadList) (best0 : Option Ending) where
-  pub spreading_begins : (entered : Members) → threads0.items ≡ [] → entered.items ≡ [] → entered.capacity ≡ n → still s at (at + 1) [] < threads0.room → IsOrdered at all →
+module _ {s : Sight} {n hi at : ℕ} {all : List Thread} {threads0 : ThreadList} {best0 : Option Ending} where
+  pub spreading_begins : {entered : Members} → threads0.items ≡ [] → entered.items ≡ [] → entered.capacity ≡ n → still s at (at + 1) [] < threads0.room → IsOrdered at all →
       IsSpreading s n hi at all all threads0 best0 threads0 entered best0
-  spreading_begins entered no_threads no_places capacity room ordered = record {
+  spreading_begins {entered = entered} no_threads no_places capacity room ordered = record {
     seeks = λ below o low x.
         subst (λ v. Seeks s at [] v (map running all ++ below) best0 o) no_places
         (subst (λ r. Seeks s at r entered.items (map running all ++ below) best0 o) no_threads x);
@@ -58,7 +58,7 @@ module _ (s : Sight) (n hi at : ℕ) (all : List Thread) (threads0 : ThreadList)
     counted = λ k h x. x;
   }
 
-  module _ (threads : ThreadList) (entered : Members) (best : Option Ending) (index : ℕ) (t : Thread) (item : slice_get all index ≡ Some t)
+  module _ {threads : ThreadList} {entered : Members} {best : Option Ending} (index : ℕ) {t : Thread} (item : slice_get all index ≡ Some t)
       (inside : AllIn n at (min hi (at + 3)) all) (so_far : IsSpreading s n hi at all (drop index all) threads0 best0 threads entered best) where
     here : drop index all ≡ t ∷ drop (index + 1) all
     here = next_left index item inside so_far.gone
@@ -76,10 +76,10 @@ module _ (s : Sight) (n hi at : ℕ) (all : List Thread) (threads0 : ThreadList)
     ordered_here = ordered_wider so_far.reached t.start threads.items from_here.0 so_far.ordered
 
     -- a thread that goes on later waits
-    pub spreading_waits : (threads2 : ThreadList) → at < t.at → count_from (at + 1) all + still s at (at + 1) [] < threads0.room →
+    pub spreading_waits : {threads2 : ThreadList} → at < t.at → count_from (at + 1) all + still s at (at + 1) [] < threads0.room →
         threads2 ≡ record threads { items = threads.items ++ t ∷ [] } →
         IsSpreading s n hi at all (drop (index + 1) all) threads0 best0 threads2 entered best
-    spreading_waits threads2 later room e = rw e (record {
+    spreading_waits later room e = rw e (record {
       seeks = λ below o low x.
           so_far.seeks below o low
           (subst (λ ts. Seeks s at threads.items entered.items (map running ts ++ below) best o) (sym here)
@@ -96,13 +96,13 @@ module _ (s : Sight) (n hi at : ℕ) (all : List Thread) (threads0 : ThreadList)
     })
 
     -- a thread goes on here
-    pub spreading_closes : (threads2 : ThreadList) (entered2 : Members) (best2 : Option Ending) → t.at ≤ at →
+    pub spreading_closes : {threads2 : ThreadList} {entered2 : Members} {best2 : Option Ending} → t.at ≤ at →
         ((below : List Runner) (o : Option Found) → BeginFrom t.start below → Seeks s at threads2.items entered2.items below best2 o →
         Seeks s at threads.items entered.items ((t.start, (t.place, at)) ∷ below) best o) →
         IsGrown s n hi t.start at threads entered threads2 entered2 → IsOrdered t.start threads2.items → StaysCounted t.start at best best2 →
         0 < length entered2.items →
         IsSpreading s n hi at all (drop (index + 1) all) threads0 best0 threads2 entered2 best2
-    spreading_closes threads2 entered2 best2 now closing grown ordered stays some = record {
+    spreading_closes now closing grown ordered stays some = record {
       seeks = λ below o low x.
           so_far.seeks below o low
           (subst (λ ts. Seeks s at threads.items entered.items (map running ts ++ below) best o) (sym here)

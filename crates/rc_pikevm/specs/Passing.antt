@@ -1,6 +1,6 @@
 -- Only proofs use this file.
 -- The Pike VM: what one pass over a text keeps.
-use Rattle.std.specs.Prelude.{◌≡◌, ℕ, ◌+◌, ◌-◌, ◌<◌, ◌≤◌, ◌⊎◌, Bool, List, [], ◌∷◌, ◌++◌, length, map, reverse, Option, Some, None, IsTrue, slice_set, slice_index_or, if◌then◌else◌, is_none, option_map, nat_lt, nat_le, min, ◌*◌, MatchOption}
+use Rattle.std.specs.Prelude.{◌≡◌, ℕ, ◌+◌, ◌-◌, ◌<◌, ◌≤◌, ◌⊎◌, Bool, List, [], ◌∷◌, ◌++◌, length, map, reverse, Option, Some, None, IsTrue, slice_set, slice_index_or, if◌then◌else◌, is_none, option_map, nat_lt, nat_le, min, MatchOption}
 use Rattle.rc_program.specs.Scalars.{scalar_at}
 use Rattle.rc_program.specs.Text.{ahead}
 use Rattle.rc_walks.specs.Walks.{Pair}
@@ -153,17 +153,3 @@ pub record IsLined (s : Sight) (n hi width at insertions : ℕ) (curr : ThreadLi
 -- Each position of the walk was counted.
 abbrev pub IsCounted : ℕ → Option Ending → Type 0
 IsCounted insertions best = MatchOption best (Unit {0}) (λ (r : Ending). r.end + 1 ≤ insertions + r.start)
-
--- A pass from the start `from` has come to the position `at`, where the law holds.
-pub record IsCome (Law : Type 0) (s : Sight) (n hi width from at insertions : ℕ) (curr : ThreadList) (best : Option Ending) : Type 0 where
-  pub law : Law
-  pub lined : IsLined s n hi width at insertions curr
-  pub ended : IsCounted insertions best
-  pub few : insertions ≤ n * (at - from)
-  pub reached : from ≤ at
-  pub within : at ≤ hi + 1
-
--- The pass for the first walk has come there.
-abbrev pub IsPassing : Sight → ℕ → ℕ → ℕ → ℕ → ℕ → ℕ → ℕ → ThreadList → Option Ending → List (Option ℕ) → Type 0
-IsPassing s n hi width from last at insertions curr best found =
-    IsCome ((o : Option Trace) → Pending s width last at curr.items best found o → GivesTrace s width from last o) s n hi width from at insertions curr best

@@ -8,7 +8,7 @@ use Rattle.rc_pikevm.specs.Sights.{Sight, ends, next_of, HasNoWalkFrom}
 use Rattle.rc_pikevm.specs.Sparse.{Members}
 use Rattle.rc_pikevm.specs.Threads.{Thread, ThreadList}
 use Rattle.rc_pikevm.specs.Trace.{Trace, note, done, starts, sets_out}
-use Rattle.rc_pikevm.specs.Passing.{pending, pairs, AllFrom, IsCome, IsCounted}
+use Rattle.rc_pikevm.specs.Passing.{pending, pairs, AllFrom, IsCounted}
 use Rattle.rc_pikevm.specs.Steps.{HasGone}
 use Rattle.rc_pikevm.specs.declared.pass.Ending.{Ending}
 
@@ -155,8 +155,3 @@ pub record IsRunOn (s : Sight) (n hi at : ℕ) (all left : List Thread) (threads
   pub gone : HasGone s n hi at all left threads0 threads entered
   pub counted : (k : ℕ) → AllFrom (at + 1 - k) all → IsCounted k best0 → IsCounted k best
   pub still : (best ≡ best0) ⊎ (0 < length entered.items)
-
--- The pass for the longest walk, from the start `from`, has come to the position `at`.
-abbrev pub IsRunFrom : Sight → ℕ → ℕ → ℕ → ℕ → ℕ → ℕ → ℕ → ThreadList → Option Ending → List (Option ℕ) → Type 0
-IsRunFrom s n hi width from last at insertions curr best found =
-    IsCome (Races s (starts_to width from last) at [] [] (map pending curr.items ++ starts_to width at last) best found) s n hi width from at insertions curr best

@@ -9,7 +9,7 @@ use Rattle.rc_pikevm.specs.Sights.{Sight}
 use Rattle.rc_pikevm.specs.Trace.{Trace}
 use Rattle.rc_walks.specs.Walks.{Pair}
 use Rattle.rc_pikevm.specs.Threads.{ThreadList}
-use Rattle.rc_pikevm.specs.Passing.{GivesTrace, IsCome, Pending, Tells, pending}
+use Rattle.rc_pikevm.specs.Passing.{GivesTrace, Pending, Tells, pending}
 use Rattle.rc_pikevm.specs.Races.{GivesLongest, Races, starts_to}
 use Rattle.rc_pikevm.specs.declared.pass.Ending.{Ending}
 use Rattle.rc_pikevm.specs.declared.rule.Rule.{Rule}
@@ -47,13 +47,6 @@ GivesBy rule s width from last o = Under rule (GivesTrace s width from last o) (
 -- What a pass for the first walk tells, also if it ends where some walk does.
 abbrev pub TellsBy : Rule → Sight → ℕ → ℕ → Option Ending → Type 0
 TellsBy rule s from last best = Under rule (Tells s from last best) (Unit {0})
-
--- A pass by the rule, from the start `from`, has come to the position `at`.
-abbrev pub IsUnderWay : Rule → Sight → ℕ → ℕ → ℕ → ℕ → ℕ → ℕ → ℕ → ThreadList → Option Ending → List (Option ℕ) → Type 0
-IsUnderWay rule s n hi width from last at insertions curr best found =
-    IsCome
-    (Under rule ((o : Option Trace) → Pending s width last at curr.items best found o → GivesTrace s width from last o)
-    (Races s (starts_to width from last) at [] [] (map pending curr.items ++ starts_to width at last) best found)) s n hi width from at insertions curr best
 
 -- What is under way before the next position gives what is under way before `at`.
 abbrev pub Turns : Rule → Sight → ℕ → ℕ → ℕ → ThreadList → ThreadList → Option Ending → Option Ending → List (Option ℕ) → List (Option ℕ) → Type 0

@@ -18,10 +18,8 @@ skipped : (g : Over) (c : After-seek-here g) (rule : Rule) (from : ℕ) →
     HasCome rule c.args.course g.text c.args.scratch.now.next.threads.width from c.args.at c.args.scratch.now c.args.best →
     HasCome rule c.args.course g.text c.args.scratch.now.next.threads.width from c.seek-here.result.0 c.args.scratch.now c.args.best
 skipped g c rule from p =
-    skips_by rule (seen_by c.args.course g.text) (size c.args.course) c.args.course.hi c.args.scratch.now.next.threads.width from c.args.course.last
-    c.args.at c.seek-here.result.0 c.args.scratch.now.insertions c.args.scratch.now.curr c.args.best c.args.scratch.now.found.items p
-    (omega (arith, c.len.ensures.value, c.if-len-gt0.false)) (ap is_none (none_yet c.args.best (sym c.is_some.ensures ∙ c.if-is_some.false)))
-    c.seek-here.ensures.later c.seek-here.ensures.within c.seek-here.ensures.none
+    skips_by p (omega (arith, c.len.ensures.value, c.if-len-gt0.false)) (ap is_none (none_yet c.args.best (sym c.is_some.ensures ∙ c.if-is_some.false)))
+    c.seek-here.ensures.later (omega (arith, c.seek-here.ensures.within)) c.seek-here.ensures.none
 
 pub returns-in_default-clause-come : goal.returns-in_default-clause-come
 returns-in_default-clause-come g c rule from is p = skipped g (goal.at.returns-in_default-clause-come g c).After-seek-here rule from p
@@ -35,10 +33,7 @@ out g c rule from is before =
     let here : ℕ = c.seek-here.result.0 in
     let none : c.args.best ≡ None = none_yet c.args.best (sym c.is_some.ensures ∙ c.if-is_some.false) in
     subst (λ b. HasCome rule c.args.course g.text width from (here + 1) c.set_out_alone.new.scratch b) (sym none)
-    (turns_by rule (seen_by c.args.course g.text) (size c.args.course) c.args.course.hi width from c.args.course.last here
-    c.args.scratch.now.insertions c.set_out_alone.new.scratch.insertions c.args.scratch.now.curr c.set_out_alone.new.scratch.curr None None
-    c.args.scratch.now.found.items c.set_out_alone.new.scratch.found.items
-    (subst (λ b. HasCome rule c.args.course g.text width from here c.args.scratch.now b) none before)
+    (turns_by (subst (λ b. HasCome rule c.args.course g.text width from here c.args.scratch.now b) none before)
     c.seek-here.ensures.within (c.set_out_alone.ensures.turns rule is) c.set_out_alone.ensures.lined tt
     (omega (arith, c.set_out_alone.ensures.few, c.requires.1.1.1.1.1.0)))
 

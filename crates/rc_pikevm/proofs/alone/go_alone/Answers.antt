@@ -1,20 +1,18 @@
-use Rattle.std.proofs.Common.{◌≡◌, ℕ, ◌+◌, [], ◌∷◌, min, Some, refl, sym, ap, subst, ◌∙◌, arith}
+use Rattle.std.proofs.Common.{◌≡◌, ℕ, ◌+◌, [], ◌∷◌, min, refl, sym, ap, subst, ◌∙◌, arith}
 use Rattle.rc_pikevm.specs.Near.{size}
 use Rattle.rc_pikevm.specs.Moves.{seen_by}
 use Rattle.rc_pikevm.specs.Threads.{ThreadList, thread_of}
-use Rattle.rc_pikevm.specs.Passing.{IsPassing, IsLined}
-use Rattle.rc_pikevm.specs.Races.{IsCutOff, IsRunFrom}
+use Rattle.rc_pikevm.specs.Passing.{IsLined}
+use Rattle.rc_pikevm.specs.Races.{IsCutOff}
 use Rattle.rc_pikevm.specs.Alone.{IsAhead}
-use Rattle.rc_pikevm.specs.Rules.{Turns}
 use Rattle.rc_pikevm.specs.Underway.{HasCome}
 use Rattle.rc_pikevm.specs.declared.rule.Rule.{Rule}
-use Rattle.rc_pikevm.specs.declared.rule.Rule.TheVariants.{First, Longest}
 use Rattle.rc_pikevm.specs.Windows.{IsBegun}
 use Rattle.rc_pikevm.proofs.StepLemmas.{in_at}
 use Rattle.rc_pikevm.proofs.TurnLemmas.{none_from}
-use Rattle.rc_pikevm.proofs.UnderwayLemmas.{turns_by}
+use Rattle.rc_pikevm.proofs.UnderwayLemmas.{moves_by, turns_by, widened}
 use Rattle.rc_pikevm.proofs.RaceAloneLemmas.{ahead_sought, ahead_cut, ahead_later}
-use Rattle.rc_pikevm.proofs.AloneLemmas.{only_thread, lined_moved, passing_runs, runs_alone, ends_only}
+use Rattle.rc_pikevm.proofs.AloneLemmas.{only_thread, lined_moved, ends_only}
 use Rattle.rc_pikevm.proofs.alone.go_alone.Given.{Over}
 use Rattle.rc_pikevm.proofs.alone.go_alone.Goals as goal
 use Rattle.rc_pikevm.proofs.alone.go_alone.Goals.{After-get, After-move_alone}
@@ -48,33 +46,18 @@ run-ended-requires g c =
 gone : (g : Over) (c : After-move_alone g) (rule : Rule) (from : ℕ) → c.args.scratch.now.curr.items ≡ thread_of c.get.result.0 c.get.result.1.now ∷ [] →
     HasCome rule c.args.course g.text c.args.scratch.now.next.threads.width from c.args.at c.args.scratch.now c.args.best.now →
     HasCome rule c.args.course g.text c.args.scratch.now.next.threads.width from c.run-ended.result.0.at c.move_alone.new.scratch c.args.best.now
-gone g c (First root) from e p =
+gone g c rule from e p =
     let t = thread_of c.get.result.0 c.get.result.1.now in
-    let here : c.get.result.0.at ≡ c.args.at = (c.is_ahead.ensures c.if-not-is_ahead.false).0 in
-    subst (λ l. IsPassing (seen_by c.args.course g.text) (size c.args.course) c.args.course.hi c.args.scratch.now.next.threads.width from
-    c.args.course.last c.run-ended.result.0.at c.move_alone.new.scratch.insertions c.move_alone.new.scratch.curr c.args.best.now l)
-    (sym c.move_alone.ensures.found)
-    (passing_runs (seen_by c.args.course g.text) (size c.args.course) c.args.course.hi c.args.scratch.now.next.threads.width from c.args.course.last
-    c.args.at c.args.scratch.now.insertions c.args.scratch.now.curr c.args.best.now c.args.scratch.now.found.items t c.run-ended.result.0
-    c.move_alone.new.scratch.insertions c.move_alone.new.scratch.curr c.is_none.result p e (c.move_alone.ensures.curr t e) here
-    c.run-ended.ensures.start c.run-ended.ensures.place_in (omega (arith, here, c.run-ended.ensures.later)) c.run-ended.ensures.within
-    c.move_alone.ensures.insertions (none_from c.args.best.now c.is_none.result c.is_none.ensures) c.run-ended.ensures.carries)
-gone g c Longest from e p =
-    let t = thread_of c.get.result.0 c.get.result.1.now in
-    let here : c.get.result.0.at ≡ c.args.at = (c.is_ahead.ensures c.if-not-is_ahead.false).0 in
-    let ahead : IsAhead c.args.best.now t.start c.args.at = (c.is_ahead.ensures c.if-not-is_ahead.false).1 in
-    subst (λ l. IsRunFrom (seen_by c.args.course g.text) (size c.args.course) c.args.course.hi c.args.scratch.now.next.threads.width from
-    c.args.course.last c.run-ended.result.0.at c.move_alone.new.scratch.insertions c.move_alone.new.scratch.curr c.args.best.now l)
-    (sym c.move_alone.ensures.found)
-    (runs_alone (seen_by c.args.course g.text) (size c.args.course) c.args.course.hi c.args.scratch.now.next.threads.width from c.args.course.last
-    c.args.at c.args.scratch.now.insertions c.args.scratch.now.curr c.args.best.now c.args.scratch.now.found.items t c.run-ended.result.0
-    c.move_alone.new.scratch.insertions c.move_alone.new.scratch.curr p e (c.move_alone.ensures.curr t e) here
-    c.run-ended.ensures.start c.run-ended.ensures.place_in (omega (arith, here, c.run-ended.ensures.later)) c.run-ended.ensures.within
-    c.move_alone.ensures.insertions
+    let first = c.is_ahead.ensures c.if-not-is_ahead.false in
+    let here : c.get.result.0.at ≡ c.args.at = first.0 in
+    let ahead : IsAhead c.args.best.now t.start c.args.at = first.1 in
+    let open_is = none_from c.args.best.now c.is_none.result c.is_none.ensures in
+    moves_by t c.run-ended.result.0 c.is_none.result p e (c.move_alone.ensures.curr t e) c.move_alone.ensures.found c.move_alone.ensures.insertions here
+    c.run-ended.ensures.start c.run-ended.ensures.place_in (omega (arith, here, c.run-ended.ensures.later)) c.run-ended.ensures.within open_is
+    c.run-ended.ensures.carries
     (λ all x. c.run-ended.ensures.races all t.slots c.args.scratch.now.next.threads.width c.args.best.now c.args.scratch.now.found.items
     (ahead_sought c.args.best.now t.start c.args.at ahead)
-    (λ e. subst (IsCutOff c.args.best.now) (sym here)
-    (ahead_cut c.args.best.now t.start c.args.at ahead (sym (none_from c.args.best.now c.is_none.result c.is_none.ensures) ∙ e))) x))
+    (λ e. subst (IsCutOff c.args.best.now) (sym here) (ahead_cut c.args.best.now t.start c.args.at ahead (sym open_is ∙ e))) x)
 
 pub returns-in_default-clause-come : goal.returns-in_default-clause-come
 returns-in_default-clause-come g c rule from p =
@@ -109,27 +92,17 @@ end_walk-requires g c =
 
 pub returns-clause-come : goal.returns-clause-come
 returns-clause-come g c rule from p =
-    let width : ℕ = c.args.scratch.now.next.threads.width in
-    let s = seen_by c.args.course g.text in
-    let n : ℕ = size c.args.course in
-    let last : ℕ = c.args.course.last in
     let at : ℕ = c.run-ended.result.0.at in
     let wide = c.move_alone.ensures.width in
     let t = thread_of c.get.result.0 c.get.result.1.now in
     let e = one g (goal.at.returns-clause-come g c).After-get in
-    let here = gone g (goal.at.returns-clause-come g c).After-move_alone rule from e p in
     let start : c.end_walk.result.start ≡ t.start =
     c.end_walk.ensures.start (thread_of c.run-ended.result.0 t.slots) (ap (λ (l : ThreadList). l.items) (c.move_alone.ensures.curr t e)) ∙ c.run-ended.ensures.start in
     let first = c.is_ahead.ensures c.if-not-is_ahead.false in
     let ahead : IsAhead c.args.best.now c.end_walk.result.start at =
     subst (λ x. IsAhead c.args.best.now x at) (sym start)
     (ahead_later c.args.best.now t.start c.args.at at (let f = first.0 in omega (arith, f, c.run-ended.ensures.later)) first.1) in
-    turns_by rule s n c.args.course.hi width from last at c.move_alone.new.scratch.insertions c.end_walk.new.scratch.insertions
-    c.move_alone.new.scratch.curr c.end_walk.new.scratch.curr c.args.best.now (Some c.end_walk.result) c.move_alone.new.scratch.found.items
-    c.end_walk.new.scratch.found.items here c.run-ended.ensures.within
-    (subst (λ w. Turns rule s w last at c.move_alone.new.scratch.curr c.end_walk.new.scratch.curr c.args.best.now (Some c.end_walk.result)
-    c.move_alone.new.scratch.found.items c.end_walk.new.scratch.found.items) wide (c.end_walk.ensures.turns rule c.args.best.now ahead))
-    (subst (λ w. IsLined (seen_by c.args.course g.text) n c.args.course.hi w (at + 1) c.end_walk.new.scratch.insertions c.end_walk.new.scratch.curr) wide
-    c.end_walk.ensures.lined)
-    c.end_walk.ensures.counted
-    (omega (arith, c.end_walk.ensures.few, c.run-ended.ensures.place_in))
+    widened wide
+    (turns_by (widened (sym wide) (gone g (goal.at.returns-clause-come g c).After-move_alone rule from e p)) c.run-ended.ensures.within
+    (c.end_walk.ensures.turns rule c.args.best.now ahead) c.end_walk.ensures.lined c.end_walk.ensures.counted
+    (omega (arith, c.end_walk.ensures.few, c.run-ended.ensures.place_in)))

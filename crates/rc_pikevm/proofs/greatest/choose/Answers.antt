@@ -25,4 +25,4 @@ returns-clause-chosen g c =
     (omega (arith, c.if-lo-hi.false, c.bounds-lo.ensures.low, c.bounds-lo.ensures.high))
     (subst (λ x. IsTop (SomeSpells (sight_of s) [] (starting x c.starts_of-pattern.result.1)) (option_map span_of c.reach_end.result)) c.bounds-lo.ensures.low
     (subst (λ q. IsTop (SomeSpells (sight_of q) [] (starting c.bounds-lo.result.0 c.starts_of-pattern.result.1)) (option_map span_of c.reach_end.result))
-    (kept_seen c.args.program.now c.args.input.now c.bounds-lo.new.input c.bounds-lo.ensures.keeps) c.reach_end.ensures.top))
+    (kept_seen c.args.program.now c.bounds-lo.ensures.keeps) c.reach_end.ensures.top))

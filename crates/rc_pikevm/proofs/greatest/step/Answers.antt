@@ -9,8 +9,7 @@ use Rattle.rc_pikevm.proofs.greatest.step.Goals as goal
 
 pub threads-init : goal.threads-init
 threads-init g c = record {
-  spreading = spreading_begins (seen_from c.args.spot.now g.text) (size c.args.spot.now.course) c.args.spot.now.course.hi c.args.spot.now.at c.args.curr.now.items
-      c.args.growth.now.threads c.args.best.now c.args.growth.now.entered c.requires.1.0.no_threads c.requires.1.0.no_places c.requires.1.0.capacity
+  spreading = spreading_begins c.requires.1.0.no_threads c.requires.1.0.no_places c.requires.1.0.capacity
       (omega (arith, c.requires.1.0.room)) c.requires.1.1.0;
 }
 
@@ -20,9 +19,7 @@ push-requires-clause-room g c =
 
 pub threads-preserved-then-head-spot : goal.threads-preserved-then-head-spot
 threads-preserved-then-head-spot g c = record {
-  spreading = spreading_waits (seen_from c.args.spot.now g.text) (size c.args.spot.now.course) c.args.spot.now.course.hi c.args.spot.now.at
-      c.args.curr.now.items c.args.growth.now.threads c.args.best.now c.threads.growth.threads c.threads.growth.entered c.threads.best c.threads.index
-      (thread_of c.get.result.0 c.get.result.1.now) c.get.ensures.item c.requires.1.0.inside c.threads.invariant.spreading c.push.new.self
+  spreading = spreading_waits c.threads.index c.get.ensures.item c.requires.1.0.inside c.threads.invariant.spreading
       (omega (arith, c.if-head-spot.true)) c.requires.1.0.room c.push.ensures;
 }
 
@@ -35,9 +32,7 @@ spread-requires g c = (
     (
       c.threads.invariant.spreading.gone.sound,
       (
-        ordered_here (seen_from c.args.spot.now g.text) (size c.args.spot.now.course) c.args.spot.now.course.hi c.args.spot.now.at c.args.curr.now.items
-            c.args.growth.now.threads c.args.best.now c.threads.growth.threads c.threads.growth.entered c.threads.best c.threads.index
-            (thread_of c.get.result.0 c.get.result.1.now) c.get.ensures.item c.requires.1.0.inside c.threads.invariant.spreading,
+        ordered_here c.threads.index c.get.ensures.item c.requires.1.0.inside c.threads.invariant.spreading,
         omega (arith, c.threads.invariant.spreading.gone.same_width, c.requires.1.1.1),
       ),
     ),
@@ -46,11 +41,9 @@ spread-requires g c = (
 
 pub threads-preserved : goal.threads-preserved
 threads-preserved g c = record {
-  spreading = spreading_closes (seen_from c.args.spot.now g.text) (size c.args.spot.now.course) c.args.spot.now.course.hi c.args.spot.now.at c.args.curr.now.items
-      c.args.growth.now.threads c.args.best.now c.threads.growth.threads c.threads.growth.entered c.threads.best c.threads.index
-      (thread_of c.get.result.0 c.get.result.1.now) c.get.ensures.item c.requires.1.0.inside c.threads.invariant.spreading
-      c.spread.new.growth.threads c.spread.new.growth.entered c.spread.new.best (omega (arith, c.if-head-spot.false))
-      c.spread.ensures.seeks c.spread.ensures.grown c.spread.ensures.ordered c.spread.ensures.counted c.spread.ensures.some;
+  spreading = spreading_closes c.threads.index c.get.ensures.item c.requires.1.0.inside c.threads.invariant.spreading
+      (omega (arith, c.if-head-spot.false)) c.spread.ensures.seeks c.spread.ensures.grown c.spread.ensures.ordered c.spread.ensures.counted
+      c.spread.ensures.some;
 }
 
 pub returns-clause-seeks : goal.returns-clause-seeks

@@ -21,10 +21,7 @@ threads-init g c =
 
 pub threads-preserved-then-not-is_sought : goal.threads-preserved-then-not-is_sought
 threads-preserved-then-not-is_sought g c = record {
-  running = run_drops (seen_from c.args.spot.now g.text) (size c.args.spot.now.course) c.args.spot.now.course.hi c.args.spot.now.at c.args.curr.now.items
-      c.args.growth.now.threads c.args.best.now c.args.found.now
-      c.threads.growth.threads c.threads.growth.entered c.threads.best c.threads.found c.threads.index (thread_of c.get.result.0 c.get.result.1.now)
-      c.get.ensures.item c.requires.1.0.inside c.threads.invariant.running c.if-not-is_sought.ensures;
+  running = run_drops c.threads.index c.get.ensures.item c.requires.1.0.inside c.threads.invariant.running c.if-not-is_sought.ensures;
 }
 
 pub push-requires-clause-room : goal.push-requires-clause-room
@@ -33,11 +30,8 @@ push-requires-clause-room g c =
 
 pub threads-preserved-then-head-spot : goal.threads-preserved-then-head-spot
 threads-preserved-then-head-spot g c = record {
-  running = run_waits (seen_from c.args.spot.now g.text) (size c.args.spot.now.course) c.args.spot.now.course.hi c.args.spot.now.at c.args.curr.now.items
-      c.args.growth.now.threads c.args.best.now c.args.found.now
-      c.threads.growth.threads c.threads.growth.entered c.threads.best c.threads.found c.threads.index (thread_of c.get.result.0 c.get.result.1.now)
-      c.get.ensures.item c.requires.1.0.inside c.threads.invariant.running
-      c.push.new.self c.if-not-is_sought.ensures (omega (arith, c.if-head-spot.true)) c.requires.1.0.room c.push.ensures;
+  running = run_waits c.threads.index c.get.ensures.item c.requires.1.0.inside c.threads.invariant.running c.if-not-is_sought.ensures
+      (omega (arith, c.if-head-spot.true)) c.requires.1.0.room c.push.ensures;
 }
 
 pub way_in-place-requires : goal.way_in-place-requires
@@ -52,13 +46,9 @@ way_in-place-requires g c = (
 
 pub threads-preserved : goal.threads-preserved
 threads-preserved g c = record {
-  running = run_closes (seen_from c.args.spot.now g.text) (size c.args.spot.now.course) c.args.spot.now.course.hi c.args.spot.now.at c.args.curr.now.items
-      c.args.growth.now.threads c.args.best.now c.args.found.now
-      c.threads.growth.threads c.threads.growth.entered c.threads.best c.threads.found c.threads.index (thread_of c.get.result.0 c.get.result.1.now)
-      c.get.ensures.item c.requires.1.0.inside c.threads.invariant.running
-      c.spread.new.growth.threads c.spread.new.growth.entered c.spread.new.best c.spread.new.found c.way_in-place.result c.copy_row.new.slots.items
-      c.if-not-is_sought.ensures (omega (arith, c.if-head-spot.false)) (sym c.copy_row.ensures.items) c.way_in-place.ensures.way
-      c.spread.ensures.races c.spread.ensures.grown c.spread.ensures.counted c.spread.ensures.some;
+  running = run_closes c.threads.index c.get.ensures.item c.requires.1.0.inside c.threads.invariant.running c.if-not-is_sought.ensures
+      (omega (arith, c.if-head-spot.false)) (sym c.copy_row.ensures.items) c.way_in-place.ensures.way c.spread.ensures.races
+      c.spread.ensures.grown c.spread.ensures.counted c.spread.ensures.some;
 }
 
 pub returns-clause-races : goal.returns-clause-races

@@ -1,9 +1,7 @@
 use Rattle.std.proofs.Common.{◌+◌, ◌-◌}
 use Rattle.rc_text.specs.Text.{Keeps}
-use Rattle.rc_pikevm.specs.Moves.{seen_by}
-use Rattle.rc_pikevm.specs.Near.{size}
-use Rattle.rc_pikevm.specs.Rules.{IsUnderWay}
 use Rattle.rc_pikevm.specs.Scratches.{IsSame}
+use Rattle.rc_pikevm.specs.Underway.{HasCome}
 use Rattle.rc_pikevm.specs.Windows.{IsWindow, IsBegun}
 use Rattle.rc_pikevm.proofs.pass.pass.Given as goal
 
@@ -12,8 +10,7 @@ invariant-positions g l = record {
   keeps : Keeps g.text l.input;
   window : IsWindow g.text l.window;
   begun : IsBegun g.text l.at l.window;
-  come : IsUnderWay l.rule (seen_by l.course g.text) (size l.course) l.course.hi l.fn.scratch.next.threads.width l.from l.course.last l.at
-      l.scratch.insertions l.scratch.curr l.best l.scratch.found.items;
+  come : HasCome l.rule l.course g.text l.fn.scratch.next.threads.width l.from l.at l.scratch l.best;
   same : IsSame l.fn.scratch l.scratch;
 }
 

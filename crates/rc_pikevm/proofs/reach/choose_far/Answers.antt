@@ -6,10 +6,12 @@ use Rattle.rc_program.proofs.AnswerLemmas.{last_start_of}
 use Rattle.rc_pikevm.specs.Passing.{GivesTraceTo, best_of}
 use Rattle.rc_pikevm.specs.Reach.{IsStillOn}
 use Rattle.rc_pikevm.specs.Sights.{IsUpTo, sight_of}
+use Rattle.rc_pikevm.specs.declared.rule.Rule.TheVariants.{First}
 use Rattle.rc_pikevm.proofs.KeptLemmas.{kept_seen}
 use Rattle.rc_pikevm.proofs.ReachLemmas.{picked, search_inside, settles, settled_whole}
+use Rattle.rc_pikevm.proofs.RuleLemmas.{outside_by}
 use Rattle.rc_pikevm.proofs.SharpLemmas.{sharp}
-use Rattle.rc_pikevm.proofs.SearchLemmas.{last_found, outside_chosen}
+use Rattle.rc_pikevm.proofs.SearchLemmas.{last_found}
 use Rattle.rc_pikevm.proofs.reach.choose_far.Given.{Over}
 use Rattle.rc_pikevm.proofs.reach.choose_far.Goals as goal
 use Rattle.rc_pikevm.proofs.reach.choose_far.Goals.{After-pass_far-best}
@@ -30,11 +32,11 @@ gives g c limit up =
     c.starts_of-pattern.result.1 (best_of c.pass_far-best.result.0 c.pass_far-best.new.scratch.found.items)) c.bounds-lo.ensures.low
     (subst (λ s. GivesTraceTo limit (sight_of s) c.args.scratch.now.next.threads.width c.bounds-lo.result.0
     c.starts_of-pattern.result.1 (best_of c.pass_far-best.result.0 c.pass_far-best.new.scratch.found.items))
-    (kept_seen c.args.program.now c.args.input.now c.bounds-lo.new.input c.bounds-lo.ensures.keeps) (c.pass_far-best.ensures.gives limit up))
+    (kept_seen c.args.program.now c.bounds-lo.ensures.keeps) (c.pass_far-best.ensures.gives limit up))
 
 pub returns-then-lo-hi-clause-chosen : goal.returns-then-lo-hi-clause-chosen
 returns-then-lo-hi-clause-chosen g c =
-    outside_chosen (search_of c.args.program.now c.args.input.now) (omega (arith, c.if-lo-hi.true, c.bounds-lo.ensures.low, c.bounds-lo.ensures.high))
+    outside_by (First 0) (search_of c.args.program.now c.args.input.now) (omega (arith, c.if-lo-hi.true, c.bounds-lo.ensures.low, c.bounds-lo.ensures.high))
 
 pub returns-then-lo-hi-clause-settled : goal.returns-then-lo-hi-clause-settled
 returns-then-lo-hi-clause-settled g c =
@@ -75,6 +77,6 @@ returns-clause-sharp g c within r reads =
     let at : ℕ = c.pass_far-best.result.1 in
     let live = subst (λ lo. (at ≡ 0) ⊎ IsStillOn (at - 1) (sight_of s) lo c.starts_of-pattern.result.1 at) c.bounds-lo.ensures.low
     (subst (λ t. (at ≡ 0) ⊎ IsStillOn (at - 1) (sight_of t) c.bounds-lo.result.0 c.starts_of-pattern.result.1 at)
-    (kept_seen c.args.program.now c.args.input.now c.bounds-lo.new.input c.bounds-lo.ensures.keeps) c.pass_far-best.ensures.sharp) in
+    (kept_seen c.args.program.now c.bounds-lo.ensures.keeps) c.pass_far-best.ensures.sharp) in
     sharp s c.starts_of-pattern.result.1 at (last_is g (goal.at.returns-clause-sharp g c).After-pass_far-best) live
     c.up_to_slice_end-reach.result (omega (arith, c.up_to_slice_end-reach.ensures.value, c.saturating_add.ensures)) r reads

@@ -8,14 +8,17 @@ use Rattle.rc_pikevm.specs.Moves.{seen_by}
 use Rattle.rc_pikevm.specs.Near.{seen_from, size}
 use Rattle.rc_pikevm.specs.Sights.{Sight, IsUpTo}
 use Rattle.rc_pikevm.specs.Trace.{Trace}
-use Rattle.rc_pikevm.specs.Passing.{CarriesTo, GivesTraceTo, IsLined, IsPassing, PendingTo, best_of, waiting_starts}
+use Rattle.rc_pikevm.specs.Passing.{CarriesTo, GivesTraceTo, IsLined, PendingTo, best_of, waiting_starts}
+use Rattle.rc_pikevm.specs.Underway.{HasCome, IsInLine}
 use Rattle.rc_pikevm.specs.declared.pass.Ending.{Ending}
+use Rattle.rc_pikevm.specs.declared.rule.Rule.TheVariants.{First}
 use Rattle.rc_pikevm.proofs.KeptLemmas.{kept_back, kept_then, kept_window, kept_begun, kept_around, begun_later}
-use Rattle.rc_pikevm.proofs.PassingLemmas.{begins_to, counts_fit, done_to, none_in, passing_begins, passing_turns}
+use Rattle.rc_pikevm.proofs.PassingLemmas.{begins_to, counts_fit, done_to, none_in}
 use Rattle.rc_pikevm.proofs.ReachLemmas.{up_to_less}
 use Rattle.rc_pikevm.proofs.RootLemmas.{stands_itself}
 use Rattle.rc_pikevm.proofs.SharpLemmas.{first_waits, still_on}
 use Rattle.rc_pikevm.proofs.StartLemmas.{waiting_over}
+use Rattle.rc_pikevm.proofs.UnderwayLemmas.{begins_by, turns_by}
 use Rattle.rc_pikevm.proofs.reach.pass_far.Given.{Over}
 use Rattle.rc_pikevm.proofs.reach.pass_far.Goals as goal
 use Rattle.rc_pikevm.proofs.reach.pass_far.Goals.{After-turn-best}
@@ -25,17 +28,16 @@ positions-init g c =
     let s : Sight = seen_by c.args.course g.text in
     let no_items = ap (λ (l : ThreadList). l.items) c.clear.ensures in
     record {
-      keeps = kept_then g.text c.args.input.now c.open-window.new.input c.requires.1.0 c.open-window.ensures.keeps;
-      window = kept_window c.args.input.now g.text c.open-window.result (kept_back g.text c.args.input.now c.requires.1.0) c.open-window.ensures.window;
-      begun = kept_begun c.args.input.now g.text c.args.from c.open-window.result (kept_back g.text c.args.input.now c.requires.1.0) c.open-window.ensures.begun;
-      come = passing_begins s (size c.args.course) c.args.course.hi c.args.scratch.now.next.threads.width
-          c.args.from c.args.course.last c.clear.new.self c.args.scratch.now.found.items no_items
+      keeps = kept_then c.requires.1.0 c.open-window.ensures.keeps;
+      window = kept_window (kept_back c.requires.1.0) c.open-window.ensures.window;
+      begun = kept_begun (kept_back c.requires.1.0) c.open-window.ensures.begun;
+      come = begins_by refl no_items
           (let w = ap (λ (l : ThreadList). l.width) c.clear.ensures in
           omega (arith, w, c.len.ensures, c.args.scratch.now.next.wide.0, c.args.scratch.now.next.slots.ok.0))
           (let r = ap (λ (l : ThreadList). l.room) c.clear.ensures in omega (arith, r, c.args.scratch.now.alike.0, c.requires.1.1.1.1.room))
-          c.requires.1.1.1.0.1 c.args.course.ordered;
-      carries = λ limit up o x. begins_to s (size c.args.course) c.args.course.hi c.args.scratch.now.next.threads.width
-          c.args.from c.args.course.last limit c.clear.new.self.items c.args.scratch.now.found.items no_items c.requires.1.1.1.0.1 o x;
+          c.requires.1.1.1.0.1;
+      carries = λ limit up o x. begins_to s c.args.scratch.now.next.threads.width c.args.from c.args.course.last limit c.clear.new.self.items
+          c.args.scratch.now.found.items no_items c.requires.1.1.1.0.1 o x;
       ended = λ x le. tt;
       live = inr (refl, c.requires.1.1.1.0.1);
       same = record { capacity = refl; room = refl; most = refl; width = refl };
@@ -49,18 +51,18 @@ reach-requires-clause-inside g c =
 
 pub reach-requires-clause-begun : goal.reach-requires-clause-begun
 reach-requires-clause-begun g c =
-    let inv = c.positions.invariant in kept_begun g.text c.positions.input c.positions.at c.positions.window inv.keeps inv.begun
+    let inv = c.positions.invariant in kept_begun inv.keeps inv.begun
 
 pub spot_at-requires : goal.spot_at-requires
 spot_at-requires g c =
-    let back = kept_back g.text c.positions.input c.positions.invariant.keeps in
+    let back = kept_back c.positions.invariant.keeps in
     let r = c.reach.ensures in (
       c.requires.1.1.0,
       (
-        kept_window c.positions.input g.text c.reach.new.window back r.window,
+        kept_window back r.window,
         (
-          kept_begun c.positions.input g.text c.positions.at c.reach.new.window back r.begun,
-          (kept_around c.positions.input g.text c.positions.at c.reach.new.window back r.around, c.positions-test.true),
+          kept_begun back r.begun,
+          (kept_around back r.around, c.positions-test.true),
         ),
       ),
     )
@@ -93,8 +95,7 @@ turn-best-requires g c =
 -- the threads have gone on
 abbrev Turned : (g : Over) → After-turn-best g → Type 0
 Turned g c =
-    IsPassing (seen_by c.args.course g.text) (size c.args.course) c.args.course.hi c.args.scratch.now.next.threads.width c.args.from c.args.course.last
-    (c.positions.at + 1) c.turn-best.new.scratch.insertions c.turn-best.new.scratch.curr c.turn-best.result c.turn-best.new.scratch.found.items
+    HasCome (First 0) c.args.course g.text c.args.scratch.now.next.threads.width c.args.from (c.positions.at + 1) c.turn-best.new.scratch c.turn-best.result
 
 carried : (g : Over) (c : After-turn-best g) (limit : Option ℕ) → IsUpTo c.positions.at limit → (o : Option Trace) →
     PendingTo limit (seen_by c.args.course g.text) c.args.scratch.now.next.threads.width c.args.course.last (c.positions.at + 1) c.turn-best.new.scratch.curr.items
@@ -113,15 +114,10 @@ carried g c limit up o x =
 
 turned : (g : Over) (c : After-turn-best g) → Turned g c
 turned g c =
-    let n : ℕ = size c.args.course in
-    let at : ℕ = c.positions.at in
     let wide = c.positions.invariant.same.width in
     let lined = rw (c.spot_at.ensures.course, c.spot_at.ensures.at) at c.turn-best.ensures.lined in
-    passing_turns (seen_by c.args.course g.text) n c.args.course.hi c.args.scratch.now.next.threads.width c.args.from c.args.course.last at
-    c.positions.scratch.insertions c.turn-best.new.scratch.insertions c.positions.scratch.curr c.turn-best.new.scratch.curr c.positions.best c.turn-best.result
-    c.positions.scratch.found.items c.turn-best.new.scratch.found.items c.positions.invariant.come c.positions-test.true
-    (λ o x. carried g c None tt o x)
-    (subst (λ w. IsLined (seen_by c.args.course g.text) n c.args.course.hi w (at + 1) c.turn-best.new.scratch.insertions c.turn-best.new.scratch.curr) wide lined)
+    turns_by c.positions.invariant.come c.positions-test.true (λ o x. carried g c None tt o x)
+    (subst (λ w. IsInLine c.args.course g.text w (c.positions.at + 1) c.turn-best.new.scratch) wide lined)
     c.turn-best.ensures.counted (rw c.spot_at.ensures.course at c.turn-best.ensures.few)
 
 -- what it has carried from its starts on
@@ -142,12 +138,13 @@ pub positions-preserved : goal.positions-preserved
 positions-preserved g c =
     let inv = c.positions.invariant in
     let after = goal.at.positions-preserved g c in
-    let back = kept_back g.text c.positions.input inv.keeps in
+    let back = kept_back inv.keeps in
+    let there = turned g after.After-turn-best in
     record {
-      keeps = kept_then g.text c.positions.input c.reach.new.input inv.keeps c.reach.ensures.keeps;
-      window = kept_window c.positions.input g.text c.reach.new.window back c.reach.ensures.window;
-      begun = begun_later g.text c.positions.at c.reach.new.window (kept_begun c.positions.input g.text c.positions.at c.reach.new.window back c.reach.ensures.begun);
-      come = turned g after.After-turn-best;
+      keeps = kept_then inv.keeps c.reach.ensures.keeps;
+      window = kept_window back c.reach.ensures.window;
+      begun = begun_later (kept_begun back c.reach.ensures.begun);
+      come = record { law = there.law; lined = there.lined; ended = there.ended; few = there.few; reached = there.reached; within = there.within };
       carries = λ limit up o x. given g after.After-turn-best limit (up_to_less c.positions.at (c.positions.at + 1 - 1) limit (omega arith) up) o x;
       ended = λ x le. (rw c.spot_at.ensures.at at c.turn-best.ensures.ends) x (omega (arith, le)) (inv.ended x (omega (arith, le)));
       live = c.if-not-goes_on.ensures;
@@ -165,7 +162,7 @@ returns-then-not-goes_on-clause-gives g c limit up =
     let width : ℕ = c.args.scratch.now.next.threads.width in
     let last : ℕ = c.args.course.last in
     let at : ℕ = c.positions.at in
-    done_to (seen_by c.args.course g.text) (size c.args.course) c.args.course.hi width c.args.from last limit (at + 1)
+    done_to (seen_by c.args.course g.text) width c.args.from last limit (at + 1)
     c.turn-best.new.scratch.curr.items c.turn-best.result c.turn-best.new.scratch.found.items
     (λ o x. given g (goal.at.returns-then-not-goes_on-clause-gives g c).After-turn-best limit up o x) done.0
     (⊎_elim (λ e. ap (λ b. waiting_starts b width (at + 1) last) e) (λ l. waiting_over (is_none c.turn-best.result) width (at + 1) last (omega (arith, l))) done.1)
@@ -183,7 +180,7 @@ returns-clause-gives g c limit up =
     let width : ℕ = c.args.scratch.now.next.threads.width in
     let last : ℕ = c.args.course.last in
     let at : ℕ = c.positions.at in
-    done_to (seen_by c.args.course g.text) (size c.args.course) c.args.course.hi width c.args.from last limit at
+    done_to (seen_by c.args.course g.text) width c.args.from last limit at
     c.positions.scratch.curr.items c.positions.best c.positions.scratch.found.items
     (λ o x. inv.carries limit (up_to_less (at - 1) c.args.course.hi limit (omega (arith, inv.come.within)) up) o x)
     (ap length (none_in (size c.args.course) at (min c.args.course.hi (at + 3)) c.positions.scratch.curr.items inv.come.lined.inside

@@ -2,11 +2,12 @@ use Rattle.std.proofs.Common.{◌≡◌, ℕ, ◌+◌, ◌-◌, ◌<◌, ◌≤�
 use Rattle.std.specs.Bool.{⊤}
 use Rattle.rc_text.specs.Text.{Keeps}
 use Rattle.rc_pikevm.specs.Moves.{seen_by}
-use Rattle.rc_pikevm.specs.Near.{size}
-use Rattle.rc_pikevm.specs.Passing.{GivesTraceTo, IsPassing, PendingTo}
+use Rattle.rc_pikevm.specs.Passing.{GivesTraceTo, PendingTo}
 use Rattle.rc_pikevm.specs.Scratches.{IsSame}
 use Rattle.rc_pikevm.specs.Sights.{IsUpTo}
 use Rattle.rc_pikevm.specs.Trace.{Trace}
+use Rattle.rc_pikevm.specs.Underway.{HasCome}
+use Rattle.rc_pikevm.specs.declared.rule.Rule.TheVariants.{First}
 use Rattle.rc_pikevm.specs.Windows.{IsWindow, IsBegun}
 use Rattle.rc_pikevm.proofs.reach.pass_far.Given as goal
 
@@ -15,8 +16,7 @@ invariant-positions g l = record {
   keeps : Keeps g.text l.input;
   window : IsWindow g.text l.window;
   begun : IsBegun g.text l.at l.window;
-  come : IsPassing (seen_by l.course g.text) (size l.course) l.course.hi l.fn.scratch.next.threads.width l.from l.course.last l.at
-      l.scratch.insertions l.scratch.curr l.best l.scratch.found.items;
+  come : HasCome (First 0) l.course g.text l.fn.scratch.next.threads.width l.from l.at l.scratch l.best;
   carries : (limit : Option ℕ) → IsUpTo (l.at - 1) limit → (o : Option Trace)
       → PendingTo limit (seen_by l.course g.text) l.fn.scratch.next.threads.width l.course.last l.at l.scratch.curr.items l.best
       l.scratch.found.items o

@@ -19,7 +19,7 @@ returns-clause-found g c =
     let s : Search = search_of c.args.program.now c.args.input.now in
     let told : Tells (sight_of s) c.bounds-lo.result.0 c.starts_of-pattern.result.1 c.pass.result =
     subst (λ s. Tells (sight_of s) c.bounds-lo.result.0 c.starts_of-pattern.result.1 c.pass.result)
-    (kept_seen c.args.program.now c.args.input.now c.bounds-lo.new.input c.bounds-lo.ensures.keeps) c.pass.ensures.tells in
+    (kept_seen c.args.program.now c.bounds-lo.ensures.keeps) c.pass.ensures.tells in
     tells_greatest s c.starts_of-pattern.result.1 c.pass.result
     (last_found s c.starts_of-pattern.result.1
     c.bounds-lo.result.0 c.bounds-lo.result.1 (anchoring_of c.get_anchored.result) c.starts_of-pattern.ensures.last c.bounds-lo.ensures.low

@@ -26,7 +26,7 @@ returns-clause-adds g c =
     (omega (arith, c.if-lo-hi.false, c.bounds-lo.ensures.low, c.bounds-lo.ensures.high))
     (subst (λ x. MarksFrom (sight_of s) x c.starts_of-pattern.result.1 c.wanted-first.result.0 c.wanted-first.result.1 c.args.set.now c.pass.new.set) c.bounds-lo.ensures.low
     (subst (λ q. MarksFrom (sight_of q) c.bounds-lo.result.0 c.starts_of-pattern.result.1 c.wanted-first.result.0 c.wanted-first.result.1 c.args.set.now c.pass.new.set)
-    (kept_seen c.args.program.now c.args.input.now c.bounds-lo.new.input c.bounds-lo.ensures.keeps) c.pass.ensures.marks))
+    (kept_seen c.args.program.now c.bounds-lo.ensures.keeps) c.pass.ensures.marks))
     (λ p few low allowed. c.wanted-first.ensures p few low
     (subst (λ o. IsTrue (is_match_place o (accept p)))
     (sym (c.starts_of-pattern.ensures.pattern ∙ ap (λ a. only (anchoring_of a)) (c.get_anchored.ensures ∙ c.bounds-lo.ensures.keeps.anchored))) allowed))

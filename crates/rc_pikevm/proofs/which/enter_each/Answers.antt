@@ -1,5 +1,5 @@
 use Rattle.rc_pikevm.specs.Fronts.{front_first, front_next}
-use Rattle.rc_pikevm.specs.Near.{seen_from, size}
+use Rattle.rc_pikevm.specs.Near.{seen_from}
 use Rattle.rc_pikevm.proofs.FrontLemmas.{none_set_out, way_left_out, way_set_out}
 use Rattle.rc_pikevm.proofs.which.enter_each.Goals as goal
 use Rattle.rc_pikevm.proofs.which.enter_each.Goals.{else-not-is_idle, then-not-is_idle}
@@ -8,8 +8,7 @@ pub patterns-init : goal.patterns-init
 patterns-init g c = record {
   front = front_first;
   inside = c.requires.1.0;
-  set_out = none_set_out (seen_from c.args.spot.now g.text) (size c.args.spot.now.course) c.args.spot.now.course.hi c.args.spot.now.at
-      c.args.growth.now.threads c.args.growth.now.entered c.args.set.now c.requires.1.1.1.0;
+  set_out = none_set_out c.requires.1.1.1.0;
 }
 
 pub patterns-preserved : goal.patterns-preserved
@@ -24,15 +23,11 @@ patterns-preserved g c =
       set_out = elim c.if-not-is_idle.branch [
         | then-not-is_idle w ↦
             rw (w.set-is, w.growth-is)
-            (way_set_out s (size spot.course) spot.course.hi spot.at c.args.growth.now.threads c.args.growth.now.entered c.args.set.now
-            c.patterns.place c.in-Some.first c.in-Some.next c.patterns.growth.threads c.patterns.growth.entered c.patterns.set i.set_out ways.fresh ways.choice
-            w.spread.new.growth.threads w.spread.new.growth.entered w.spread.new.set
-            w.spread.ensures.same w.spread.ensures.long w.spread.ensures.more w.spread.ensures.grown)
+            (way_set_out i.set_out ways.fresh ways.choice w.spread.ensures.same w.spread.ensures.long w.spread.ensures.more
+            w.spread.ensures.grown)
         | else-not-is_idle w ↦
             rw (w.set-is, w.growth-is)
-            (way_left_out s (size spot.course) spot.course.hi spot.at c.args.growth.now.threads c.args.growth.now.entered c.args.set.now
-            c.patterns.place c.in-Some.first c.in-Some.next c.patterns.growth.threads c.patterns.growth.entered c.patterns.set i.set_out ways.fresh ways.choice
-            c.patterns.number (c.is_idle.ensures w.if-not-is_idle.false)
+            (way_left_out i.set_out ways.fresh ways.choice c.patterns.number (c.is_idle.ensures w.if-not-is_idle.false)
             (c.requires.1.1.0 c.patterns.number c.patterns.place c.in-Some.first c.in-Some.next i.front ways.choice))
       ];
     }

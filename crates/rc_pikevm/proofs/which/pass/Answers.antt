@@ -5,7 +5,7 @@ use Rattle.rc_pikevm.specs.Moves.{seen_by}
 use Rattle.rc_pikevm.specs.Near.{size}
 use Rattle.rc_pikevm.specs.Marking.{HasNoneBefore, IsMarkingFrom}
 use Rattle.rc_pikevm.specs.Windows.{IsWindow, IsBegun, IsAround}
-use Rattle.rc_pikevm.proofs.KeptLemmas.{kept_back, kept_then, kept_seen_by, kept_window, kept_begun, kept_around, begun_from, begun_later}
+use Rattle.rc_pikevm.proofs.KeptLemmas.{kept_back, kept_then, kept_seen_by, kept_window, kept_begun, kept_around, begun_from, begun_later, same_on}
 use Rattle.rc_pikevm.proofs.PassingLemmas.{counts_fit}
 use Rattle.rc_pikevm.proofs.MarkStepLemmas.{marking_from, marking_skips, marking_turns, marking_done, marking_ends, marking_full, all_then}
 use Rattle.rc_pikevm.proofs.which.pass.Given.{Over}
@@ -14,11 +14,10 @@ use Rattle.rc_pikevm.proofs.which.pass.Goals.{After-next_start-start, After-skip
 
 pub positions-init : goal.positions-init
 positions-init g c = record {
-  keeps = kept_then g.text c.args.input.now c.open-window.new.input c.requires.1.0 c.open-window.ensures.keeps;
-  window = kept_window c.args.input.now g.text c.open-window.result (kept_back g.text c.args.input.now c.requires.1.0) c.open-window.ensures.window;
-  begun = kept_begun c.args.input.now g.text c.args.from c.open-window.result (kept_back g.text c.args.input.now c.requires.1.0) c.open-window.ensures.begun;
-  marking = marking_from (seen_by c.args.course g.text) (size c.args.course) c.args.course.hi c.args.from c.args.course.last c.args.wanted.0 c.args.wanted.1
-      c.args.set.now c.clear.new.self (ap (λ (l : ThreadList). l.items) c.clear.ensures) (ap (λ (l : ThreadList). l.width) c.clear.ensures)
+  keeps = kept_then c.requires.1.0 c.open-window.ensures.keeps;
+  window = kept_window (kept_back c.requires.1.0) c.open-window.ensures.window;
+  begun = kept_begun (kept_back c.requires.1.0) c.open-window.ensures.begun;
+  marking = marking_from (ap (λ (l : ThreadList). l.items) c.clear.ensures) (ap (λ (l : ThreadList). l.width) c.clear.ensures)
       (let r = ap (λ (l : ThreadList). l.room) c.clear.ensures in omega (arith, r, c.args.scratch.now.alike.0, c.requires.1.1.1.1.0.room))
       c.requires.1.1.1.0.1 c.args.course.ordered;
   full = λ p l u. absurd (omega (arith, l, u));
@@ -30,27 +29,24 @@ positions-init g c = record {
 pub next_start-start-requires-clause-none : goal.next_start-start-requires-clause-none
 next_start-start-requires-clause-none g c =
     subst (λ s. HasNoneBefore s c.positions.at c.positions.start)
-    (sym (kept_seen_by c.args.course g.text c.positions.input c.positions.invariant.keeps)) c.positions.invariant.none
+    (sym (kept_seen_by c.args.course c.positions.invariant.keeps)) c.positions.invariant.none
 
 -- no walk begins before the next start
 started : (g : Over) (c : After-next_start-start g) → HasNoneBefore (seen_by c.args.course g.text) c.positions.at c.next_start-start.result
 started g c =
     subst (λ s. HasNoneBefore s c.positions.at c.next_start-start.result)
-    (kept_seen_by c.args.course g.text c.positions.input c.positions.invariant.keeps) c.next_start-start.ensures.none
+    (kept_seen_by c.args.course c.positions.invariant.keeps) c.next_start-start.ensures.none
 
 kept : (g : Over) (c : After-next_start-start g) → Keeps g.text c.next_start-start.new.input
-kept g c = kept_then g.text c.positions.input c.next_start-start.new.input c.positions.invariant.keeps c.next_start-start.ensures.keeps
+kept g c = kept_then c.positions.invariant.keeps c.next_start-start.ensures.keeps
 
 -- the pass has come to the position from which it goes on
 skipped : (g : Over) (c : After-skip_to-at g) → HasNoneBefore (seen_by c.args.course g.text) c.positions.at c.next_start-start.result →
     IsMarkingFrom (seen_by c.args.course g.text) (size c.args.course) c.args.course.hi c.args.from c.args.course.last c.skip_to-at.result
     c.positions.scratch.insertions c.positions.scratch.curr c.args.set.now c.positions.set
 skipped g c none =
-    marking_skips (seen_by c.args.course g.text) (size c.args.course) c.args.course.hi c.args.from c.args.course.last c.args.wanted.0 c.args.wanted.1
-    c.args.set.now c.positions.at c.skip_to-at.result c.next_start-start.result c.positions.scratch.insertions c.positions.scratch.curr c.positions.set
-    c.positions.invariant.marking c.skip_to-at.ensures.within.0
-    (omega (arith, c.skip_to-at.ensures.within.1, c.next_start-start.ensures.within.1))
-    none c.skip_to-at.ensures.idle
+    marking_skips c.next_start-start.result c.positions.invariant.marking c.skip_to-at.ensures.within.0
+    (omega (arith, c.skip_to-at.ensures.within.1, c.next_start-start.ensures.within.1)) none c.skip_to-at.ensures.idle
 
 pub reach-requires-clause-inside : goal.reach-requires-clause-inside
 reach-requires-clause-inside g c =
@@ -60,22 +56,15 @@ reach-requires-clause-inside g c =
 
 pub reach-requires-clause-begun : goal.reach-requires-clause-begun
 reach-requires-clause-begun g c =
-    kept_begun g.text c.next_start-start.new.input c.skip_to-at.result c.positions.window
-    (kept g (goal.at.reach-requires-clause-begun g c).After-next_start-start)
-    (begun_from g.text c.positions.at c.skip_to-at.result c.positions.window c.skip_to-at.ensures.within.0 c.positions.invariant.begun)
+    kept_begun (kept g (goal.at.reach-requires-clause-begun g c).After-next_start-start)
+    (begun_from c.skip_to-at.ensures.within.0 c.positions.invariant.begun)
 
 -- the window shows what is around the position
 shown : (g : Over) (c : After-reach g) → IsWindow g.text c.reach.new.window
     × (IsBegun g.text c.skip_to-at.result c.reach.new.window × IsAround g.text c.skip_to-at.result c.reach.new.window)
 shown g c =
-    let back = kept_back g.text c.next_start-start.new.input (kept_then g.text c.positions.input c.next_start-start.new.input c.positions.invariant.keeps c.next_start-start.ensures.keeps) in
-    let r = c.reach.ensures in (
-      kept_window c.next_start-start.new.input g.text c.reach.new.window back r.window,
-      (
-        kept_begun c.next_start-start.new.input g.text c.skip_to-at.result c.reach.new.window back r.begun,
-        kept_around c.next_start-start.new.input g.text c.skip_to-at.result c.reach.new.window back r.around,
-      ),
-    )
+    let back = kept_back (kept_then c.positions.invariant.keeps c.next_start-start.ensures.keeps) in
+    let r = c.reach.ensures in (kept_window back r.window, (kept_begun back r.begun, kept_around back r.around))
 
 pub spot_at-requires : goal.spot_at-requires
 spot_at-requires g c =
@@ -111,26 +100,20 @@ marks : (g : Over) (c : After-turn g) →
     IsMarkingFrom (seen_by c.args.course g.text) (size c.args.course) c.args.course.hi c.args.from c.args.course.last (c.skip_to-at.result + 1)
     c.turn.new.scratch.insertions c.turn.new.scratch.curr c.args.set.now c.turn.new.set
 marks g c here =
-    marking_turns (seen_by c.args.course g.text) (size c.args.course) c.args.course.hi c.args.from c.args.course.last c.args.wanted.0 c.args.wanted.1
-    c.args.set.now c.skip_to-at.result
-    c.positions.scratch.insertions c.turn.new.scratch.insertions c.positions.scratch.curr c.turn.new.scratch.curr
-    c.positions.set c.turn.new.set here (omega (arith, c.if-at-course.false))
-    (rw (c.spot_at.ensures.course, c.spot_at.ensures.at) at c.turn.ensures.same) c.turn.ensures.long c.turn.ensures.more
-    (rw (c.spot_at.ensures.course, c.spot_at.ensures.at) at c.turn.ensures.lined) (rw c.spot_at.ensures.course at c.turn.ensures.few)
+    marking_turns here (omega (arith, c.if-at-course.false)) (rw (c.spot_at.ensures.course, c.spot_at.ensures.at) at c.turn.ensures.same)
+    c.turn.ensures.long c.turn.ensures.more (rw (c.spot_at.ensures.course, c.spot_at.ensures.at) at c.turn.ensures.lined)
+    (rw c.spot_at.ensures.course at c.turn.ensures.few)
 
 pub returns-then-absent-wanted-clause-marks : goal.returns-then-absent-wanted-clause-marks
 returns-then-absent-wanted-clause-marks g c =
-    marking_full (seen_by c.args.course g.text) (size c.args.course) c.args.course.hi c.args.from c.args.course.last c.args.wanted.0 c.args.wanted.1
-    c.args.set.now c.positions.at c.positions.scratch.insertions c.first_absent-absent.result c.positions.scratch.curr c.positions.set
-    c.positions.invariant.marking
+    marking_full c.first_absent-absent.result c.positions.invariant.marking
     (all_then c.args.wanted.0 c.positions.absent c.first_absent-absent.result c.positions.set c.positions.set (λ p h. h) c.positions.invariant.full
-    c.first_absent-absent.ensures.members) c.if-absent-wanted.true
+    c.first_absent-absent.ensures.members)
+    c.if-absent-wanted.true
 
 pub returns-then-at-course-clause-marks : goal.returns-then-at-course-clause-marks
 returns-then-at-course-clause-marks g c =
-    marking_ends (seen_by c.args.course g.text) (size c.args.course) c.args.course.hi c.args.from c.args.course.last c.args.wanted.0 c.args.wanted.1
-    c.args.set.now c.skip_to-at.result
-    c.positions.scratch.insertions c.positions.scratch.curr c.positions.set (skipped g (goal.at.returns-then-at-course-clause-marks g c).After-skip_to-at
+    marking_ends (skipped g (goal.at.returns-then-at-course-clause-marks g c).After-skip_to-at
     (started g (goal.at.returns-then-at-course-clause-marks g c).After-next_start-start))
     (omega (arith, c.if-at-course.true)) c.args.course.ordered
 
@@ -138,9 +121,7 @@ pub returns-then-is_done-clause-marks : goal.returns-then-is_done-clause-marks
 returns-then-is_done-clause-marks g c =
     let ended = c.is_done.ensures c.if-is_done.true in
     let over : c.args.course.last ≤ c.skip_to-at.result = ⊎_elim (λ e. absurd (true≢false e)) (λ l. l) ended.1 in
-    marking_done (seen_by c.args.course g.text) (size c.args.course) c.args.course.hi c.args.from c.args.course.last c.args.wanted.0 c.args.wanted.1
-    c.args.set.now (c.skip_to-at.result + 1)
-    c.turn.new.scratch.insertions c.turn.new.scratch.curr c.turn.new.set
+    marking_done
     (marks g (goal.at.returns-then-is_done-clause-marks g c).After-turn (skipped g (goal.at.returns-then-is_done-clause-marks g c).After-skip_to-at
     (started g (goal.at.returns-then-is_done-clause-marks g c).After-next_start-start)))
     ended.0 (omega (arith, over))
@@ -156,9 +137,9 @@ positions-preserved g c =
     let inv = c.positions.invariant in
     let r = shown g (goal.at.positions-preserved g c).After-reach in
     record {
-      keeps = kept_then g.text c.next_start-start.new.input c.reach.new.input (kept g (goal.at.positions-preserved g c).After-next_start-start) c.reach.ensures.keeps;
+      keeps = kept_then (kept g (goal.at.positions-preserved g c).After-next_start-start) c.reach.ensures.keeps;
       window = r.0;
-      begun = begun_later g.text c.skip_to-at.result c.reach.new.window r.1.0;
+      begun = begun_later r.1.0;
       marking = marks g (goal.at.positions-preserved g c).After-turn (skipped g (goal.at.positions-preserved g c).After-skip_to-at
           (started g (goal.at.positions-preserved g c).After-next_start-start));
       full = λ p l u.
@@ -166,17 +147,9 @@ positions-preserved g c =
           inv.full c.first_absent-absent.ensures.members p l u);
       near = c.next_start-start.ensures.within.1;
       none = λ y l u. started g (goal.at.positions-preserved g c).After-next_start-start y (omega (arith, l, c.skip_to-at.ensures.within.0)) u;
-      same = record {
-        capacity = c.turn.ensures.kept.capacity ∙ inv.same.capacity;
-        room = c.turn.ensures.kept.room ∙ inv.same.room;
-        most = c.turn.ensures.kept.most ∙ inv.same.most;
-        width = c.turn.ensures.kept.width ∙ inv.same.width;
-      };
+      same = same_on inv.same c.turn.ensures.kept;
     }
 
 pub returns-clause-marks : goal.returns-clause-marks
 returns-clause-marks g c =
-    marking_ends (seen_by c.args.course g.text) (size c.args.course) c.args.course.hi c.args.from c.args.course.last c.args.wanted.0 c.args.wanted.1
-    c.args.set.now c.positions.at
-    c.positions.scratch.insertions c.positions.scratch.curr c.positions.set c.positions.invariant.marking
-    (omega (arith, c.positions-test.false)) c.args.course.ordered
+    marking_ends c.positions.invariant.marking (omega (arith, c.positions-test.false)) c.args.course.ordered

@@ -9,9 +9,7 @@ use Rattle.rc_pikevm.proofs.which.step.Goals as goal
 
 pub threads-init : goal.threads-init
 threads-init g c = record {
-  marking = marking_begins (seen_from c.args.spot.now g.text) (size c.args.spot.now.course) c.args.spot.now.course.hi c.args.spot.now.at c.args.curr.now.items
-      c.args.growth.now.threads c.args.set.now c.args.growth.now.entered c.requires.1.0.no_threads c.requires.1.0.no_places c.requires.1.0.capacity
-      (omega (arith, c.requires.1.0.room));
+  marking = marking_begins c.requires.1.0.no_threads c.requires.1.0.no_places c.requires.1.0.capacity (omega (arith, c.requires.1.0.room));
 }
 
 pub push-requires-clause-room : goal.push-requires-clause-room
@@ -20,9 +18,7 @@ push-requires-clause-room g c =
 
 pub threads-preserved-then-head-spot : goal.threads-preserved-then-head-spot
 threads-preserved-then-head-spot g c = record {
-  marking = marking_waits (seen_from c.args.spot.now g.text) (size c.args.spot.now.course) c.args.spot.now.course.hi c.args.spot.now.at
-      c.args.curr.now.items c.args.growth.now.threads c.args.set.now c.threads.growth.threads c.threads.growth.entered c.threads.set c.threads.index
-      (thread_of c.get.result.0 c.get.result.1.now) c.get.ensures.item c.requires.1.0.inside c.threads.invariant.marking c.push.new.self
+  marking = marking_waits c.threads.index c.get.ensures.item c.requires.1.0.inside c.threads.invariant.marking
       (omega (arith, c.if-head-spot.true)) c.requires.1.0.room c.push.ensures;
 }
 
@@ -38,11 +34,8 @@ spread-requires g c = (
 
 pub threads-preserved : goal.threads-preserved
 threads-preserved g c = record {
-  marking = marking_closes (seen_from c.args.spot.now g.text) (size c.args.spot.now.course) c.args.spot.now.course.hi c.args.spot.now.at c.args.curr.now.items
-      c.args.growth.now.threads c.args.set.now c.threads.growth.threads c.threads.growth.entered c.threads.set c.threads.index
-      (thread_of c.get.result.0 c.get.result.1.now) c.get.ensures.item c.requires.1.0.inside c.threads.invariant.marking
-      c.spread.new.growth.threads c.spread.new.growth.entered c.spread.new.set (omega (arith, c.if-head-spot.false))
-      c.spread.ensures.same c.spread.ensures.long c.spread.ensures.more c.spread.ensures.grown;
+  marking = marking_closes c.threads.index c.get.ensures.item c.requires.1.0.inside c.threads.invariant.marking
+      (omega (arith, c.if-head-spot.false)) c.spread.ensures.same c.spread.ensures.long c.spread.ensures.more c.spread.ensures.grown;
 }
 
 pub returns-clause-same : goal.returns-clause-same
