@@ -1,10 +1,10 @@
 -- Threads in line: none, or one.
-use Rattle.std.proofs.Common.{◌≡◌, ℕ, ◌+◌, ◌-◌, ◌<◌, ◌≤◌, List, [], ◌∷◌, length, min, arith, nat_le, Option}
-use Rattle.std.proofs.lemmas.Bool.{le-leb, lt-leb}
+use Rattle.std.proofs.Common.{◌≡◌, ℕ, ◌+◌, ◌-◌, ◌<◌, ◌≤◌, List, [], ◌∷◌, arith, Option}
+use Rattle.std.proofs.lemmas.Bool.{lt-leb}
 use Rattle.rc_pikevm.specs.Passing.{IsLined}
 use Rattle.rc_pikevm.specs.Readers.{reader_count}
 use Rattle.rc_pikevm.specs.Sights.{Sight}
-use Rattle.rc_pikevm.specs.Threads.{Thread, ThreadList, thread_of}
+use Rattle.rc_pikevm.specs.Threads.{ThreadList, thread_of}
 use Rattle.rc_pikevm.specs.declared.threads.BareThread.{BareThread}
 
 module _ (s : Sight) (n hi width insertions : ℕ) (curr : ThreadList) (wide : curr.width ≡ width) (room : reader_count s.places < curr.room) where

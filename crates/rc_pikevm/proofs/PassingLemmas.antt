@@ -1,5 +1,5 @@
 -- The pass over all positions.
-use Rattle.std.proofs.Common.{◌≡◌, ℕ, suc, ◌+◌, ◌-◌, ◌*◌, ◌^◌, ◌<◌, ◌≤◌, ◌⊎◌, List, [], ◌∷◌, ◌++◌, length, map, sym, subst, refl, arith, Bool, true, false, true≢false, IsTrue, Option, Some, None, is_none}
+use Rattle.std.proofs.Common.{◌≡◌, ℕ, suc, ◌+◌, ◌-◌, ◌*◌, ◌^◌, ◌<◌, ◌≤◌, ◌⊎◌, List, [], ◌∷◌, ◌++◌, length, map, sym, subst, refl, arith, Bool, true, true≢false, IsTrue, Option, Some, None, is_none}
 use Rattle.std.proofs.Math.Nat.{mul-le-mul_left}
 use Rattle.rc_walks.specs.Threads.{IsFirstOf, over}
 use Rattle.rc_pikevm.specs.Sights.{Sight, next_of, next_to, HasNoWalkFrom}

@@ -1,5 +1,5 @@
 -- The pass for the longest walk of the least start over all positions.
-use Rattle.std.proofs.Common.{◌≡◌, ℕ, zero, suc, ◌+◌, ◌-◌, ◌<◌, ◌≤◌, ◌⊎◌, List, [], ◌∷◌, ◌++◌, length, map, inl, inr, ⊎_elim, sym, subst, ap, ◌∙◌, refl, arith, true, IsTrue, Option, Some, None, option_map}
+use Rattle.std.proofs.Common.{◌≡◌, ℕ, zero, suc, ◌+◌, ◌-◌, ◌<◌, ◌≤◌, List, [], ◌∷◌, ◌++◌, length, map, inl, inr, ⊎_elim, sym, subst, ap, ◌∙◌, refl, arith, true, IsTrue, Option, Some, None, option_map}
 use Rattle.std.proofs.lemmas.Bool.{cases_lt}
 use Rattle.rc_walks.specs.Walks.{Pair, HasNoWalk}
 use Rattle.rc_walks.specs.Threads.{passes, AllPast, Pends}

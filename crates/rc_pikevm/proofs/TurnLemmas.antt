@@ -1,5 +1,5 @@
 -- From one position to the next.
-use Rattle.std.proofs.Common.{◌≡◌, ℕ, suc, ◌+◌, ◌-◌, ◌*◌, ◌<◌, ◌≤◌, List, [], ◌∷◌, ◌++◌, length, map, min, inl, inr, ⊎_elim, zero, ◌⊎◌, sym, subst, ap, ◌∙◌, refl, arith, Bool, true, false, Option, Some, None, is_none, is_some, not, true≢false}
+use Rattle.std.proofs.Common.{◌≡◌, ℕ, suc, ◌+◌, ◌-◌, ◌<◌, ◌≤◌, List, [], ◌∷◌, ◌++◌, length, map, min, inl, inr, ⊎_elim, zero, ◌⊎◌, sym, subst, ap, ◌∙◌, refl, arith, Bool, true, false, Option, Some, None, is_none, is_some, not, true≢false}
 use Rattle.std.proofs.lemmas.Bool.{cases_lt}
 use Rattle.std.proofs.lemmas.Option.{none-some, same_Some}
 use Rattle.rc_pikevm.specs.Sights.{Sight}
@@ -11,7 +11,7 @@ use Rattle.rc_text.specs.Text.{Searched}
 use Rattle.rc_program.specs.Scalars.{scalar_at}
 use Rattle.rc_program.specs.Text.{ahead}
 use Rattle.rc_pikevm.specs.Near.{seen_from, size}
-use Rattle.rc_pikevm.specs.Readers.{count_of, reader_count}
+use Rattle.rc_pikevm.specs.Readers.{count_of}
 use Rattle.rc_pikevm.specs.Waiting.{reads_scalar}
 use Rattle.rc_pikevm.specs.Steps.{HasGone, MayStep}
 use Rattle.rc_pikevm.specs.declared.growth.Growth.{Growth}

@@ -8,7 +8,11 @@
 //!      1   a    none                       one sets out at 0; its closure reaches 2 and 4
 //!      2   b    (7, start 1) (5, start 1)  the first matches 1..2, so the second is dropped
 //!
-//! No thread is left, so the pass returns 1..2.
+//! No thread is left, so the pass returns 1..2. For the longest match a match drops threads of
+//! later starts alone. So the second thread stays, reads `b`, and matches 1..3 at the end.
+//!
+//! A `Rule` says which match is sought, and so how the threads go on at a position. A single thread
+//! goes on without lists, and starts from which no walk leads on are skipped (`alone`).
 ghost use Rattle.std.specs.Prelude.{◌≡◌, ℕ, ◌+◌, ◌-◌, ◌*◌, ◌<◌, ◌≤◌, ◌⊎◌, ⊤, List, [], ◌∷◌, ◌++◌, length, map, Option, None, Some, MatchOption, true, false, replicate, ◌^◌, IsTrue, is_none, vec_capacity};
 ghost use Rattle.rc_walks.specs.Walks.{Pair};
 ghost use Rattle.rc_text.specs.Text.{Searched, Keeps, low, high};
