@@ -7,4 +7,5 @@ pub mod Preferred
 pub mod PatternSpans
 pub mod LentRuns
 pub mod Reaching
+pub mod Looking
 pub mod Partials

@@ -17,6 +17,7 @@ ghost use Rattle.rc_build.specs.Refusals.{IsBuildable, IsRefusal, limit_by, limi
 ghost use Rattle.rc_settings.specs.Thompson.{which_captures_of};
 ghost use Rattle.rc_settings.specs.Which.{is_grouped};
 ghost use Rattle.rc_settings.specs.Settings.{settings_of, unset, overwritten, nfa_size_limit_of, program_settings, line_terminator_of, match_kind_of, dfa_of, hybrid_of, hybrid_cache_capacity_of, byte_classes_of, dfa_size_limit_of, dfa_state_limit_of};
+ghost use Rattle.rc_reach.specs.Laws.{greatest_len};
 ghost use Rattle.rc_strategy.specs.Plans.{IsLazyFor};
 ghost use Rattle.api_meta.specs.Plans.{plan_by};
 ghost use Rattle.rc_build.specs.TextRefusals.{AllRead, IsTextRefusal, texts_of};
@@ -215,6 +216,8 @@ fn engines_of(
     requires terminator { engine.program.terminator ≡ line_terminator_of (settings_of config.now) }
     requires kind { engine.kind ≡ match_kind_of (settings_of config.now) }
     ensures engine { IfOk result (λ engines. engines.engine ≡ engine) }
+    ensures bounded { IfOk result (λ engines. engines.spans.greatest
+        ≡ greatest_len (map meaning hirs.now)) }
     ensures planned { IfOk result (λ engines. IfSome engines.lazy
         (IsLazyFor (plan_by (map meaning hirs.now) (settings_of config.now)))) }
 {

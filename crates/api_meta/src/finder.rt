@@ -64,7 +64,7 @@ impl<'r> Finder<'r> {
     ghost use Rattle.rc_reach.specs.Partial.{IsPartial};
     ghost use Rattle.rc_reach.specs.Settled.{IsSettled};
     ghost use Rattle.api_meta.specs.Partials.{IsOnward, partial_of};
-    ghost use Rattle.api_meta.specs.Reached.{IsNear};
+    ghost use Rattle.api_meta.specs.Reached.{IsNear, IsSharp};
     ghost use Rattle.rc_text.specs.declared.types.MatchKind.TheVariants.{LeftmostFirst};
 
     /// Returns a finder for this regex, with a cache of its own. An `Err` means out of memory.
@@ -116,6 +116,8 @@ impl<'r> Finder<'r> {
         ensures within { (IfSome result.found (λ m. m.end ≤ result.reach))
             × (result.reach ≤ slice_end input.old + 1) }
         ensures near { IsNear (regex_kind self.old) (regex_patterns self.old)
+            result.found result.reach }
+        ensures sharp { IsSharp (regex_kind self.old) (sought self.old)
             result.found result.reach }
     {
         self.regex.search_reach_with(&mut self.cache, input)

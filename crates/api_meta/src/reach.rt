@@ -42,7 +42,7 @@ impl Regex {
     ghost use Rattle.rc_text.specs.Bounds.{IsWithinBounds};
     ghost use Rattle.rc_text.specs.Text.{Keeps, slice_end};
     ghost use Rattle.api_meta.specs.Caches.{HasSameRoom, IsCacheFor};
-    ghost use Rattle.api_meta.specs.Reached.{IsNear, TellsBelow};
+    ghost use Rattle.api_meta.specs.Reached.{IsNear, IsSharp, TellsBelow};
     ghost use Rattle.api_meta.specs.Reaching.{EndsSettled, last_start};
     ghost use Rattle.api_meta.specs.Views.{regex_kind, regex_names, regex_patterns, regex_settings, sought};
 
@@ -73,6 +73,8 @@ impl Regex {
         ensures within { (IfSome result.found (λ m. m.end ≤ result.reach))
             × (result.reach ≤ slice_end input.old + 1) }
         ensures near { IsNear (regex_kind self.now) (regex_patterns self.now)
+            result.found result.reach }
+        ensures sharp { IsSharp (regex_kind self.now) (sought self.now)
             result.found result.reach }
     {
         let settled = self.engines.find_settled(&mut cache.inner, input);
@@ -109,6 +111,8 @@ impl Regex {
         ensures within { (IfSome (match_of caps.new) (λ m. m.end ≤ result))
             × (result ≤ slice_end input.old + 1) }
         ensures near { IsNear (regex_kind self.now) (regex_patterns self.now)
+            (match_of caps.new) result }
+        ensures sharp { IsSharp (regex_kind self.now) (sought self.now)
             (match_of caps.new) result }
     {
         let settled = self.engines.settle_captures(&mut cache.inner, input, caps);

@@ -3,6 +3,7 @@
 ghost use Rattle.std.specs.Prelude.{◌≡◌, All, IfSome, None, Some, false, map};
 ghost use Rattle.rc_pattern.specs.WellFormed.{IsWellFormed};
 ghost use Rattle.rc_build.specs.Fits.{Fits};
+ghost use Rattle.rc_reach.specs.Laws.{greatest_len};
 ghost use Rattle.rc_pikevm_search.specs.Choices.{guarding};
 ghost use Rattle.rc_strategy.specs.Plans.{IsLazyFor};
 ghost use Rattle.api_meta.specs.Plans.{plan_by};
@@ -44,6 +45,7 @@ pub struct Regex {
     ghost planned: { ∥ IfSome engines.lazy
         (IsLazyFor (plan_by (map meaning hirs.items) (settings_of config))) ∥₁ },
     ghost measured: { longest ≡ longest_after (Some 0) (map meaning hirs.items) },
+    ghost bounded: { engines.spans.greatest ≡ greatest_len (map meaning hirs.items) },
     ghost well_formed: { ∥ All IsWellFormed (map meaning hirs.items) ∥₁ },
     // No needles, if none are asked for.
     ghost unguarded: { auto_prefilter_of (settings_of config) ≡ false

@@ -1,10 +1,12 @@
 -- How many bytes settle what engines find.
-use Rattle.std.proofs.Common.{◌≡◌, ◌∙◌, ℕ, zero, suc, ◌+◌, ◌-◌, ◌^◌, ◌<◌, ◌≤◌, max, min, true, false, true≢false, List, [], ◌∷◌, take, Option, Some, None, IfSome, ⊎_elim, ap, sym, subst, refl, arith}
+use Rattle.std.proofs.Common.{◌≡◌, ◌∙◌, ℕ, zero, suc, ◌+◌, ◌-◌, ◌^◌, ◌<◌, ◌≤◌, ◌⊎◌, max, min, true, false, true≢false, List, [], ◌∷◌, take, Option, Some, None, IfSome, ⊎_elim, ap, sym, subst, refl, arith}
 use Rattle.std.specs.Prelude.{MatchOption}
 use Rattle.std.specs.Option.{option_map}
 use Rattle.std.proofs.lemmas.Bool.{cases_lt}
+use Rattle.std.proofs.lemmas.Option.{none-some, same_Some}
 use Rattle.std.proofs.lemmas.List.{length-take, take-take}
 use Rattle.rc_text.specs.declared.types.MatchKind.{MatchKind}
+use Rattle.rc_text.specs.declared.types.MatchKind.TheVariants.{All as all_matches}
 use Rattle.rc_program.specs.Answer.{Search}
 use Rattle.rc_program.proofs.GreatestLemmas.{spelled_within}
 use Rattle.rc_program.proofs.KindLemmas.{kinds_law}
@@ -23,7 +25,7 @@ use Rattle.rc_dfa_search.specs.declared.reach.Settled.{Settled}
 use Rattle.rc_dfa_search.proofs.ReachLemmas.{answer_far, itself}
 use Rattle.rc_dfa_search.proofs.SettledLemmas.{agrees_less}
 use Rattle.rc_strategy.specs.Lengths.{BoundsWalks, is_leftmost}
-use Rattle.rc_strategy.specs.Lookahead.{IsLookahead}
+use Rattle.rc_strategy.specs.Lookahead.{IsLookahead, IsNearBy}
 use Rattle.rc_strategy.specs.declared.lengths.Lengths.{Lengths}
 use Rattle.rc_strategy.proofs.NearLemmas.{groups_settled, near_settled, none_settled}
 
@@ -116,6 +118,24 @@ by_length e i k a n r m bound looking is left most fits at =
     (λ over. let one = looking.passing over in omega (arith, at, within, one)) (sym is))
     (cases_lt (2 ^ 64 - 1) (m.start + n + a))
 
+-- where nothing was found, or lengths have no bound
+pub none_near : (kind : MatchKind) (a r : ℕ) (o : Option Found) (greatest : Option ℕ) → (o ≡ None) ⊎ (greatest ≡ None) → IsNearBy kind greatest a o r
+none_near kind a r None greatest none = tt
+none_near kind a r (Some m) greatest none =
+    λ n left most. absurd (⊎_elim (λ never. cc) (λ no. none-some n (sym no ∙ most)) none)
+
+-- a match that is near, by a greatest length
+pub some_near : (kind : MatchKind) (a r q : ℕ) (o : Option Found) (m : Found) (greatest : Option ℕ) (n : ℕ) → o ≡ Some m → greatest ≡ Some n →
+    r ≤ m.start + n + a → q ≤ r → IsNearBy kind greatest a o q
+some_near kind a r q o m greatest n some most near less =
+    subst (λ x. IsNearBy kind greatest a x q) (sym some)
+    (λ k left is. let same = same_Some n k (sym most ∙ is) in omega (arith, same, near, less))
+
+-- the greatest match needn't be
+pub whole_near : (kind : MatchKind) (a r : ℕ) (o : Option Found) (greatest : Option ℕ) → kind ≡ all_matches → IsNearBy kind greatest a o r
+whole_near kind a r None greatest all = tt
+whole_near kind a r (Some m) greatest all = λ n left most. absurd (true≢false (sym left ∙ ap is_leftmost all))
+
 -- the lesser of two counts
 pub lesser : (e : Engine) (i : Searched) (o : Option Found) (m n : ℕ) → IsAnswerBelow e.kind (engine_search e i) m o → IsAnswerBelow e.kind (engine_search e i) n o →
     IsAnswerBelow e.kind (engine_search e i) (min m n) o
@@ -150,6 +170,17 @@ groups_some e i a r q o m looking some h fits at =
     groups_settled e.kind (engine_search e i) a q m (engine_inside e i) looking.looks (omega (arith, at, within)) (sym (answered e i r o h) ∙ some)
     (settled_more e i r q o (omega (arith, at)) h))
     (cases_lt (2 ^ 64 - 1) (m.end + a))
+
+-- groups are settled no farther from the start
+pub groups_near : (e : Engine) (i : Searched) (k : Lengths) (a r q : ℕ) (o : Option Found) (m : Found) → BoundsWalks k (places_of e.program.places.items) → o ≡ Some m →
+    IsAnswerBelow e.kind (engine_search e i) r o → IsNearBy e.kind k.greatest a o r → q ≡ max r (min (m.end + a) (2 ^ 64 - 1)) →
+    IsNearBy e.kind k.greatest a o q
+groups_near e i k a r q o m bound some h near at =
+    subst (λ x. IsNearBy e.kind k.greatest a x q) (sym some)
+    (λ n left most.
+    let less = subst (λ x. IsNearBy e.kind k.greatest a x r) some near n left most in
+    let spelled = kinds_law.spelled e.kind false (engine_search e i) m (sym some ∙ answered e i r o h) in
+    let end = (bound (engine_search e i) m refl spelled).greatest n most in omega (arith, at, less, end))
 
 -- what holds with a match holds with its pattern
 pub slots_by_pattern : (o : Option Found) (A B : Type 0) → MatchOption o A (λ _. B) → MatchOption (option_map (λ (m : Found). m.pattern) o) A (λ _. B)

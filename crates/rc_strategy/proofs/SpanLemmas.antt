@@ -1,5 +1,5 @@
 -- What is known of matches before any search.
-use Rattle.std.proofs.Common.{◌≡◌, ◌∙◌, ℕ, suc, ◌+◌, ◌-◌, ◌<◌, ◌≤◌, ◌⊎◌, inl, inr, ⊎_elim, Bool, true, false, true≢false, ◌&&◌, ◌||◌, List, [], ◌∷◌, ◌++◌, length, take, map, get_or, Option, Some, None, IsTrue, nat_lt, max, ap, sym, subst, refl, arith}
+use Rattle.std.proofs.Common.{◌≡◌, ◌∙◌, ℕ, suc, ◌+◌, ◌-◌, ◌<◌, ◌≤◌, ◌⊎◌, inl, inr, ⊎_elim, Bool, true, false, true≢false, ◌&&◌, ◌||◌, List, [], ◌∷◌, ◌++◌, length, take, map, get_or, Option, Some, None, IsTrue, nat_lt, max, ap, ap₂, sym, subst, refl, arith}
 use Rattle.std.specs.Prelude.{All}
 use Rattle.std.specs.Option.{unwrap_or}
 use Rattle.std.proofs.Math.Seq.{take-suc}
@@ -22,6 +22,7 @@ use Rattle.rc_pattern.specs.Meaning.{meaning}
 use Rattle.rc_pattern.specs.WellFormed.{HasBounds}
 use Rattle.rc_pattern.specs.declared.hir.Hir.{Hir}
 use Rattle.rc_pattern.specs.declared.hir.Look.TheVariants.{Start, End}
+use Rattle.rc_reach.specs.Laws.{greatest_len}
 use Rattle.rc_program.specs.Looks.{side_after, side_before, is_edge}
 use Rattle.rc_program.specs.Text.{Text, holds, behind, beyond}
 use Rattle.rc_program.specs.Program.{Place, place_at, program, shown}
@@ -91,23 +92,51 @@ either_right a b h keep t i j spelled =
     }
 
 -- one more pattern is bound
+-- one pattern more
+longer : (hs : List Hir) (i : ℕ) (d : Hir) → i < length hs → map meaning (take (i + 1) hs) ≡ map meaning (take i hs) ++ meaning (get_or hs i d) ∷ []
+longer hs i d inside =
+    let one_more : i + 1 ≡ suc i = omega arith in
+    ap (λ n. map meaning (take n hs)) one_more ∙ ap (map meaning) (take-suc hs i d inside) ∙ map-append meaning (take i hs) (get_or hs i d ∷ [])
+
 pub bounds_more : (a b k : Lengths) (hs : List Hir) (i : ℕ) (d : Hir) → i < length hs → k ≡ either a b → Bounds b (meaning (get_or hs i d)) →
     All (Bounds a) (map meaning (take i hs)) → All (Bounds k) (map meaning (take (i + 1) hs))
 bounds_more a b k hs i d inside is here all =
     subst (λ x. All (Bounds x) (map meaning (take (i + 1) hs))) (sym is)
-    (subst (All (Bounds (either a b))) (sym longer)
+    (subst (All (Bounds (either a b))) (sym (longer hs i d inside))
     (All-append (Bounds (either a b)) (map meaning (take i hs)) (meaning (get_or hs i d) ∷ [])
     (All-weaker (Bounds a) (Bounds (either a b)) (either_left a b) (map meaning (take i hs)) all)
     (All-cons (Bounds (either a b)) (meaning (get_or hs i d)) [] (either_right a b (meaning (get_or hs i d)) here) (λ k e l. absurd (omega (arith, l))))))
-  where
-    one_more : i + 1 ≡ suc i
-    one_more = omega arith
-
-    longer : map meaning (take (i + 1) hs) ≡ map meaning (take i hs) ++ meaning (get_or hs i d) ∷ []
-    longer = ap (λ n. map meaning (take n hs)) one_more ∙ ap (map meaning) (take-suc hs i d inside) ∙ map-append meaning (take i hs) (get_or hs i d ∷ [])
 
 pub bounds_all : (k : Lengths) (hs : List Hir) (i : ℕ) → length hs ≤ i → All (Bounds k) (map meaning (take i hs)) → All (Bounds k) (map meaning hs)
 bounds_all k hs i done all = subst (λ xs. All (Bounds k) (map meaning xs)) (take_all i hs done) all
+
+-- the greatest length of the patterns, the last one counted in last
+abbrev greater : Option ℕ → Option ℕ → Option ℕ
+greater = both (λ m n. Some (max m n))
+
+greater_again : (a b c : Option ℕ) → greater a (greater b c) ≡ greater (greater a b) c
+greater_again None b c = refl
+greater_again (Some k) None c = refl
+greater_again (Some k) (Some l) None = refl
+greater_again (Some k) (Some l) (Some m) = ap Some (omega arith)
+
+one_greater : (o : Option ℕ) → greater o (Some 0) ≡ greater (Some 0) o
+one_greater None = refl
+one_greater (Some k) = ap Some (omega arith)
+
+greatest_after : (hs : List Re) (h : Re) → greatest_len (hs ++ h ∷ []) ≡ greater (greatest_len hs) (maximum_len h)
+greatest_after [] h = one_greater (maximum_len h)
+greatest_after (r ∷ hs) h = ap (greater (maximum_len r)) (greatest_after hs h) ∙ greater_again (maximum_len r) (greatest_len hs) (maximum_len h)
+
+pub greatest_more : (a b k : Lengths) (hs : List Hir) (i : ℕ) (d : Hir) → i < length hs → k ≡ either a b → b.greatest ≡ maximum_len (meaning (get_or hs i d)) →
+    a.greatest ≡ greatest_len (map meaning (take i hs)) → k.greatest ≡ greatest_len (map meaning (take (i + 1) hs))
+greatest_more a b k hs i d inside is own before =
+    ap (λ (x : Lengths). x.greatest) is ∙ ap₂ greater before own
+    ∙ sym (ap greatest_len (longer hs i d inside) ∙ greatest_after (map meaning (take i hs)) (meaning (get_or hs i d)))
+
+pub greatest_all : (k : Lengths) (hs : List Hir) (i : ℕ) → length hs ≤ i → k.greatest ≡ greatest_len (map meaning (take i hs)) →
+    k.greatest ≡ greatest_len (map meaning hs)
+greatest_all k hs i done all = all ∙ ap (λ xs. greatest_len (map meaning xs)) (take_all i hs done)
 
 -- a pattern of the list spells it
 spelled_keeps : (k : Lengths) (t : Text) (n : ℕ) (hs : List Re) (p i j : ℕ) → All (Bounds k) hs → SpelledBy t n hs p i j → KeepsTo k t i j

@@ -158,6 +158,7 @@ impl Engines {
         requires patterns { patterns ≡ length hs }
         requires light { heaviness (places_of engine.program.places.items) ≤ greatest_weight }
         ensures engine { IfOk result (λ engines. engines.engine ≡ engine) }
+        ensures spans { IfOk result (λ engines. engines.spans ≡ spans) }
         ensures barred { AreBarred engine hs limits
             → IfOk result (λ engines. engines.tables ≡ None) }
         ensures none { IfOk result (λ engines. engines.tables ≡ None → AreBarred engine hs limits

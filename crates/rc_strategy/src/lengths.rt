@@ -37,12 +37,15 @@ impl Lengths {
     ghost use Rattle.std.specs.Prelude.{◌≡◌, map, All, IfSome, is_none};
     ghost use Rattle.rc_text.specs.Text.{Keeps, high};
     ghost use Rattle.rc_pattern.specs.Meaning.{meaning};
+    ghost use Rattle.rc_pattern.specs.Properties.{maximum_len};
+    ghost use Rattle.rc_reach.specs.Laws.{greatest_len};
     ghost use Rattle.rc_dfa_search.specs.Aims.{AreBounds};
     ghost use Rattle.rc_strategy.specs.Lengths.{Bounds, IsOneLength, either, are_longer, are_shorter, begin_early, end_late, leave_none, must_fill};
 
     /// Returns the lengths and anchors of this pattern's spans.
     fn of_one(hir: &Hir) -> Lengths
-        ensures { Bounds result (meaning hir.now) }
+        ensures bounds { Bounds result (meaning hir.now) }
+        ensures greatest { result.greatest ≡ maximum_len (meaning hir.now) }
     {
         let properties = properties_of(hir);
         Lengths {
@@ -67,7 +70,8 @@ impl Lengths {
 
     /// Returns the lengths and anchors of these patterns' spans.
     pub fn of(hirs: &[Hir]) -> Lengths
-        ensures { All (Bounds result) (map meaning hirs.now) }
+        ensures bounds { All (Bounds result) (map meaning hirs.now) }
+        ensures greatest { result.greatest ≡ greatest_len (map meaning hirs.now) }
     {
         let mut spans = Lengths {
             least: usize::MAX,

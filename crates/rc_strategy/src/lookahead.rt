@@ -36,8 +36,11 @@ fn looks_ahead(look: Look) -> usize
 /// Returns how many bytes after its position the assertion of a place looks at, at most. It is 0 if
 /// the place has none.
 fn place_looks_ahead(place: &Place) -> usize
-    ensures { (look : Assertion) (next : ℕ) → place_of place.now ≡ guard look next
+    ensures most { (look : Assertion) (next : ℕ) → place_of place.now ≡ guard look next
         → looks_ahead look ≤ result }
+    ensures least { (b : ℕ)
+        → ((look : Assertion) (next : ℕ) → place_of place.now ≡ guard look next
+        → looks_ahead look ≤ b) → result ≤ b }
 {
     match place {
         Place::Guard(look, _) => looks_ahead(*look),
@@ -45,9 +48,11 @@ fn place_looks_ahead(place: &Place) -> usize
     }
 }
 
-/// Returns how many bytes after their position the assertions of these places look at, at most.
+/// Returns how many bytes after their position the assertions of these places look at, at most. It
+/// is 0 if the places have none.
 fn most_looked_at(places: &[Place]) -> usize
-    ensures { LookAhead result (places_of places.now) }
+    ensures most { LookAhead result (places_of places.now) }
+    ensures least { (b : ℕ) → LookAhead b (places_of places.now) → result ≤ b }
 {
     let mut most = 0;
     for place in places {

@@ -49,7 +49,7 @@ fn pattern_of(found: Option<Match>) -> Option<PatternID>
 }
 
 impl Engines {
-    ghost use Rattle.std.specs.Prelude.{◌≡◌, ◌≤◌, IfOk, IfSome, IsTrue, MatchOption, Some, length, true};
+    ghost use Rattle.std.specs.Prelude.{◌≡◌, ◌+◌, ◌≤◌, IfOk, IfSome, IsTrue, MatchOption, Some, length, true};
     ghost use Rattle.rc_text.specs.Bounds.{IsWithinBounds};
     ghost use Rattle.rc_text.specs.Text.{Keeps};
     ghost use Rattle.rc_text.specs.declared.types.Anchored.TheVariants.{No};
@@ -67,6 +67,7 @@ impl Engines {
     ghost use Rattle.rc_dfa_search.specs.Reaches.{IsAnswerBelow, TellsReach};
     ghost use Rattle.rc_strategy.specs.Caches.{IsCacheIn, IsCacheOfBoth, IsSameCacheIn, KeepsStates};
     ghost use Rattle.rc_strategy.specs.Lengths.{is_leftmost};
+    ghost use Rattle.rc_strategy.specs.Lookahead.{IsNearBy};
     ghost use Rattle.rc_strategy.specs.Tables.{AreHalvesFor, aim_of};
 
     /// Whether a DFA search of this input tells its reach: it goes forwards, and the match is
@@ -287,8 +288,9 @@ impl Engines {
             ≡ answer_by self.now.engine.kind (engine_search self.now.engine input.now) }
         requires leftmost { is_leftmost self.now.engine.kind ≡ true }
         requires longest { self.now.spans.greatest ≡ Some longest }
-        ensures { IsAnswerBelow self.now.engine.kind
+        ensures settled { IsAnswerBelow self.now.engine.kind
             (engine_search self.now.engine input.now) result (Some found) }
+        ensures near { result ≤ found.start + longest + self.now.lookahead }
     {
         content_fits(input);
         let end = found.start().saturating_add(longest);
@@ -301,8 +303,10 @@ impl Engines {
     fn least_reach<C: Cursor>(&self, input: &Input<C>, settled: Settled) -> usize
         requires settled { IsAnswerBelow self.now.engine.kind
             (engine_search self.now.engine input.now) settled.reach settled.found }
-        ensures { IsAnswerBelow self.now.engine.kind
+        ensures settled { IsAnswerBelow self.now.engine.kind
             (engine_search self.now.engine input.now) result settled.found }
+        ensures near { IsNearBy self.now.engine.kind self.now.spans.greatest self.now.lookahead
+            settled.found result }
     {
         let (Some(found), Some(longest)) = (settled.found, self.spans.greatest_length()) else {
             return settled.reach;
@@ -323,6 +327,8 @@ impl Engines {
         ensures settled { IsAnswerBelow self.now.engine.kind
             (engine_search self.now.engine input.old) result.reach result.found }
         ensures past { IfSome result.found (λ m. m.end ≤ result.reach) }
+        ensures near { IsNearBy self.now.engine.kind self.now.spans.greatest self.now.lookahead
+            result.found result.reach }
         ensures within { IfSome result.found (IsWithinBounds input.old) }
         ensures cache { IsSameCacheIn self.now cache.old cache.new }
     {
@@ -350,6 +356,8 @@ impl Engines {
         ensures settled { IsWalkSettled self.now.engine.kind result.reach
             (engine_search self.now.engine input.old) }
         ensures past { IfSome result.found (λ m. m.end ≤ result.reach) }
+        ensures near { IsNearBy self.now.engine.kind self.now.spans.greatest self.now.lookahead
+            result.found result.reach }
         ensures within { IfSome result.found (IsWithinBounds input.old) }
         ensures long { length slots.new ≡ length slots.old }
         ensures slots { MatchOption result.found
@@ -391,6 +399,8 @@ impl Engines {
         ensures settled { IsWalkSettled self.now.engine.kind result.reach
             (engine_search self.now.engine input.old) }
         ensures past { IfSome result.found (λ m. m.end ≤ result.reach) }
+        ensures near { IsNearBy self.now.engine.kind self.now.spans.greatest self.now.lookahead
+            result.found result.reach }
         ensures within { IfSome result.found (IsWithinBounds input.old) }
         ensures cache { IsSameCacheIn self.now cache.old cache.new }
     {

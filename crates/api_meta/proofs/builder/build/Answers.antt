@@ -10,6 +10,7 @@ use Rattle.rc_program.proofs.WeightLemmas.{program_weighs}
 use Rattle.rc_settings.specs.Settings.{settings_of as all_of, program_settings}
 use Rattle.rc_settings.specs.Thompson.{Settings, line_terminator_of, nfa_size_limit_of, settings_of, which_captures_of}
 use Rattle.rc_settings.specs.Which.{is_grouped}
+use Rattle.rc_reach.specs.Laws.{greatest_len}
 use Rattle.rc_build.specs.Refusals.{IsBuildable, limit_of}
 use Rattle.rc_build.proofs.Runnable.{bounded}
 use Rattle.rc_strategy.specs.Plans.{IsLazyFor}
@@ -59,3 +60,7 @@ invariant_of-result-clause-planned c =
 pub invariant_of-result-clause-measured : goal.invariant_of-result-clause-measured
 invariant_of-result-clause-measured c =
     c.greatest_length-longest.ensures ∙ ap (λ xs. longest_after (Some 0) (map meaning xs)) c.deref-2.ensures.value
+
+pub invariant_of-result-clause-bounded : goal.invariant_of-result-clause-bounded
+invariant_of-result-clause-bounded c =
+    c.in_ok-engines.ensures.bounded ∙ ap (λ xs. greatest_len (map meaning xs)) c.deref.ensures.value

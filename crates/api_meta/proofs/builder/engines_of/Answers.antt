@@ -2,6 +2,7 @@ use Rattle.std.proofs.Common.{◌≡◌, ◌∙◌, ℕ, Bool, List, IfSome, ap,
 use Rattle.std.specs.Result.{IfOk}
 use Rattle.std.specs.Prelude.{All}
 use Rattle.std.proofs.lemmas.List.{length-map}
+use Rattle.std.proofs.lemmas.Result.{IfOk-weaker}
 use Rattle.rc_pattern.specs.Meaning.{meaning}
 use Rattle.rc_pattern.specs.WellFormed.{HasBounds}
 use Rattle.rc_program.specs.Program.{program}
@@ -19,8 +20,10 @@ use Rattle.rc_settings.specs.Which.{is_grouped}
 use Rattle.rc_program.proofs.GroupLemmas.{length-shown}
 use Rattle.rc_text.specs.declared.types.MatchKind.{MatchKind}
 use Rattle.rc_pattern.specs.Re.{Re}
+use Rattle.rc_reach.specs.Laws.{greatest_len}
 use Rattle.rc_strategy.specs.Plans.{IsLazyFor, LazyPlan, plan_of}
 use Rattle.rc_strategy.specs.declared.engines.Engines.{Engines}
+use Rattle.rc_strategy.specs.declared.lengths.Lengths.{Lengths}
 use Rattle.rc_strategy.proofs.SpanLemmas.{bounds_walks}
 use Rattle.api_meta.specs.Plans.{plan_by}
 use Rattle.api_meta.proofs.builder.engines_of.Goals as goal
@@ -31,7 +34,7 @@ new-requires g c =
     let hs = map meaning c.args.hirs.now in
     let bounded = subst (All HasBounds) c.requires.0 c.requires.1.1.1.0 in
     let is = c.requires.1.0 ∙ ap program c.requires.0 in (
-      bounds_walks c.of.result grouped hs _ bounded is c.of.ensures,
+      bounds_walks c.of.result grouped hs _ bounded is c.of.ensures.bounds,
       (
         λ n there. subst (λ ps. Confines ps c.args.engine.program.terminator (needles_of n.needles) n.stops.table) (sym is)
             (need_law.confines hs grouped c.args.engine.program.terminator (needles_of n.needles) n.stops.table bounded
@@ -45,6 +48,11 @@ new-requires g c =
         ),
       ),
     )
+
+pub returns-clause-bounded : goal.returns-clause-bounded
+returns-clause-bounded g c =
+    IfOk-weaker c.new.result (λ (v : Engines). v.spans ≡ c.of.result) (λ (v : Engines). v.spans.greatest ≡ greatest_len (map meaning c.args.hirs.now))
+    (λ v e. ap (λ (k : Lengths). k.greatest) e ∙ c.of.ensures.greatest) c.new.ensures.spans
 
 pub returns-clause-planned : goal.returns-clause-planned
 returns-clause-planned g c =

@@ -6,10 +6,11 @@ use Rattle.rc_program.specs.Sought.{search_for}
 use Rattle.rc_reach.specs.Settled.{IsWalkSettled}
 use Rattle.rc_build.proofs.Fitted.{answer_same, told_same}
 use Rattle.rc_build.proofs.Matched.{still_for}
-use Rattle.api_meta.specs.Reached.{IsNear}
+use Rattle.api_meta.specs.Reached.{IsNear, IsSharp}
 use Rattle.api_meta.specs.Views.{regex_kind, regex_names, regex_patterns, sought}
 use Rattle.api_meta.proofs.Cached.{stays_for}
 use Rattle.api_meta.proofs.Going.{match_made}
+use Rattle.api_meta.proofs.Looking.{is_sharp}
 use Rattle.api_meta.proofs.Reaching.{kept, near_more, past_least, same_bounds, same_slice, tells_below, walk_least}
 use Rattle.api_meta.proofs.regex.Regex.search_captures_reach_with.Given.{Over}
 use Rattle.api_meta.proofs.regex.Regex.search_captures_reach_with.Goals as goal
@@ -78,6 +79,14 @@ returns-clause-near g c =
     let after = (goal.at.returns-clause-near g c).After-settle_captures-settled in
     subst (λ x. IsNear (regex_kind r) (regex_patterns r) x c.min.result) (answers g after ∙ sym (matched g after))
     (near_more (regex_patterns r) (regex_kind r) o.found c.reach_of.result c.min.result (omega (arith, c.min.ensures)) c.reach_of.ensures.near)
+
+pub returns-clause-sharp : goal.returns-clause-sharp
+returns-clause-sharp g c =
+    let r = c.args.self.now in
+    let o = c.settle_captures-settled.result in
+    let after = (goal.at.returns-clause-sharp g c).After-settle_captures-settled in
+    subst (λ x. IsSharp (regex_kind r) (sought r) x c.min.result) (answers g after ∙ sym (matched g after))
+    (is_sharp r o.found c.min.result o.reach c.settle_captures-settled.ensures.near (omega (arith, c.min.ensures)))
 
 pub returns-clause-cache : goal.returns-clause-cache
 returns-clause-cache g c =

@@ -9,6 +9,7 @@ use Rattle.rc_reach.proofs.LawLemmas.{reach_law}
 use Rattle.api_meta.specs.Reached.{IsNear}
 use Rattle.api_meta.specs.Views.{regex_kind, regex_patterns, sought}
 use Rattle.api_meta.proofs.Cached.{keeps_room, stays_for}
+use Rattle.api_meta.proofs.Looking.{is_sharp}
 use Rattle.api_meta.proofs.Reaching.{kept, least_settled, near_more, past_least, same_bounds, same_slice, settled_answer}
 use Rattle.api_meta.proofs.regex.Regex.search_reach_with.Given.{Over}
 use Rattle.api_meta.proofs.regex.Regex.search_reach_with.Goals as goal
@@ -59,6 +60,11 @@ returns-clause-near g c =
     let r = c.args.self.now in
     let o = c.find_settled-settled.result in
     near_more (regex_patterns r) (regex_kind r) o.found c.reach_of.result c.min-reach.result (omega (arith, c.min-reach.ensures)) c.reach_of.ensures.near
+
+pub returns-clause-sharp : goal.returns-clause-sharp
+returns-clause-sharp g c =
+    let o = c.find_settled-settled.result in
+    is_sharp c.args.self.now o.found c.min-reach.result o.reach c.find_settled-settled.ensures.near (omega (arith, c.min-reach.ensures))
 
 pub returns-clause-cache : goal.returns-clause-cache
 returns-clause-cache g c =
