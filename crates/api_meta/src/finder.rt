@@ -5,7 +5,7 @@ ghost use Rattle.api_meta.specs.Views.{regex_patterns, regex_settings};
 
 use crate::cache::Cache;
 use crate::partial::Partial;
-use crate::reach::Reached;
+use crate::reach::{Reached, ReachedCaptures};
 use crate::regex::Regex;
 use rc_captures::captures::Captures;
 use rc_pattern_set::sets::PatternSet;
@@ -64,7 +64,7 @@ impl<'r> Finder<'r> {
     ghost use Rattle.rc_reach.specs.Partial.{IsPartial};
     ghost use Rattle.rc_reach.specs.Settled.{IsSettled};
     ghost use Rattle.api_meta.specs.Partials.{IsOnward, partial_of};
-    ghost use Rattle.api_meta.specs.Reached.{IsNear, IsSharp};
+    ghost use Rattle.api_meta.specs.Reached.{IsNear, IsSharp, TellsBelow};
     ghost use Rattle.rc_text.specs.declared.types.MatchKind.TheVariants.{LeftmostFirst};
 
     /// Returns a finder for this regex, with a cache of its own. An `Err` means out of memory.
@@ -189,6 +189,39 @@ impl<'r> Finder<'r> {
         self.regex
             .search_captures_with(&mut self.cache, input, &mut caps);
         Ok(caps)
+    }
+
+    /// Returns the match that `captures` finds, with its groups, in captures that are made for it,
+    /// and how many bytes settle them, as `Regex::search_captures_reach_with` does. An `Err` means
+    /// out of memory for the captures, and leaves the input as it was.
+    pub fn captures_reach<C: Cursor>(
+        &mut self,
+        alloc: Global,
+        input: &mut Input<C>,
+    ) -> Result<ReachedCaptures, AllocError>
+        ensures regex { self.new ≡ self.old }
+        ensures keeps { Keeps input.old input.new }
+        ensures refused { OnErr result (input.new ≡ input.old) }
+        ensures made { IfOk result (λ v. IsCapturesFor (regex_names self.old) v.captures) }
+        ensures whole { IfOk result (λ v. KeepsAll (regex_names self.old) v.captures) }
+        ensures told_by { IfOk result (λ v. TellsBy (regex_kind self.old)
+            (search_for (sought self.old) input.old) v.captures) }
+        ensures matched_by { IfOk result (λ v. match_of v.captures
+            ≡ answer_by (regex_kind self.old) (search_for (sought self.old) input.old)) }
+        ensures settled { IfOk result (λ v. TellsBelow (regex_kind self.old) v.reach
+            (search_for (sought self.old) input.old) v.captures) }
+        ensures within { IfOk result (λ v. (IfSome (match_of v.captures) (λ m. m.end ≤ v.reach))
+            × (v.reach ≤ slice_end input.old + 1)) }
+        ensures near { IfOk result (λ v. IsNear (regex_kind self.old) (regex_patterns self.old)
+            (match_of v.captures) v.reach) }
+        ensures sharp { IfOk result (λ v. IsSharp (regex_kind self.old) (sought self.old)
+            (match_of v.captures) v.reach) }
+    {
+        let mut captures = self.regex.create_captures(alloc)?;
+        let reach = self
+            .regex
+            .search_captures_reach_with(&mut self.cache, input, &mut captures);
+        Ok(ReachedCaptures { captures, reach })
     }
 
     /// Inserts into the set each pattern that has a match within the bounds of a search of the

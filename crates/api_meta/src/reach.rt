@@ -32,6 +32,14 @@ pub struct Reached {
     pub reach: usize,
 }
 
+/// A match with its groups, and how many bytes of the content settle them.
+pub struct ReachedCaptures {
+    /// The match with its groups. They are empty if there is no match.
+    pub captures: Captures,
+    /// The count that `Regex::search_captures_reach_with` returns.
+    pub reach: usize,
+}
+
 impl Regex {
     ghost use Rattle.std.specs.Prelude.{◌≡◌, ◌+◌, ◌≤◌, IfSome, Some, length};
     ghost use Rattle.rc_captures.specs.Captures.{IsCapturesFor, captures_slots, match_of};

@@ -4,7 +4,7 @@ ghost use Rattle.rc_captures.specs.Captures.{IsCapturesFor};
 ghost use Rattle.api_meta.specs.Views.{regex_names};
 
 use regex_cursor::Input;
-use regex_cursor::engines::meta::{Cache, Captures, Finder, Regex};
+use regex_cursor::engines::meta::{Cache, Captures, Finder, ReachedCaptures, Regex};
 use regex_cursor::types::{PatternID, PatternSet};
 use std::alloc::{AllocError, Global};
 use std::test::Fail;
@@ -110,6 +110,17 @@ fn end_by_finder(alloc: Global, regex: &Regex) -> Result<Option<usize>, AllocErr
     Ok(group.map(|group| group.end))
 }
 
+/// Where the first group of the match ends, and how many bytes settle it, by what keeps its cache.
+fn settled_by_finder(alloc: Global, regex: &Regex) -> Result<(Option<usize>, usize), AllocError> {
+    let mut finder = Finder::new(alloc, regex)?;
+    let reached = Finder::captures_reach(&mut finder, alloc, &mut Input::new(TEXT));
+    drop(finder);
+    let ReachedCaptures { captures, reach } = reached?;
+    let group = captures.get_group(1);
+    drop(captures);
+    Ok((group.map(|group| group.end), reach))
+}
+
 #[test]
 fn lists_and_caches(rt: HostRuntime) -> Result<(), Fail> {
     let alloc = rt.alloc();
@@ -118,8 +129,10 @@ fn lists_and_caches(rt: HostRuntime) -> Result<(), Fail> {
     let count = count_in_a_cache(alloc, &regex);
     let is_in_a_set = is_in_a_set(alloc, &regex);
     let end = end_by_finder(alloc, &regex);
+    let settled = settled_by_finder(alloc, &regex);
     drop(regex);
     assert!(rt; counts == Ok([2, 2, 3, 2]) && count == Ok(2));
     assert!(rt; is_in_a_set == Ok(true) && end == Ok(Some(2)));
+    assert!(rt; settled == Ok((Some(2), 7)));
     Ok(())
 }

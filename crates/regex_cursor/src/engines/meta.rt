@@ -6,7 +6,7 @@ pub use api_meta::finder::Finder;
 pub use api_meta::iterators::{CapturesMatches, FindMatches, Split, SplitN};
 pub use api_meta::lists::{CapturesMatchesWith, FindMatchesWith};
 pub use api_meta::partial::Partial;
-pub use api_meta::reach::Reached;
+pub use api_meta::reach::{Reached, ReachedCaptures};
 pub use api_meta::regex::Regex;
 pub use rc_captures::captures::Captures;
 pub use rc_captures::groups::GroupInfo;
