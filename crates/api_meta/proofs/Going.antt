@@ -11,8 +11,8 @@ use Rattle.rc_text.specs.declared.types.MatchKind.TheVariants.{All as all_matche
 use Rattle.rc_captures.specs.Captures.{IsCapturesFor, match_of}
 use Rattle.rc_captures.specs.declared.captures.Captures.{Captures}
 use Rattle.rc_program.specs.Answer.{Search, Chosen, answer}
-use Rattle.rc_program.specs.Kinds.{IsAnswerBy, IsAnswerWhere, answer_by, answer_by_from, is_early, matches_by_kind}
-use Rattle.rc_program.specs.Matches.{begin_of, end_of, from_on, next_match}
+use Rattle.rc_program.specs.Kinds.{IsAnswerBy, IsAnswerWhere, answer_by, is_early, matches_by_kind}
+use Rattle.rc_program.specs.Matches.{from_on}
 use Rattle.rc_program.specs.Program.{shown}
 use Rattle.rc_program.specs.Sought.{search_for}
 use Rattle.rc_pikevm_search.specs.Engine.{engine_search}

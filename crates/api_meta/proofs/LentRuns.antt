@@ -1,14 +1,13 @@
 -- What calls of `next` give in a cache that is lent.
-use Rattle.std.proofs.Common.{◌≡◌, ◌∙◌, List, [], ◌∷◌, Option, Some, None, Result, Ok, Err, ap, arith, length, refl, subst}
+use Rattle.std.proofs.Common.{◌∙◌, [], ◌∷◌, Option, Some, None, Result, Ok, Err, ap, arith, length, refl, subst}
 use Rattle.std.proofs.iter.runs.Sources.{as_is, from_front}
 use Rattle.std.specs.declared.alloc.AllocError.{AllocError}
-use Rattle.std.specs.Iterator.{MakesProgress, Yields, item_count}
+use Rattle.std.specs.Iterator.{MakesProgress, item_count}
 use Rattle.std.specs.Iterator.Runs.{YieldsInOrder}
 use Rattle.rc_text.specs.Found.{Found}
 use Rattle.rc_text.specs.Text.{Searched}
 use Rattle.rc_captures.specs.declared.captures.Captures.{Captures}
-use Rattle.rc_pikevm_search.specs.Moved.{IsMoved}
-use Rattle.api_meta.specs.Left.{CapturesNext, Goes}
+use Rattle.api_meta.specs.Left.{Goes}
 use Rattle.api_meta.specs.Lent.{CapturesKeepAlong, CapturesKeepWith, CapturesNextWith, CapturesRunAlike, FindKeepsAlong, FindKeepsWith, FindNextWith, HasItsCache, KeepsItsCache, captures_by, captures_with_left, find_by, find_with_left}
 use Rattle.api_meta.specs.Seeking.{Seeking}
 use Rattle.api_meta.specs.declared.lists.CapturesMatchesWith.{CapturesMatchesWith}

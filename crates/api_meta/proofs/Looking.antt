@@ -1,5 +1,5 @@
 -- How far the assertions of a program look, by those of its patterns.
-use Rattle.std.proofs.Common.{◌≡◌, ◌≢◌, ◌∙◌, ℕ, zero, suc, ◌+◌, ◌-◌, ◌*◌, ◌≤◌, Bool, true, false, ◌||◌, IsTrue, List, [], ◌∷◌, ◌++◌, length, map, Option, Some, None, IfSome, ⊎_elim, ap, ap₂, sym, subst, refl, arith, eq-eqb}
+use Rattle.std.proofs.Common.{◌≡◌, ◌≢◌, ◌∙◌, ℕ, zero, suc, ◌+◌, ◌-◌, ◌*◌, ◌≤◌, Bool, true, false, ◌||◌, IsTrue, List, [], ◌∷◌, length, Option, Some, None, ⊎_elim, ap, ap₂, sym, subst, refl, arith, eq-eqb}
 use Rattle.std.specs.Prelude.{All}
 use Rattle.std.specs.List.{AllByRecursion}
 use Rattle.std.proofs.lemmas.Bool.{cases_lt, or_left, or_right}
@@ -7,19 +7,17 @@ use Rattle.std.proofs.lemmas.List.Elements.{All-from_recursion, recursion_from_A
 use Rattle.rc_text.specs.Found.{Found}
 use Rattle.rc_text.specs.declared.types.MatchKind.{MatchKind}
 use Rattle.rc_text.specs.declared.types.MatchKind.TheVariants.{All as all_matches, LeftmostFirst as leftmost_first, LeftmostLongest as leftmost_longest}
-use Rattle.rc_pattern.specs.Re.{Re, Range, empty, literal, byte_in, char_in, look, repeat, capture, cat, alt, none}
+use Rattle.rc_pattern.specs.Re.{Re, empty, literal, byte_in, char_in, look, repeat, capture, cat, alt, none}
 use Rattle.rc_pattern.specs.Properties.{has_look, look_number}
 use Rattle.rc_pattern.specs.WellFormed.{group_count}
 use Rattle.rc_pattern.specs.declared.hir.Look.{Look}
-use Rattle.rc_program.specs.Program.{Place, choice, byte, branch, scalar, guard, slot, accept, Part, one, pass, dead, then_part, either, optional, plus, body_or_out, copies, up_to, at_least, repeated, bytes_in_order, literal_part, part, pattern_part, choice_of_patterns, program, place_at, shown, without_groups}
-use Rattle.rc_program.specs.Sought.{Sought}
+use Rattle.rc_program.specs.Program.{Place, choice, byte, branch, scalar, guard, slot, accept, Part, one, pass, then_part, either, optional, plus, body_or_out, copies, up_to, repeated, bytes_in_order, literal_part, part, pattern_part, choice_of_patterns, program, place_at, shown, without_groups}
 use Rattle.rc_program.proofs.PlaceLemmas.{each_append}
 use Rattle.rc_program.proofs.WayLemmas.{past_places}
-use Rattle.rc_reach.specs.Laws.{greatest_len}
 use Rattle.rc_reach.specs.Reads.{looks_ahead}
 use Rattle.rc_strategy.specs.Lengths.{is_leftmost}
 use Rattle.rc_strategy.specs.Lookahead.{IsNearBy, LookAhead}
-use Rattle.api_meta.specs.Reached.{IsSharp, LooksAhead}
+use Rattle.api_meta.specs.Reached.{IsSharp}
 use Rattle.api_meta.specs.Views.{regex_kind, sought}
 use Rattle.api_meta.specs.declared.regex.Regex.{Regex}
 

@@ -4,7 +4,7 @@ use Rattle.std.proofs.lemmas.Bool.{cases_lt}
 use Rattle.rc_text.specs.Found.{Found}
 use Rattle.rc_text.specs.declared.types.MatchKind.{MatchKind}
 use Rattle.rc_text.specs.declared.types.MatchKind.TheVariants.{All as all_matches}
-use Rattle.rc_text.specs.Text.{Searched, high, low, slice_end}
+use Rattle.rc_text.specs.Text.{Searched, high, low}
 use Rattle.rc_pattern.specs.WellFormed.{HasBounds}
 use Rattle.rc_program.specs.Answer.{Search}
 use Rattle.rc_program.specs.Kinds.{answer_by}

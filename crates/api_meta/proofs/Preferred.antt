@@ -9,12 +9,11 @@ use Rattle.std.proofs.lemmas.List.Elements.{All-weaker}
 use Rattle.std.proofs.lemmas.List.Sums.{sum_by-cons}
 use Rattle.rc_text.specs.Found.{Found}
 use Rattle.rc_text.specs.Text.{Searched}
-use Rattle.rc_text.specs.declared.types.MatchKind.{MatchKind}
 use Rattle.rc_text.specs.declared.types.MatchKind.TheVariants.{LeftmostFirst as leftmost_first}
 use Rattle.rc_pattern.specs.Re.{Re, Range, empty, literal, byte_in, char_in, look, repeat, capture, cat, alt, none}
 use Rattle.rc_pattern.specs.WellFormed.{AreAscending, HasBounds, IsWellFormed, group_names}
-use Rattle.rc_captures.specs.Captures.{HasMatch, captures_names, captures_slots, group_span, match_of, span_of}
-use Rattle.rc_captures.specs.Names.{Names, explicit_len, first_slot, group_len, slots}
+use Rattle.rc_captures.specs.Captures.{HasMatch, captures_names, match_of, span_of}
+use Rattle.rc_captures.specs.Names.{explicit_len, first_slot, group_len, slots}
 use Rattle.rc_captures.specs.declared.captures.Captures.{Captures}
 use Rattle.rc_captures.proofs.Slots.{explicit_groups}
 use Rattle.rc_captures.proofs.SlotsLaws.{slots_from, slots_pair}
@@ -24,13 +23,13 @@ use Rattle.rc_program.specs.Kinds.{answer_by}
 use Rattle.rc_program.specs.Laws.{IsNumbered, all_groups}
 use Rattle.rc_program.specs.Sought.{Sought, search_for}
 use Rattle.rc_parses.specs.Parses.{Parse, group_of}
-use Rattle.rc_parses.specs.Preference.{ArePlain, IsPreferred, IsPreferredMatch, MayBegin, IsPassedBy, match_by}
-use Rattle.rc_parses.specs.Laws.{HasGroups, SeeksPlain, first_slot as group_slot, group_end, group_start}
+use Rattle.rc_parses.specs.Preference.{ArePlain, IsPreferredMatch}
+use Rattle.rc_parses.specs.Laws.{HasGroups, SeeksPlain, first_slot as group_slot}
 use Rattle.rc_parses.proofs.LawLemmas.{preference_law}
 use Rattle.rc_pikevm_search.specs.Tells.{TellsBy, TellsOf}
 use Rattle.rc_build.specs.Names.{names_shown}
 use Rattle.rc_build.proofs.NamesLemmas.{length-group_names, no_names}
-use Rattle.api_meta.specs.Preferred.{HoldsGroups, HoldsPreferred, KeepsGroup, span_between}
+use Rattle.api_meta.specs.Preferred.{HoldsGroups, HoldsPreferred, span_between}
 use Rattle.api_meta.specs.Views.{regex_kind, regex_names, regex_patterns, sought}
 use Rattle.api_meta.specs.declared.regex.Regex.{Regex}
 

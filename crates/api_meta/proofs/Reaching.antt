@@ -1,5 +1,5 @@
 -- How many bytes settle what a search finds.
-use Rattle.std.proofs.Common.{◌≡◌, ◌≢◌, ◌∙◌, ℕ, ◌+◌, ◌-◌, ◌^◌, ◌<◌, ◌≤◌, true, IsTrue, List, [], ◌∷◌, map, max, min, Option, Some, None, IfSome, inl, inr, ⊎_elim, ap, ap₂, subst, sym, refl, arith, true≢false}
+use Rattle.std.proofs.Common.{◌≡◌, ◌≢◌, ◌∙◌, ℕ, ◌+◌, ◌-◌, ◌^◌, ◌<◌, ◌≤◌, true, IsTrue, List, [], ◌∷◌, max, min, Option, Some, None, IfSome, inl, inr, ⊎_elim, ap, ap₂, subst, sym, refl, arith, true≢false}
 use Rattle.std.specs.Prelude.{All}
 use Rattle.std.proofs.Math.Logic.{∥∥₁_elim}
 use denote.Struct.Props.{props}
@@ -15,8 +15,6 @@ use Rattle.rc_text.specs.declared.types.Anchored.TheVariants.{No, Yes, Pattern}
 use Rattle.rc_text.specs.declared.types.MatchKind.{MatchKind}
 use Rattle.rc_text.specs.declared.types.MatchKind.TheVariants.{LeftmostFirst as leftmost_first, LeftmostLongest as leftmost_longest, All as all_matches}
 use Rattle.rc_pattern.specs.Re.{Re}
-use Rattle.rc_pattern.specs.Meaning.{meaning}
-use Rattle.rc_pattern.specs.declared.hir.Hir.{Hir}
 use Rattle.rc_pattern.specs.Properties.{both, maximum_len}
 use Rattle.rc_pattern.specs.WellFormed.{HasBounds, IsWellFormed}
 use Rattle.rc_captures.specs.declared.captures.Captures.{Captures}

@@ -1,5 +1,5 @@
 -- Partial answers, as they are returned.
-use Rattle.std.specs.Prelude.{ℕ, ◌≤◌, max}
+use Rattle.std.specs.Prelude.{◌≤◌, max}
 use Rattle.rc_text.specs.Text.{Searched, low, high}
 use Rattle.rc_reach.specs.Partial as partial
 use Rattle.api_meta.specs.declared.partial.Partial.{Partial}

@@ -1,4 +1,4 @@
-use Rattle.std.proofs.Common.{◌≡◌, ◌∙◌, ◌+◌, ◌≤◌, IfSome, arith, ap, subst, sym}
+use Rattle.std.proofs.Common.{◌≡◌, ◌∙◌, ◌≤◌, IfSome, arith, ap, subst, sym}
 use Rattle.rc_captures.specs.Captures.{match_of}
 use Rattle.rc_text.specs.Found.{Found}
 use Rattle.rc_program.specs.Kinds.{answer_by}

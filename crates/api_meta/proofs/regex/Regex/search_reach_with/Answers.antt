@@ -1,12 +1,9 @@
-use Rattle.std.proofs.Common.{◌≡◌, ◌∙◌, ◌+◌, ◌≤◌, IfSome, min, arith, ap, subst, sym}
-use Rattle.rc_text.specs.Bounds.{IsWithinBounds}
+use Rattle.std.proofs.Common.{◌≡◌, ◌∙◌, ◌≤◌, IfSome, arith, ap, subst, sym}
 use Rattle.rc_text.specs.Found.{Found}
-use Rattle.rc_text.specs.Text.{slice_end}
 use Rattle.rc_program.specs.Kinds.{answer_by}
 use Rattle.rc_program.specs.Sought.{search_for}
 use Rattle.rc_reach.specs.Settled.{IsSettled, IsWalkSettled}
 use Rattle.rc_reach.proofs.LawLemmas.{reach_law}
-use Rattle.api_meta.specs.Reached.{IsNear}
 use Rattle.api_meta.specs.Views.{regex_kind, regex_patterns, sought}
 use Rattle.api_meta.proofs.Cached.{keeps_room, stays_for}
 use Rattle.api_meta.proofs.Looking.{is_sharp}
