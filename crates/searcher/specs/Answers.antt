@@ -51,22 +51,21 @@ IsPartialIn r text start (Final m) = IsPartial (regex_kind r) (search_in r text 
 IsPartialIn r text start (From k) =
     IsPartial (regex_kind r) (search_in r text start 18446744073709551615) (from_place k) × (start ≤ k) × (k ≤ length text)
 
--- the same regex, the same state of the iteration, and the same list
-pub record IsSame (s t : Searching) : Type 0 where
-  pub regex : t.regex ≡ s.regex
-  pub from : t.from ≡ s.from
-  pub last : t.last ≡ s.last
-  pub live : t.live ≡ s.live
+-- All is the same but the groups.
+abbrev pub IsSame : (s t : Searching) → Type 0
+IsSame s t = t ≡ record s { captures = t.captures }
 
--- The second searcher is of the regex of the first, its iteration begins where the text does, and it keeps no list.
+-- The second searcher is of the regex of the first, its iteration begins where the text does, and it keeps no list and no other search.
 pub record IsShare (s t : Searching) : Type 0 where
   pub regex : t.regex ≡ s.regex
   pub from : t.from ≡ 0
   pub last : t.last ≡ None
   pub live : t.live ≡ None
+  pub stream : t.stream ≡ None
+  pub stepper : t.stepper ≡ None
 
 -- The searcher is of the patterns as which these texts are read, under these settings. Its iteration begins where the text does, and it keeps
--- no list. No refusal but out of memory applies.
+-- no list and no other search. No refusal but out of memory applies.
 pub record IsBuilt (settings : Settings) (patterns : List (Bor (List ℕ))) (s : Searching) : Type 0 where
   pub kind : MatchKind
   pub kinded : kind_of settings.kind ≡ Some kind
@@ -78,6 +77,8 @@ pub record IsBuilt (settings : Settings) (patterns : List (Bor (List ℕ))) (s :
   pub from : s.from ≡ 0
   pub last : s.last ≡ None
   pub live : s.live ≡ None
+  pub stream : s.stream ≡ None
+  pub stepper : s.stepper ≡ None
 
 -- some kind has the number
 abbrev pub HasKind : Settings → Type 0

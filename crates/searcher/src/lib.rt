@@ -7,8 +7,10 @@ mod batch;
 pub mod parts;
 pub mod searches;
 pub mod settings;
+pub mod shared;
 
 pub use answers::{Fault, GroupAt, ListFault, MatchAt, MemoryParts, Refusal, Window, WindowAnswer};
 pub use parts::Parts;
-pub use searches::{Searcher, box_of, fill_window, free, parts_of};
+pub use searches::{OwnedStepper, OwnedStream, Searcher, box_of, fill_window, free, parts_of};
 pub use settings::Settings;
+pub use shared::SharedFinder;

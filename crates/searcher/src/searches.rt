@@ -29,15 +29,18 @@ use std::marker::Model;
 use std::sync::Arc;
 
 mod lives;
+mod streams;
 mod windows;
 
 pub use lives::fill_window;
+pub use streams::{OwnedStepper, OwnedStream};
 
 /// How many patterns are searched for at most, so that each has a number.
 const MAX_PATTERNS: usize = 2_147_483_647;
 
 /// A regex with everything that its searches need: a cache, captures, a set of its patterns, and
-/// the state of an iteration. It may also keep the list of the matches of a text.
+/// the state of an iteration. It may also keep the list of the matches of a text, a search of a
+/// stream, and a search in slices.
 ///
 /// It doesn't keep the text. You pass the chunks to each search, which says what the text is. No
 /// search fails for lack of memory: its cache may grow up to a limit, and if it can't grow, the
@@ -51,6 +54,8 @@ pub struct Searcher {
     from: usize,
     last: Option<usize>,
     live: Option<LiveMatches>,
+    stream: Option<OwnedStream>,
+    stepper: Option<OwnedStepper>,
 }
 
 impl Model for Searcher {
@@ -81,6 +86,8 @@ impl Model for Searcher {
       from = s.from;
       last = s.last;
       live = s.live;
+      stream = s.stream;
+      stepper = s.stepper;
     } };
 
     ghost invariant = { λ s. IsCacheFor (regex_patterns (arc_value s.regex))
@@ -346,9 +353,7 @@ impl Searcher {
         ensures fault { IfErr result (IsFault chunks.now self.old.from end) }
         ensures unfilled { OnErr result (batch.new ≡ batch.old) }
         ensures refused { OnErr result (self.new ≡ self.old) }
-        ensures regex { self.new.regex ≡ self.old.regex }
-        ensures captures { self.new.captures ≡ self.old.captures }
-        ensures live { self.new.live ≡ self.old.live }
+        ensures rest { self.new ≡ record self.old { from = self.new.from; last = self.new.last } }
     {
         let mut input = input_over(chunks, self.from, end)?;
         let filled = batch::fill(&self.regex, &mut self.cache, &mut input, self.last, batch);
@@ -425,6 +430,8 @@ fn with_cache(alloc: Global, regex: Arc<Regex>) -> Result<Searcher, AllocError>
     ensures from { IfOk result (λ s. s.from ≡ 0) }
     ensures last { IfOk result (λ s. s.last ≡ None) }
     ensures live { IfOk result (λ s. s.live ≡ None) }
+    ensures stream { IfOk result (λ s. s.stream ≡ None) }
+    ensures stepper { IfOk result (λ s. s.stepper ≡ None) }
 {
     let Ok(cache) = regex.create_cache(alloc) else {
         drop(regex);
@@ -449,6 +456,8 @@ fn with_cache(alloc: Global, regex: Arc<Regex>) -> Result<Searcher, AllocError>
         from: 0,
         last: None,
         live: None,
+        stream: None,
+        stepper: None,
     })
 }
 

@@ -2,12 +2,14 @@
 #![tactic(auto)]
 
 pub mod error;
+pub mod finds;
 mod opening;
 mod search;
 pub mod step;
 pub mod stream;
 
 pub use error::FeedError;
+pub use finds::PartialFinder;
 pub use search::moved;
-pub use step::{Progress, Stepper};
-pub use stream::StreamSearcher;
+pub use step::{Progress, Stepper, StepperOf};
+pub use stream::{StreamSearcher, StreamSearcherOf};

@@ -8,17 +8,23 @@ ghost use Rattle.api_meta.specs.Views.{regex_kind};
 ghost use Rattle.stream_search.specs.Searches.{IsFrom, IsPast, LiesIn, seeks};
 ghost use Rattle.stream_search.specs.Streams.{IsTold};
 
+use crate::finds::PartialFinder;
 use rc_text::input::content_fits;
-use regex_cursor::engines::meta::{Finder, Partial};
+use regex_cursor::engines::meta::Partial;
 use regex_cursor::types::{Match, Span};
 use regex_cursor::{Cursor, Input};
 
 /// Returns what the kept bytes tell of a search from `at` on. If no more bytes follow, that is all.
-pub fn search_kept(finder: &mut Finder, kept: &[u8], at: usize, is_finished: bool) -> Partial
+pub fn search_kept<F: PartialFinder>(
+    finder: &mut F,
+    kept: &[u8],
+    at: usize,
+    is_finished: bool,
+) -> Partial
     requires inside { at ≤ length kept.now + 1 }
-    ensures regex { finder.new ≡ finder.old }
-    ensures told { IsTold (regex_kind finder.old) (seeks finder.old) is_finished kept.now at
-        (partial_of result) }
+    ensures regex { F.searched_by finder.new ≡ F.searched_by finder.old }
+    ensures told { IsTold (regex_kind (F.searched_by finder.old))
+        (seeks (F.searched_by finder.old)) is_finished kept.now at (partial_of result) }
     ensures lies { LiesIn at (length kept.now) result }
     ensures past { IsPast is_finished (length kept.now) result }
 {

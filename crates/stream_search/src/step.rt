@@ -6,6 +6,7 @@ ghost use Rattle.stream_search.specs.Searches.{seeks};
 ghost use Rattle.stream_search.specs.Stepping.{GoesTo, found_from};
 ghost use Rattle.stream_search.specs.Streams.{IsTold};
 
+use crate::finds::PartialFinder;
 use crate::opening::Opening;
 use crate::search::input_from;
 use rc_pieces::spans::seek;
@@ -23,6 +24,9 @@ pub enum Progress {
     NotYet,
 }
 
+/// A search of a text in slices, by a regex that it borrows.
+pub type Stepper<'r> = StepperOf<Finder<'r>>;
+
 /// A search of a text in slices.
 ///
 /// Each `resume` searches some bytes more, and returns. So an editor can search a long text and stay
@@ -30,13 +34,13 @@ pub enum Progress {
 /// once. It holds the finder, and with it the cache, so that nothing else uses it meanwhile. Pass a
 /// cursor over the same text to each `resume`; it may cut the text anew each time.
 #[derive(Drop)]
-pub struct Stepper<'r> {
-    finder: Finder<'r>,
+pub struct StepperOf<F: PartialFinder> {
+    finder: F,
     from: usize,
     position: usize,
 }
 
-impl<'r> Model for Stepper<'r> {
+impl<F: PartialFinder> Model for StepperOf<F> {
     ghost use Rattle.std.specs.Coded.{codes};
     ghost use Rattle.std.specs.Prelude.{◌≤◌};
     ghost use Rattle.api_meta.specs.contracts.regex.Regex as regexes;
@@ -47,7 +51,7 @@ impl<'r> Model for Stepper<'r> {
     ghost coded = { Prim.hlevel (codes, regexes.the_row.coded) };
 
     ghost view = { λ s. record {
-      regex = s.finder;
+      regex = F.searched_by s.finder;
       from = s.from;
       position = s.position;
     } };
@@ -55,16 +59,36 @@ impl<'r> Model for Stepper<'r> {
     ghost invariant = { λ s. s.from ≤ s.position };
 }
 
-impl<'r> Stepper<'r> {
-    ghost use Rattle.std.specs.Prelude.{◌≡◌, ℕ, List, length, min};
-    ghost use Rattle.stream_search.specs.Stepping.{IfDone, IfNotYet, IsSliced, IsUnderWay, begun, slice_end};
+impl<'r> StepperOf<Finder<'r>> {
+    ghost use Rattle.std.specs.Prelude.{◌≡◌, ℕ, List};
+    ghost use Rattle.stream_search.specs.Stepping.{IsUnderWay, begun};
 
     /// Returns a search that begins at this position of a text, in bytes. Nothing is searched yet.
     pub fn new(finder: Finder<'r>, start: usize) -> Stepper<'r>
         ensures begun { result ≡ begun finder.entry start }
         ensures way { (content : List ℕ) → IsUnderWay content start result }
     {
-        Stepper {
+        StepperOf::over(finder, start)
+    }
+
+    /// Returns the finder, for other searches.
+    pub fn into_finder(self) -> Finder<'r>
+        ensures { result ≡ self.entry.regex }
+    {
+        self.finder
+    }
+}
+
+impl<F: PartialFinder> StepperOf<F> {
+    ghost use Rattle.std.specs.Prelude.{◌≡◌, ℕ, List, length, min};
+    ghost use Rattle.stream_search.specs.Stepping.{IfDone, IfNotYet, IsSliced, IsUnderWay, begun, slice_end};
+
+    /// Returns a search as `new` does, by another finder.
+    pub fn over(finder: F, start: usize) -> StepperOf<F>
+        ensures begun { result ≡ begun (F.searched_by finder) start }
+        ensures way { (content : List ℕ) → IsUnderWay content start result }
+    {
+        StepperOf {
             finder,
             from: start,
             position: start,
@@ -126,13 +150,6 @@ impl<'r> Stepper<'r> {
     {
         self.position // of the whole text
     }
-
-    /// Returns the finder, for other searches.
-    pub fn into_finder(self) -> Finder<'r>
-        ensures { result ≡ self.entry.regex }
-    {
-        self.finder
-    }
 }
 
 /// Whether the content has the byte at this position. It goes to the chunk with that byte, or to the
@@ -147,9 +164,13 @@ fn has_byte<C: Cursor>(cursor: &mut C, at: usize) -> bool
 }
 
 /// Returns the match of the content from `at` on.
-fn search_rest<C: Cursor + Drop>(finder: &mut Finder, cursor: C, at: usize) -> Option<Match>
-    ensures regex { finder.new ≡ finder.old }
-    ensures found { result ≡ found_from finder.old (C.content cursor) at }
+fn search_rest<F: PartialFinder, C: Cursor + Drop>(
+    finder: &mut F,
+    cursor: C,
+    at: usize,
+) -> Option<Match>
+    ensures regex { F.searched_by finder.new ≡ F.searched_by finder.old }
+    ensures found { result ≡ found_from (F.searched_by finder.old) (C.content cursor) at }
 {
     if let Some(total) = cursor.total_bytes() {
         if at > total {
@@ -161,16 +182,17 @@ fn search_rest<C: Cursor + Drop>(finder: &mut Finder, cursor: C, at: usize) -> O
 }
 
 /// Returns what the first `end` bytes of the content tell of a search from `at` on.
-fn search_opening<C: Cursor + Drop>(
-    finder: &mut Finder,
+fn search_opening<F: PartialFinder, C: Cursor + Drop>(
+    finder: &mut F,
     mut cursor: C,
     at: usize,
     end: usize,
 ) -> Partial
     requires before { at < end }
     requires inside { end ≤ length (C.content cursor) }
-    ensures regex { finder.new ≡ finder.old }
-    ensures told { IsTold (regex_kind finder.old) (seeks finder.old) false
+    ensures regex { F.searched_by finder.new ≡ F.searched_by finder.old }
+    ensures told { IsTold (regex_kind (F.searched_by finder.old))
+        (seeks (F.searched_by finder.old)) false
         (take end (C.content cursor)) at (partial_of result) }
     ensures onward { GoesTo at end result }
 {

@@ -1,6 +1,7 @@
 //! Stream searcher: a search of a text that comes in by chunks.
 
 use crate::error::FeedError;
+use crate::finds::PartialFinder;
 use crate::search::{input_from, is_again, moved, remove_front, search_kept};
 use regex_cursor::engines::meta::{Cache, Captures, Finder, Partial};
 use regex_cursor::types::Match;
@@ -10,6 +11,9 @@ use std::marker::Model;
 /// How many bytes before a position an assertion looks at, at most.
 const LOOKS_BEHIND: usize = 4;
 
+/// A search of a text that comes in by chunks, by a regex that it borrows.
+pub type StreamSearcher<'r> = StreamSearcherOf<Finder<'r>>;
+
 /// A search of a text that comes in by chunks.
 ///
 /// It gives the matches of `Regex::find_iter` over the whole text, however the text was cut: each
@@ -17,8 +21,8 @@ const LOOKS_BEHIND: usize = 4;
 /// again. Contracts see it with its history: the bytes that it was fed, and the matches that it
 /// gave.
 #[derive(Drop)]
-pub struct StreamSearcher<'r> {
-    finder: Finder<'r>,
+pub struct StreamSearcherOf<F: PartialFinder> {
+    finder: F,
     kept: Vec<u8>,
     gone: usize,
     from: usize,
@@ -27,7 +31,7 @@ pub struct StreamSearcher<'r> {
     is_finished: bool,
 }
 
-impl<'r> Model for StreamSearcher<'r> {
+impl<F: PartialFinder> Model for StreamSearcherOf<F> {
     ghost use Rattle.std.specs.Coded.{codes};
     ghost use Rattle.std.specs.Prelude.{length};
     ghost use Rattle.api_meta.specs.contracts.regex.Regex as regexes;
@@ -38,7 +42,7 @@ impl<'r> Model for StreamSearcher<'r> {
     ghost coded = { Prim.hlevel (codes, regexes.the_row.coded) };
 
     ghost view = { λ s. record {
-      regex = s.finder;
+      regex = F.searched_by s.finder;
       kept = s.kept.items;
       gone = s.gone;
       from = s.from;
@@ -50,7 +54,36 @@ impl<'r> Model for StreamSearcher<'r> {
     ghost invariant = { λ s. IsPlaced s.gone (length s.kept.items) s.from s.last };
 }
 
-impl<'r> StreamSearcher<'r> {
+impl<'r> StreamSearcherOf<Finder<'r>> {
+    ghost use Rattle.std.specs.Prelude.{◌≡◌, []};
+    ghost use Rattle.stream_search.specs.Searching.{WasFed, fresh};
+
+    /// Returns a search of a stream of which nothing has come yet, with no limit to the bytes that
+    /// it keeps. It takes no memory yet.
+    pub fn new(alloc: Global, finder: Finder<'r>) -> StreamSearcher<'r>
+        ensures fresh { result ≡ fresh finder.entry }
+        ensures fed { WasFed [] [] result }
+    {
+        StreamSearcherOf::over(alloc, finder)
+    }
+
+    /// Lets the search keep at most so many bytes.
+    pub fn with_limit(mut self, limit: usize) -> StreamSearcher<'r>
+        ensures { result ≡ record self.entry { limit = limit } }
+    {
+        self.set_limit(limit);
+        self
+    }
+
+    /// Returns the finder, for other searches.
+    pub fn into_finder(self) -> Finder<'r>
+        ensures { result ≡ self.entry.regex }
+    {
+        self.finder
+    }
+}
+
+impl<F: PartialFinder> StreamSearcherOf<F> {
     ghost use Rattle.std.specs.Prelude.{◌≡◌, ◌+◌, ◌-◌, ◌++◌, ◌∷◌, ◌<◌, ◌≤◌, ℕ, [], IfErr, IfOk, IfSome, IsTrue, List, MatchOption, None, Some, length, true};
     ghost use Rattle.rc_text.specs.Found.{Found};
     ghost use Rattle.rc_captures.specs.Captures.{IsCapturesFor, captures_slots, match_of};
@@ -61,13 +94,12 @@ impl<'r> StreamSearcher<'r> {
     ghost use Rattle.stream_search.specs.Searches.{matches_of, seeks};
     ghost use Rattle.stream_search.specs.Searching.{Finds, HoldsRest, IsAfter, IsRefusal, Stands, Takes, WasFed, fresh, left, let_go};
 
-    /// Returns a search of a stream of which nothing has come yet, with no limit to the bytes that
-    /// it keeps. It takes no memory yet.
-    pub fn new(alloc: Global, finder: Finder<'r>) -> StreamSearcher<'r>
-        ensures fresh { result ≡ fresh finder.entry }
+    /// Returns a search as `new` does, by another finder.
+    pub fn over(alloc: Global, finder: F) -> StreamSearcherOf<F>
+        ensures fresh { result ≡ fresh (F.searched_by finder) }
         ensures fed { WasFed [] [] result }
     {
-        StreamSearcher {
+        StreamSearcherOf {
             finder,
             kept: Vec::new(alloc),
             gone: 0,
@@ -79,10 +111,10 @@ impl<'r> StreamSearcher<'r> {
     }
 
     /// Lets the search keep at most so many bytes.
-    pub fn with_limit(self, limit: usize) -> StreamSearcher<'r>
-        ensures { result ≡ record self.entry { limit = limit } }
+    pub fn set_limit(&mut self, limit: usize)
+        ensures { self.new ≡ record self.old { limit = limit } }
     {
-        StreamSearcher { limit, ..self }
+        self.limit = limit;
     }
 
     /// Takes the next bytes of the stream. Before, it drops the bytes that no search needs.
@@ -206,7 +238,7 @@ impl<'r> StreamSearcher<'r> {
         ensures all { self.now.is_finished ≡ true → IsTrue result }
     {
         let mut input = input_from(self.kept.as_slice(), self.from - self.gone);
-        let regex = self.finder.regex();
+        let regex = self.finder.its_regex();
         let reach = regex.search_captures_reach_with(cache, &mut input, caps);
         self.is_finished || reach <= self.kept.len()
     }
@@ -304,12 +336,5 @@ impl<'r> StreamSearcher<'r> {
             → result ≡ length fed }
     {
         self.gone + self.kept.len()
-    }
-
-    /// Returns the finder, for other searches.
-    pub fn into_finder(self) -> Finder<'r>
-        ensures { result ≡ self.entry.regex }
-    {
-        self.finder
     }
 }

@@ -8,39 +8,39 @@ use Rattle.stream_search.proofs.Nexts.{lies}
 use Rattle.stream_search.proofs.search.search_kept.Goals as goal
 
 pub returns-then-not-is_finished-clause-lies : goal.returns-then-not-is_finished-clause-lies
-returns-then-not-is_finished-clause-lies c =
-    let r = c.args.finder.now in
+returns-then-not-is_finished-clause-lies g c =
+    let r = g.F.PartialFinder.searched_by c.args.finder.now in
     let i = c.input_from-input in
     let p = c.find_partial in
     lies_open r i.result c.args.kept.now c.args.at (i.ensures.search (sought r)) p.result c.requires.inside p.ensures.onward p.ensures.told
 
 pub returns-then-not-is_finished-clause-told : goal.returns-then-not-is_finished-clause-told
-returns-then-not-is_finished-clause-told c =
-    let r = c.args.finder.now in
+returns-then-not-is_finished-clause-told g c =
+    let r = g.F.PartialFinder.searched_by c.args.finder.now in
     let i = c.input_from-input in
     let p = c.find_partial in
     subst (λ f. IsTold (regex_kind r) (seeks r) f c.args.kept.now c.args.at (partial_of p.result)) (sym c.if-not-is_finished.true)
-    (told_open r i.result c.args.kept.now c.args.at (i.ensures.search (sought r)) p.result (returns-then-not-is_finished-clause-lies c) p.ensures.told)
+    (told_open r i.result c.args.kept.now c.args.at (i.ensures.search (sought r)) p.result (returns-then-not-is_finished-clause-lies g c) p.ensures.told)
 
 pub returns-in-None-clause-told : goal.returns-in-None-clause-told
-returns-in-None-clause-told c =
-    let r = c.args.finder.now in
+returns-in-None-clause-told g c =
+    let r = g.F.PartialFinder.searched_by c.args.finder.now in
     let i = c.input_from-input in
     let found = found_all r i.result c.args.kept.now c.args.at (i.ensures.search (sought r)) c.find.result i.ensures.earliest c.find.ensures.found_by in
     λ content b. told_none (regex_kind r) (seeks r) c.args.is_finished c.args.kept.now content c.args.at c.if-not-is_finished.false
     (found ∙ c.in-None.is) b
 
 pub returns-in-Some-clause-told : goal.returns-in-Some-clause-told
-returns-in-Some-clause-told c =
-    let r = c.args.finder.now in
+returns-in-Some-clause-told g c =
+    let r = g.F.PartialFinder.searched_by c.args.finder.now in
     let i = c.input_from-input in
     let found = found_all r i.result c.args.kept.now c.args.at (i.ensures.search (sought r)) c.find.result i.ensures.earliest c.find.ensures.found_by in
     λ content b. told_some (regex_kind r) (seeks r) c.args.is_finished c.args.kept.now content c.args.at c.in-Some.found c.if-not-is_finished.false
     (found ∙ c.in-Some.is) b
 
 pub returns-in-Some-clause-lies : goal.returns-in-Some-clause-lies
-returns-in-Some-clause-lies c =
-    let r = c.args.finder.now in
+returns-in-Some-clause-lies g c =
+    let r = g.F.PartialFinder.searched_by c.args.finder.now in
     let i = c.input_from-input in
     let found = found_all r i.result c.args.kept.now c.args.at (i.ensures.search (sought r)) c.find.result i.ensures.earliest c.find.ensures.found_by in
     lies (regex_kind r) (seeks r) c.args.kept.now c.args.at c.in-Some.found (found ∙ c.in-Some.is)

@@ -9,6 +9,7 @@ use Rattle.stream_search.proofs.step.search_opening.Goals as goal
 
 pub returns-clause-onward : goal.returns-clause-onward
 returns-clause-onward g c =
+    let r = g.F.PartialFinder.searched_by c.args.finder.now in
     let i = c.input_from-input in
     let p = c.find_partial in
     let shown = take c.new.result.len (g.C.Cursor.content c.new.result.cursor) in
@@ -19,11 +20,11 @@ returns-clause-onward g c =
     let inside = c.requires.inside in
     let long : length shown ≡ c.args.end = omega (arith, l, t, inside) in
     subst (λ n. GoesTo c.args.at n p.result) long
-    (goes_open c.args.finder.now i.result shown c.args.at (i.ensures.search (sought c.args.finder.now)) p.result (omega (arith, long, before)) p.ensures.onward)
+    (goes_open r i.result shown c.args.at (i.ensures.search (sought r)) p.result (omega (arith, long, before)) p.ensures.onward)
 
 pub returns-clause-told : goal.returns-clause-told
 returns-clause-told g c =
-    let r = c.args.finder.now in
+    let r = g.F.PartialFinder.searched_by c.args.finder.now in
     let i = c.input_from-input in
     let p = c.find_partial in
     let shown = take c.new.result.len (g.C.Cursor.content c.new.result.cursor) in

@@ -6,7 +6,7 @@ use Rattle.stream_search.proofs.step.search_rest.Goals as goal
 
 pub returns-then-at-total-clause-found : goal.returns-then-at-total-clause-found
 returns-then-at-total-clause-found g c =
-    let r = c.args.finder.now in
+    let r = g.F.PartialFinder.searched_by c.args.finder.now in
     let content = g.C.Cursor.content c.args.cursor in
     let total = c.in-Some.ensures.total in
     let past = c.if-at-total.true in
@@ -14,6 +14,6 @@ returns-then-at-total-clause-found g c =
 
 pub returns-clause-found : goal.returns-clause-found
 returns-clause-found g c =
-    let r = c.args.finder.now in
+    let r = g.F.PartialFinder.searched_by c.args.finder.now in
     let i = c.input_from-input in
     sym (found_all r i.result (g.C.Cursor.content c.args.cursor) c.args.at (i.ensures.search (sought r)) c.find.result i.ensures.earliest c.find.ensures.found_by)

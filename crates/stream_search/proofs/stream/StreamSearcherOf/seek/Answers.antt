@@ -5,15 +5,16 @@ use Rattle.stream_search.specs.Groups.{IsNext}
 use Rattle.stream_search.specs.Searching.{Streaming}
 use Rattle.stream_search.proofs.Grouped.{next_here, next_later, sought_at, sought_later}
 use Rattle.stream_search.proofs.Told.{all_came, second_told, skips_now, stood, took_now}
-use Rattle.stream_search.proofs.stream.StreamSearcher.seek.Goals as goal
-use Rattle.stream_search.proofs.stream.StreamSearcher.seek.Goals.{After-search_on-2}
+use Rattle.stream_search.proofs.stream.StreamSearcherOf.seek.Given.{Over}
+use Rattle.stream_search.proofs.stream.StreamSearcherOf.seek.Goals as goal
+use Rattle.stream_search.proofs.stream.StreamSearcherOf.seek.Goals.{After-search_on-2}
 
 pub returns-in_err-found-clause-all : goal.returns-in_err-found-clause-all
-returns-in_err-found-clause-all c =
+returns-in_err-found-clause-all g c =
     λ fed told was fin none. all_came c.args.self.now fed told was fin (c.search_on.ensures.none fed told was fin c.in_err-found.was)
 
 pub returns-then-not-is_again-clause-told : goal.returns-then-not-is_again-clause-told
-returns-then-not-is_again-clause-told c =
+returns-then-not-is_again-clause-told g c =
     let m = c.in_ok-found.found in
     let found = c.in_ok-found.ensures in
     λ fed told was. took_now (stood found.stays found.lies.0) fed told was m
@@ -21,9 +22,9 @@ returns-then-not-is_again-clause-told c =
     (found.told fed told was)
 
 -- the searcher, from the next byte on
-abbrev next : After-search_on-2 → Streaming
-next c = let l = c.self.inside in record {
-  regex = l.finder;
+abbrev next : (g : Over) → After-search_on-2 g → Streaming
+next g c = let l = c.self.inside in record {
+  regex = g.F.PartialFinder.searched_by l.finder;
   kept = l.kept.items;
   gone = l.gone;
   from = l.from + 1;
@@ -33,28 +34,28 @@ next c = let l = c.self.inside in record {
 }
 
 pub returns-clause-told : goal.returns-clause-told
-returns-clause-told c =
+returns-clause-told g c =
     let m = c.in_ok-found.found in
     let found = c.in_ok-found.ensures in
     let second = c.search_on-2.ensures in
     λ fed told was.
     let skipped = skips_now (c.self.view_is ∙ stood found.stays found.lies.0) fed told was m c.self.invariant.ended
     (sym c.is_again.ensures ∙ c.if-not-is_again.false) (found.told fed told was) in
-    second_told (next c) c.search_on-2.new.self fed told c.self.inside.from skipped c.self.invariant.ended refl second.stays c.search_on-2.result
+    second_told (next g c) c.search_on-2.new.self fed told c.self.inside.from skipped c.self.invariant.ended refl second.stays c.search_on-2.result
     second.lies (second.told fed told skipped)
 
 pub returns-clause-all : goal.returns-clause-all
-returns-clause-all c =
+returns-clause-all g c =
     let m = c.in_ok-found.found in
     let found = c.in_ok-found.ensures in
     let same = c.self.view_is ∙ stood found.stays found.lies.0 in
     λ fed told was fin none.
     let skipped = skips_now same fed told was m c.self.invariant.ended (sym c.is_again.ensures ∙ c.if-not-is_again.false) (found.told fed told was) in
     let done = ap (λ (s : Streaming). s.is_finished) same ∙ fin in
-    all_came (next c) fed told skipped done (c.search_on-2.ensures.none fed told skipped done none) ∙ ap (λ (s : Streaming). matches_of s.regex fed) same
+    all_came (next g c) fed told skipped done (c.search_on-2.ensures.none fed told skipped done none) ∙ ap (λ (s : Streaming). matches_of s.regex fed) same
 
 pub returns-then-not-is_again-clause-next : goal.returns-then-not-is_again-clause-next
-returns-then-not-is_again-clause-next c =
+returns-then-not-is_again-clause-next g c =
     let m = c.in_ok-found.found in
     let found = c.in_ok-found.ensures in
     let same = stood found.stays found.lies.0 in
@@ -64,7 +65,7 @@ returns-then-not-is_again-clause-next c =
     sought_at c.args.self.now c.args.self.now c.search_on.new.self fed told was found.stays m found.lies.0 (next_here c.args.self.now fed m finds fresh) finds
 
 pub returns-clause-next : goal.returns-clause-next
-returns-clause-next c =
+returns-clause-next g c =
     let m = c.in_ok-found.found in
     let found = c.in_ok-found.ensures in
     let second = c.search_on-2.ensures in
@@ -73,6 +74,6 @@ returns-clause-next c =
     λ fed told was.
     let finds = found.told fed told was in
     let skipped = skips_now same fed told was m c.self.invariant.ended (sym c.is_again.ensures ∙ c.if-not-is_again.false) finds in
-    sought_later c.args.self.now (next c) c.search_on-2.new.self fed told skipped second.stays
+    sought_later c.args.self.now (next g c) c.search_on-2.new.self fed told skipped second.stays
     (subst (λ k. IsNext c.args.self.now fed (k + 1)) (sym (ap (λ (s : Streaming). s.from) same)) (next_later c.args.self.now fed m finds again))
     c.search_on-2.result second.lies (second.told fed told skipped)

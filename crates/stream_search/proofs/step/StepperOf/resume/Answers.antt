@@ -1,7 +1,7 @@
 use Rattle.std.proofs.Common.{ap, arith, refl}
 use Rattle.stream_search.specs.Stepping.{Stepping}
 use Rattle.stream_search.proofs.Steps.{done_in, on_in}
-use Rattle.stream_search.proofs.step.Stepper.resume.Goals as goal
+use Rattle.stream_search.proofs.step.StepperOf.resume.Goals as goal
 
 pub search_opening-requires-clause-before : goal.search_opening-requires-clause-before
 search_opening-requires-clause-before g c =
@@ -24,7 +24,7 @@ returns-in-Final-clause-done g c =
 pub returns-in-From-clause-goes_on : goal.returns-in-From-clause-goes_on
 returns-in-From-clause-goes_on g c =
     λ start way. on_in c.self.view_is (g.C.Cursor.content c.args.cursor) (g.C.Cursor.content c.has_byte.new.cursor) c.has_byte.ensures.content
-    c.slice_end-end.result start way c.in-From.place c.search_opening.new.finder c.search_opening.ensures.regex c.in-From.ensures.told
+    c.slice_end-end.result start way c.in-From.place (g.F.PartialFinder.searched_by c.search_opening.new.finder) c.search_opening.ensures.regex c.in-From.ensures.told
 
 pub returns-in-From-clause-sliced : goal.returns-in-From-clause-sliced
 returns-in-From-clause-sliced g c =
