@@ -2,5 +2,7 @@
 #![tactic(auto)]
 
 pub mod search;
+pub mod step;
 
 pub use search::{FindError, find, find_whole};
+pub use step::find_on;
