@@ -18,8 +18,9 @@
  *
  * Who owns what: a full handle owns memory, which malloc gave and zf_free or the next zf_compile gives back. Handles of the same patterns, by
  * zf_share, own what is compiled together, and the last one gives it back. All else is the caller's.
- * Only zf_compile, zf_share, zf_explain, zf_replace, zf_replace_one, zf_live_new and zf_live_edit take memory, but for searches of some
- * patterns, whose cache may grow up to a limit, which the settings may set; where that is refused they go on without it, and answer the same.
+ * Only zf_compile, zf_share, zf_explain, zf_replace, zf_replace_one, zf_live_new, zf_live_edit, zf_stream_new, zf_stream_feed and zf_step_new
+ * take memory, but for searches of some patterns, whose cache may grow up to a limit, which the settings may set; where that is refused they
+ * go on without it, and answer the same.
  */
 #ifndef ZORFELITH_H
 #define ZORFELITH_H
@@ -50,8 +51,12 @@ enum {
     ZF_UNKNOWN = 12,  /* The settings have a byte that is on behind those that the library knows. */
     ZF_NO_LIST = 13,  /* The handle keeps no live list. */
     ZF_MISFIT = 14,   /* The chunks don't have the length that an edit gives. */
-    ZF_MORE_AFTER = 15, /* A window ends before the answer is known. */
-    ZF_MORE_BEFORE = 16 /* A window begins later than four bytes before the place to search from. */
+    ZF_MORE_AFTER = 15, /* A window or a slice ends before the answer is known. */
+    ZF_MORE_BEFORE = 16, /* A window begins later than four bytes before the place to search from. */
+    ZF_NO_STREAM = 17,  /* The handle keeps no stream. */
+    ZF_FINISHED = 18,   /* The stream was finished. */
+    ZF_LIMIT = 19,      /* The stream would keep more bytes than its limit. */
+    ZF_NO_STEPPER = 20  /* The handle keeps no search in slices. */
 };
 
 /* The version of this header: 1,000,000 times its first number, 1,000 times its second, and its third. */
@@ -77,8 +82,8 @@ static inline struct zf_bytes zf_bytes_of(const void *bytes, size_t len) {
     return some;
 }
 
-/* A compiled list of patterns, with its cache, the state of an iteration, and the live list of a text, if it keeps one. All of it is the
- * library's. */
+/* A compiled list of patterns, with its cache, the state of an iteration, and the live list of a text, a stream and a search in slices, if it
+ * keeps them. All of it is the library's. */
 struct zf_handle {
     uint8_t full;
     void *held;
@@ -179,6 +184,12 @@ struct zf_window {
     uint8_t is_last; /* not 0: the text ends with it; 0: more of the text may follow */
 };
 
+/* What a stream keeps. */
+struct zf_kept {
+    size_t start; /* where the first byte that it keeps stands in the stream: so many bytes before it were let go */
+    size_t len;   /* how many bytes it keeps */
+};
+
 /* How far an iteration has come. */
 struct zf_progress {
     size_t count; /* how many matches the call wrote */
@@ -196,8 +207,8 @@ uint32_t zf_compile(struct zf_handle *handle, const struct zf_bytes *patterns, s
                     size_t settings_size, struct zf_refused *refused);
 
 /* Fills `other` with a handle of the same patterns, and frees what it held before. Nothing is compiled again: what is compiled is read by both,
- * and each has a cache, an iteration and a live list of its own. So `other` is for another thread, or for the live list of another text. `handle`
- * stays as it was, and `other` begins as after zf_compile. The two are different.
+ * and each has a cache, an iteration, a live list, a stream and a search in slices of its own. So `other` is for another thread, or for the
+ * live list of another text, or another stream. `handle` stays as it was, and `other` begins as after zf_compile. The two are different.
  *
  * ZF_DONE; ZF_EMPTY: `handle` is empty, and `other` is as it was; ZF_MEMORY: `other` is empty. */
 uint32_t zf_share(struct zf_handle *handle, struct zf_handle *other);
@@ -357,6 +368,71 @@ uint32_t zf_live_previous(struct zf_handle *handle, size_t place, struct zf_matc
  * are. If the batch isn't full, *count < batch_len, these are all. A match with a byte there touches them, also one that begins above, and
  * so does an empty one there or at one of the ends. ZF_DONE, ZF_NO_LIST or ZF_EMPTY. */
 uint32_t zf_live_window(struct zf_handle *handle, size_t start, size_t end, struct zf_match *batch, size_t batch_len, size_t *count);
+
+/* Streams: a text that is still coming in, as from a pipe or a socket. A handle may keep one. The matches are those of zf_next from 0 on in the
+ * whole text, and each is told as soon as nothing that follows can change it, once and in order, however the text was cut. What was told
+ * is a beginning of the list of each text that the bytes fed so far may still become; once the stream is finished and zf_stream_next is
+ * ZF_DONE, it is the list of the text that was fed. Places are those of the whole stream. It keeps the bytes that it may read again, which
+ * are those of the match under way and some before, and has a cache of its own. All other calls leave it as it is, but for zf_compile and
+ * zf_free, which free it. Each call on a stream but zf_stream_new and zf_stream_free is ZF_NO_STREAM if the handle keeps none. */
+
+/* Begins a stream of which nothing has come yet, in place of the one that the handle keeps. It has no limit. ZF_DONE; ZF_EMPTY; or ZF_MEMORY,
+ * and all is as it was. */
+uint32_t zf_stream_new(struct zf_handle *handle);
+
+/* Lets the stream keep at most so many bytes after a feed; before, there is no limit. It may be changed at any time. ZF_DONE, ZF_NO_STREAM or
+ * ZF_EMPTY. */
+uint32_t zf_stream_limit(struct zf_handle *handle, size_t limit);
+
+/* Feeds the next bytes of the stream. It takes all of them, or none. Before, it lets go the bytes that no search needs any more.
+ *
+ * ZF_DONE; or the first of these that applies: ZF_FINISHED; ZF_TOO_LONG: the stream would have SIZE_MAX bytes or more; ZF_LIMIT: it would keep
+ * more bytes than its limit; ZF_MEMORY. Then nothing of the chunk was taken, and the stream goes on as if the call hadn't been. ZF_NO_STREAM
+ * or ZF_EMPTY. */
+uint32_t zf_stream_feed(struct zf_handle *handle, const uint8_t *bytes, size_t len);
+
+/* The next match. ZF_FOUND, and it is written to `found`, which else stays as it was. ZF_DONE: none is told until more is fed; once the
+ * stream is finished, there are no more. ZF_NO_STREAM or ZF_EMPTY. A match may come some bytes after its last one: it has to be sure that
+ * no longer one is there, and what assertions behind it see. Ask until it is ZF_DONE after each feed; it will be. */
+uint32_t zf_stream_next(struct zf_handle *handle, struct zf_match *found);
+
+/* Says that no more follows, so that zf_stream_next tells all that is left. ZF_DONE, also if it was finished; ZF_NO_STREAM or ZF_EMPTY. */
+uint32_t zf_stream_finish(struct zf_handle *handle);
+
+/* What the stream keeps. `kept` is written with ZF_DONE and with ZF_SHORT. ZF_DONE: the first kept->len bytes of `place` are those of the stream
+ * from kept->start on. ZF_SHORT: `place` has fewer bytes than these, and is as it was; so ask with a `place_len` of 0 for the numbers alone.
+ * The bytes of a match are among them until the next feed. ZF_NO_STREAM or ZF_EMPTY. */
+uint32_t zf_stream_kept(struct zf_handle *handle, uint8_t *place, size_t place_len, struct zf_kept *kept);
+
+/* Frees the stream. ZF_DONE, also if there was none; or ZF_EMPTY. */
+uint32_t zf_stream_free(struct zf_handle *handle);
+
+/* Searches in slices: each call searches some bytes of a text more, and returns. So a program can go on with other things between two calls,
+ * show how far it is, and stop at any of them. The match is that of zf_find from the start on in the whole text, however the slices are cut.
+ * A handle may keep one such search, which has a cache of its own. The text is handed to each call anew, whole, and may be cut otherwise
+ * each time; if it was edited, start again. All other calls leave the search as it is, but for zf_compile and zf_free, which free it. */
+
+/* Makes a search in slices from `start` on, in place of the one that the handle keeps. Nothing is searched yet. ZF_DONE; ZF_EMPTY; or ZF_MEMORY,
+ * and all is as it was. */
+uint32_t zf_step_new(struct zf_handle *handle, size_t start);
+
+/* Begins anew from `start` on, in this or in another text, in place of the search under way. It takes no memory. The next match is sought
+ * from where the one before ended; if that gives an empty one that ends there too, from a byte later. ZF_DONE, ZF_NO_STEPPER or ZF_EMPTY. */
+uint32_t zf_step_start(struct zf_handle *handle, size_t start);
+
+/* Searches about `budget` bytes more. It may read again as many as that, or more of them if something longer is under way, and then takes as
+ * many more; it always takes one at least.
+ *
+ * ZF_FOUND: `found` is the match from the start on; else it stays as it was. ZF_DONE: there is none. After both the search stands as it was
+ * before the call. ZF_MORE_AFTER: more bytes decide it; the text goes on behind them, so that calling again comes to an end. ZF_TOO_LONG,
+ * ZF_NO_STEPPER or ZF_EMPTY. */
+uint32_t zf_step_resume(struct zf_handle *handle, const struct zf_bytes *chunks, size_t chunk_count, size_t budget, struct zf_match *found);
+
+/* How many bytes of the text were looked at, or where the search begins. ZF_DONE, ZF_NO_STEPPER or ZF_EMPTY. */
+uint32_t zf_step_position(struct zf_handle *handle, size_t *position);
+
+/* Frees the search. ZF_DONE, also if there was none; or ZF_EMPTY. */
+uint32_t zf_step_free(struct zf_handle *handle);
 
 /* How many patterns there are. ZF_DONE or ZF_EMPTY. */
 uint32_t zf_pattern_count(struct zf_handle *handle, size_t *count);

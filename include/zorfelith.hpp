@@ -136,6 +136,10 @@ class error : public std::runtime_error {
         case ZF_NO_KIND: return "there is no such kind of match";
         case ZF_NO_LIST: return "the regex keeps no live list";
         case ZF_MISFIT: return "the text doesn't have the length that the edit gives";
+        case ZF_NO_STREAM: return "the regex keeps no stream";
+        case ZF_FINISHED: return "the stream was finished";
+        case ZF_LIMIT: return "the stream would keep more bytes than its limit";
+        case ZF_NO_STEPPER: return "the regex keeps no search in slices";
         default: return "status " + std::to_string(refused.status);
         }
     }
@@ -403,6 +407,68 @@ class regex {
         batch.resize(count);
         return batch;
     }
+
+    // Begins a stream of which nothing has come yet, and keeps it, in place of another one.
+    void stream_new() { told(zf_stream_new(&handle_)); }
+
+    // Lets the stream keep at most so many bytes.
+    void stream_limit(std::size_t limit) { told(zf_stream_limit(&handle_, limit)); }
+
+    // Feeds the next bytes of the stream. If that is refused, nothing of them was taken.
+    void stream_feed(const chunk &next) { told(zf_stream_feed(&handle_, next.bytes, next.len)); }
+
+    // The next match of the stream that nothing that follows can change, if there is one yet.
+    std::optional<match> stream_next() {
+        match found{};
+        if (!told(zf_stream_next(&handle_, &found)))
+            return std::nullopt;
+        return found;
+    }
+
+    // Says that no more follows.
+    void stream_finish() { told(zf_stream_finish(&handle_)); }
+
+    // The bytes that the stream keeps. `start` is set to where the first of them stands in the stream.
+    std::string stream_kept(std::size_t &start) {
+        zf_kept kept{};
+        std::string out;
+        std::uint32_t status = ZF_SHORT;
+        while (status == ZF_SHORT) {
+            out.resize(kept.len + 1);
+            status = zf_stream_kept(&handle_, reinterpret_cast<std::uint8_t *>(out.data()), out.size(), &kept);
+        }
+        told(status);
+        out.resize(kept.len);
+        start = kept.start;
+        return out;
+    }
+
+    // Frees the stream.
+    void stream_free() { told(zf_stream_free(&handle_)); }
+
+    // Makes a search in slices from `start` on, and keeps it, in place of another one.
+    void step_new(std::size_t start = 0) { told(zf_step_new(&handle_, start)); }
+
+    // Begins anew from `start` on.
+    void step_start(std::size_t start) { told(zf_step_start(&handle_, start)); }
+
+    // Searches about so many bytes more. ZF_FOUND: it is `found`. ZF_DONE: there is none. ZF_MORE_AFTER: more bytes decide it.
+    std::uint32_t step_resume(text in, std::size_t budget, match &found) {
+        const std::uint32_t status = zf_step_resume(&handle_, first(in), in.size(), budget, &found);
+        if (status != ZF_MORE_AFTER)
+            told(status);
+        return status;
+    }
+
+    // How many bytes of the text were looked at.
+    std::size_t step_position() {
+        std::size_t position = 0;
+        told(zf_step_position(&handle_, &position));
+        return position;
+    }
+
+    // Frees the search in slices.
+    void step_free() { told(zf_step_free(&handle_)); }
 
     std::size_t pattern_count() {
         std::size_t count = 0;

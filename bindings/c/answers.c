@@ -104,6 +104,37 @@ static uint32_t by_windows(struct zf_handle *handle, struct zf_bytes text, size_
     return status;
 }
 
+/* Whether the next match of the iteration over the text isn't this one; none of it has a start of ZF_NONE. */
+static int is_other(struct zf_handle *handle, const struct zf_bytes *chunks, size_t count, struct zf_match found) {
+    struct zf_match next = {0, ZF_NONE, 0};
+    struct zf_progress progress;
+    if (zf_next(handle, chunks, count, ZF_NONE, &next, 1, &progress) != ZF_DONE)
+        return 1;
+    return next.start != found.start || (found.start != ZF_NONE && (next.end != found.end || next.pattern != found.pattern));
+}
+
+/* Whether a stream that is fed the chunks tells other matches than the iteration over the text does. */
+static int by_stream(struct zf_handle *handle, const struct zf_bytes *chunks, size_t count) {
+    struct zf_match found = {0, ZF_NONE, 0};
+    int differs = zf_restart(handle, 0, 0) != ZF_DONE || zf_stream_new(handle) != ZF_DONE;
+    for (size_t i = 0; i <= count && !differs; i++) {
+        differs |= (i < count ? zf_stream_feed(handle, chunks[i].bytes, chunks[i].len) : zf_stream_finish(handle)) != ZF_DONE;
+        while (!differs && zf_stream_next(handle, &found) == ZF_FOUND)
+            differs |= is_other(handle, chunks, count, found);
+    }
+    found.start = ZF_NONE;
+    return differs || is_other(handle, chunks, count, found) || zf_stream_free(handle) != ZF_DONE;
+}
+
+/* Whether a search in slices finds another match than this one, or ends otherwise. */
+static int by_steps(struct zf_handle *handle, const struct zf_bytes *chunks, size_t count, size_t start, uint32_t status, struct zf_match found) {
+    struct zf_match other = {7, 7, 7};
+    uint32_t stepped = zf_step_new(handle, start) == ZF_DONE ? ZF_MORE_AFTER : ZF_MEMORY;
+    for (size_t budget = 1; stepped == ZF_MORE_AFTER; budget = budget % 3 + 1)
+        stepped = zf_step_resume(handle, chunks, count, budget, &other);
+    return stepped != status || (status == ZF_FOUND && memcmp(&other, &found, sizeof found) != 0) || zf_step_free(handle) != ZF_DONE;
+}
+
 static void answer(char kind, struct zf_handle *handle, struct zf_bytes text, size_t cut, const struct zf_bytes *chunks, size_t count, size_t start,
                    size_t end, size_t capacity) {
     struct zf_match found = {7, 7, 7};
@@ -113,6 +144,8 @@ static void answer(char kind, struct zf_handle *handle, struct zf_bytes text, si
     if (kind == 'a') {
         printf("all");
         all_matches(handle, chunks, count, start, end, capacity);
+        if (start == 0 && end == ZF_NONE && by_stream(handle, chunks, count))
+            printf(" by a stream otherwise");
         return;
     }
     if (kind == 'm') {
@@ -131,6 +164,8 @@ static void answer(char kind, struct zf_handle *handle, struct zf_bytes text, si
     struct zf_match other = {7, 7, 7};
     if (by_windows(handle, text, cut, start, end, &other) != status || (status == ZF_FOUND && memcmp(&other, &found, sizeof found) != 0))
         printf(" by windows otherwise");
+    if (end == ZF_NONE && status != ZF_OUTSIDE && by_steps(handle, chunks, count, start, status, found))
+        printf(" by steps otherwise");
     if (status != ZF_FOUND)
         return;
     printf(" %zu:%zu-%zu", found.pattern, found.start, found.end);

@@ -287,6 +287,111 @@ static void call_live_window(struct zf_handle *handle) {
     wanted("no places", zf_live_window(handle, 0, 9, batch, 0, &count), ZF_DONE);
 }
 
+/* Begins a stream. */
+static void with_stream(struct zf_handle *handle) { wanted("a stream", zf_stream_new(handle), ZF_DONE); }
+
+static uint32_t feed(struct zf_handle *handle, const char *bytes) { return zf_stream_feed(handle, (const uint8_t *)bytes, strlen(bytes)); }
+
+static void call_stream_new(struct zf_handle *handle) {
+    with_stream(handle);
+    wanted("fed", feed(handle, "xxab"), ZF_DONE);
+    with_stream(handle);
+    wanted("compiled with a stream", compile(handle, compiled, ZF_LEFTMOST_FIRST), ZF_DONE);
+    with_stream(handle);
+    wanted("fed", feed(handle, "xxab"), ZF_DONE);
+}
+
+static void call_stream_limit(struct zf_handle *handle) {
+    wanted("no stream", zf_stream_limit(handle, 3), ZF_NO_STREAM);
+    with_stream(handle);
+    wanted("a limit", zf_stream_limit(handle, 3), ZF_DONE);
+    wanted("beyond the limit", feed(handle, "xxab"), ZF_LIMIT);
+}
+
+static void call_stream_feed(struct zf_handle *handle) {
+    wanted("no stream", feed(handle, "xxab"), ZF_NO_STREAM);
+    with_stream(handle);
+    wanted("fed", feed(handle, "xxab"), ZF_DONE);
+    wanted("fed nothing", zf_stream_feed(handle, zf_none, 0), ZF_DONE);
+    wanted("finished", zf_stream_finish(handle), ZF_DONE);
+    wanted("fed once more", feed(handle, "c"), ZF_FINISHED);
+}
+
+static void call_stream_next(struct zf_handle *handle) {
+    struct zf_match found;
+    wanted("no stream", zf_stream_next(handle, &found), ZF_NO_STREAM);
+    with_stream(handle);
+    wanted("fed", feed(handle, "xxab"), ZF_DONE);
+    wanted("none yet", zf_stream_next(handle, &found), ZF_DONE);
+    wanted("fed", feed(handle, "c"), ZF_DONE);
+    wanted("finished", zf_stream_finish(handle), ZF_DONE);
+    wanted("a match", zf_stream_next(handle, &found), ZF_FOUND);
+    wanted("no more", zf_stream_next(handle, &found), ZF_DONE);
+}
+
+static void call_stream_finish(struct zf_handle *handle) {
+    wanted("no stream", zf_stream_finish(handle), ZF_NO_STREAM);
+    with_stream(handle);
+    wanted("fed", feed(handle, "xxabc"), ZF_DONE);
+    wanted("finished", zf_stream_finish(handle), ZF_DONE);
+    wanted("finished again", zf_stream_finish(handle), ZF_DONE);
+}
+
+static void call_stream_kept(struct zf_handle *handle) {
+    uint8_t place[4];
+    struct zf_kept kept;
+    wanted("no stream", zf_stream_kept(handle, place, 4, &kept), ZF_NO_STREAM);
+    with_stream(handle);
+    wanted("fed", feed(handle, "xxab"), ZF_DONE);
+    wanted("the kept bytes", zf_stream_kept(handle, place, 4, &kept), ZF_DONE);
+    wanted("too short a place", zf_stream_kept(handle, place, 3, &kept), ZF_SHORT);
+}
+
+static void call_stream_free(struct zf_handle *handle) {
+    with_stream(handle);
+    wanted("fed", feed(handle, "xxab"), ZF_DONE);
+    wanted("freed", zf_stream_free(handle), ZF_DONE);
+    wanted("freed again", zf_stream_free(handle), ZF_DONE);
+}
+
+/* Makes a search in slices. */
+static void with_stepper(struct zf_handle *handle) { wanted("a search in slices", zf_step_new(handle, 0), ZF_DONE); }
+
+static void call_step_new(struct zf_handle *handle) {
+    with_stepper(handle);
+    with_stepper(handle);
+    wanted("compiled with a search in slices", compile(handle, compiled, ZF_LEFTMOST_FIRST), ZF_DONE);
+    with_stepper(handle);
+}
+
+static void call_step_start(struct zf_handle *handle) {
+    wanted("no search", zf_step_start(handle, 1), ZF_NO_STEPPER);
+    with_stepper(handle);
+    wanted("begun anew", zf_step_start(handle, 1), ZF_DONE);
+}
+
+static void call_step_resume(struct zf_handle *handle) {
+    struct zf_match found;
+    wanted("no search", zf_step_resume(handle, text, 2, 1, &found), ZF_NO_STEPPER);
+    with_stepper(handle);
+    wanted("a slice", zf_step_resume(handle, text, 2, 1, &found), ZF_MORE_AFTER);
+    wanted("a match", zf_step_resume(handle, text, 2, 8, &found), ZF_FOUND);
+    wanted("no match", zf_step_resume(handle, short_text, 1, 8, &found), ZF_DONE);
+}
+
+static void call_step_position(struct zf_handle *handle) {
+    size_t position;
+    wanted("no search", zf_step_position(handle, &position), ZF_NO_STEPPER);
+    with_stepper(handle);
+    wanted("a position", zf_step_position(handle, &position), ZF_DONE);
+}
+
+static void call_step_free(struct zf_handle *handle) {
+    with_stepper(handle);
+    wanted("freed", zf_step_free(handle), ZF_DONE);
+    wanted("freed again", zf_step_free(handle), ZF_DONE);
+}
+
 static const struct {
     const char *name;
     void (*call)(struct zf_handle *);
@@ -323,6 +428,18 @@ static const struct {
     {"zf_live_next", call_live_next},
     {"zf_live_previous", call_live_previous},
     {"zf_live_window", call_live_window},
+    {"zf_stream_new", call_stream_new},
+    {"zf_stream_limit", call_stream_limit},
+    {"zf_stream_feed", call_stream_feed},
+    {"zf_stream_next", call_stream_next},
+    {"zf_stream_finish", call_stream_finish},
+    {"zf_stream_kept", call_stream_kept},
+    {"zf_stream_free", call_stream_free},
+    {"zf_step_new", call_step_new},
+    {"zf_step_start", call_step_start},
+    {"zf_step_resume", call_step_resume},
+    {"zf_step_position", call_step_position},
+    {"zf_step_free", call_step_free},
 };
 
 int main(int argc, char **argv) {

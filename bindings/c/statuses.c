@@ -169,6 +169,54 @@ static void windows(struct zf_handle *handle) {
     told("a window that ends too far on", zf_window_find(handle, inner, 2, &far, &from, ZF_NONE, &found));
 }
 
+/* What a stream tells that comes in by chunks, and what it keeps. */
+static void streams(struct zf_handle *handle) {
+    uint8_t place[8];
+    struct zf_match found = {7, 7, 7};
+    struct zf_kept kept = {7, 7};
+    told("a stream of an empty handle", zf_stream_new(handle));
+    refused("of words by streams", handle, bytes_of("a+b"), ZF_LEFTMOST_FIRST);
+    told("fed to no stream", zf_stream_feed(handle, (const uint8_t *)"xaa", 3));
+    told("a stream", zf_stream_new(handle));
+    told("fed", zf_stream_feed(handle, (const uint8_t *)"xaa", 3));
+    told("no match yet", zf_stream_next(handle, &found));
+    printf("  %zu..%zu\n", found.start, found.end);
+    told("the bytes that are kept", zf_stream_kept(handle, place, sizeof place, &kept));
+    printf("  %zu, %.*s\n", kept.start, (int)kept.len, (const char *)place);
+    told("kept bytes in too short a place", zf_stream_kept(handle, place, 2, &kept));
+    printf("  %zu, %zu\n", kept.start, kept.len);
+    told("a limit", zf_stream_limit(handle, 4));
+    told("fed beyond the limit", zf_stream_feed(handle, (const uint8_t *)"aab", 3));
+    told("fed up to the limit", zf_stream_feed(handle, (const uint8_t *)"b", 1));
+    told("finished", zf_stream_finish(handle));
+    told("fed once more", zf_stream_feed(handle, (const uint8_t *)"b", 1));
+    told("a match of a stream", zf_stream_next(handle, &found));
+    printf("  %zu..%zu\n", found.start, found.end);
+    told("no more", zf_stream_next(handle, &found));
+    told("freed", zf_stream_free(handle));
+    told("no stream to finish", zf_stream_finish(handle));
+}
+
+/* What a search in slices tells. */
+static void steps(struct zf_handle *handle) {
+    const struct zf_bytes text[2] = {{(const uint8_t *)"xxa", 3}, {(const uint8_t *)"ab", 2}};
+    struct zf_match found = {7, 7, 7};
+    size_t position = 7;
+    told("slices of an empty handle", zf_step_new(handle, 0));
+    refused("of words by slices", handle, bytes_of("a+b"), ZF_LEFTMOST_FIRST);
+    told("the position of no search", zf_step_position(handle, &position));
+    told("a search in slices", zf_step_new(handle, 0));
+    told("a slice", zf_step_resume(handle, text, 2, 1, &found));
+    told("its position", zf_step_position(handle, &position));
+    printf("  %zu..%zu, position %zu\n", found.start, found.end, position);
+    told("a match of a slice", zf_step_resume(handle, text, 2, 9, &found));
+    printf("  %zu..%zu\n", found.start, found.end);
+    told("begun anew", zf_step_start(handle, 5));
+    told("no match of a slice", zf_step_resume(handle, text, 2, 9, &found));
+    told("freed", zf_step_free(handle));
+    told("no search to begin anew", zf_step_start(handle, 0));
+}
+
 /* What replaces one match. */
 static void one(struct zf_handle *handle) {
     const struct zf_bytes text[2] = {{(const uint8_t *)"abc abc", 7}, {(const uint8_t *)" abc", 4}};
@@ -236,6 +284,10 @@ int main(void) {
     partials(&handle);
     zf_free(&handle);
     windows(&handle);
+    zf_free(&handle);
+    streams(&handle);
+    zf_free(&handle);
+    steps(&handle);
     zf_free(&handle);
     one(&handle);
     kinds(&handle);

@@ -211,6 +211,49 @@ class Lists(unittest.TestCase):
         self.assertEqual(list(live), [(1, 2)])
 
 
+class Streams(unittest.TestCase):
+    def test_a_stream_gives_the_matches_of_the_whole_text(self):
+        text = b"user=7 id=1234 user=88\n"
+        for pattern in (r"[a-z]+=\d+", r"\d\b", "x*", "nowhere"):
+            regex = zorfelith.compile(pattern)
+            wanted = [it.span() for it in regex.finditer(text)]
+            for size in range(1, len(text) + 1):
+                stream, told = regex.stream(), []
+                for at in range(0, len(text), size):
+                    told += stream.feed(text[at:at + size])
+                    start, kept = stream.kept()
+                    self.assertEqual(kept, text[start:at + size])
+                    self.assertEqual(told, wanted[:len(told)])
+                self.assertEqual(told + stream.finish(), wanted)
+
+    def test_what_a_stream_refuses(self):
+        stream = zorfelith.compile("a+b").stream(limit=4)
+        self.assertEqual(stream.feed(b"xaa"), [])
+        with self.assertRaises(zorfelith.Error) as raised:
+            stream.feed(b"aab")
+        self.assertEqual((raised.exception.status, stream.kept()), (19, (0, b"xaa")))
+        self.assertEqual(stream.feed(b"b") + stream.finish(), [(1, 4)])
+        with self.assertRaises(zorfelith.Error) as raised:
+            stream.feed(b"b")
+        self.assertEqual(raised.exception.status, 18)
+
+    def test_steps(self):
+        text = b"user=7 id=1234 user=88\n"
+        regex = zorfelith.compile(r"[a-z]+=\d+")
+        steps = regex.steps()
+        for start, wanted in ((0, (0, 6)), (8, (8, 14)), (14, (15, 22)), (22, None)):
+            for budget in range(1, len(text) + 2):
+                steps.start(start)
+                self.assertEqual(steps.position, start)
+                cut = budget % len(text)
+                for slices in range(len(text) + 1):
+                    before = steps.position
+                    if steps.resume([text[:cut], text[cut:]], budget):
+                        break
+                    self.assertTrue(before + budget <= steps.position < len(text))
+                self.assertEqual((steps.found, slices < len(text)), (wanted, True))
+
+
 class Layouts(unittest.TestCase):
     def test_structs_lie_as_the_list_says(self):
         listed = (pathlib.Path(__file__).resolve().parents[2] / "include/zorfelith.abi").read_text()

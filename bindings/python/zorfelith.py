@@ -21,8 +21,8 @@ import os
 import re
 import threading
 
-__all__ = ["ALL", "Change", "Error", "Fault", "LEFTMOST_FIRST", "LEFTMOST_LONGEST", "Live", "Match", "Pattern", "compile", "escape", "explain",
-           "version"]
+__all__ = ["ALL", "Change", "Error", "Fault", "LEFTMOST_FIRST", "LEFTMOST_LONGEST", "Live", "Match", "Pattern", "Steps", "Stream", "compile",
+           "escape", "explain", "version"]
 
 LEFTMOST_FIRST, ALL, LEFTMOST_LONGEST = 0, 1, 2
 
@@ -40,6 +40,10 @@ _WORDS = {
     13: "the pattern keeps no live list",
     14: "the text doesn't have the length that the edit gives",
     16: "the bytes don't begin at the place that was asked for",
+    17: "the pattern keeps no stream",
+    18: "the stream was finished",
+    19: "the stream would keep more bytes than its limit",
+    20: "the pattern keeps no search in slices",
 }
 _FLAGS = ("case_insensitive", "multi_line", "dot_matches_new_line", "crlf", "swap_greed", "bytes", "any_bytes", "split_characters")
 _LIMITS = ("size_limit", "cache_capacity")
@@ -98,6 +102,10 @@ class _Change(ctypes.Structure):
     _fields_ = [("first", _size), ("dropped", _size), ("added", _size), ("start", _size), ("end", _size)]
 
 
+class _Kept(ctypes.Structure):
+    _fields_ = [("start", _size), ("len", _size)]
+
+
 class _Progress(ctypes.Structure):
     _fields_ = [("count", _size), ("next", _size)]
 
@@ -148,6 +156,18 @@ def _loaded():
         "zf_live_next": [handle, _size, match],
         "zf_live_previous": [handle, _size, match],
         "zf_live_window": [handle, _size, _size, match, _size, at],
+        "zf_stream_new": [handle],
+        "zf_stream_limit": [handle, _size],
+        "zf_stream_feed": [handle, *chars],
+        "zf_stream_next": [handle, match],
+        "zf_stream_finish": [handle],
+        "zf_stream_kept": [handle, *chars, ctypes.POINTER(_Kept)],
+        "zf_stream_free": [handle],
+        "zf_step_new": [handle, _size],
+        "zf_step_start": [handle, _size],
+        "zf_step_resume": [handle, *text, _size, match],
+        "zf_step_position": [handle, at],
+        "zf_step_free": [handle],
         "zf_pattern_count": [handle, at],
         "zf_group_count": [handle, _size, at],
         "zf_group_name": [handle, _size, _size, ctypes.c_char_p, _size, at],
@@ -309,12 +329,11 @@ class Match:
         return {name: self._bytes(self._all()[number], default) for name, number in names.items()}
 
 
-class Live:
-    """The list of all matches of a text, kept under edits of that text. Pattern.live makes it. Its matches are spans; it is a sequence of them."""
+class _Apart:
+    """A second handle of a Pattern's patterns, which keeps something of a text."""
 
-    def __init__(self, of, text):
+    def __init__(self, of):
         self._own, self._handle = of._own, of._shared()
-        self.renew(text)
 
     def __del__(self):
         of = getattr(self, "_handle", None)
@@ -324,6 +343,14 @@ class Live:
     def _call(self):
         self._own()
         return self._handle.handle
+
+
+class Live(_Apart):
+    """The list of all matches of a text, kept under edits of that text. Pattern.live makes it. Its matches are spans; it is a sequence of them."""
+
+    def __init__(self, of, text):
+        super().__init__(of)
+        self.renew(text)
 
     def renew(self, text):
         """Makes the list anew, of this text."""
@@ -365,6 +392,72 @@ class Live:
         batch, count = (_Match * max(most, 1))(), _size()
         _told(_zf.zf_live_window(self._call(), start, end, batch, most, count))
         return [(it.start, it.end) for it in batch[:count.value]]
+
+
+class Stream(_Apart):
+    """A text that is still coming, as from a pipe. Pattern.stream makes it. Its matches are those of the whole text, as spans in it, and each comes
+    as soon as nothing that follows can change it."""
+
+    def __init__(self, of, limit):
+        super().__init__(of)
+        _told(_zf.zf_stream_new(self._call()))
+        if limit is not None:
+            _told(_zf.zf_stream_limit(self._call(), limit))
+
+    def _next(self):
+        found, spans = _Match(), []
+        while _told(_zf.zf_stream_next(self._call(), found)):
+            spans.append((found.start, found.end))
+        return spans
+
+    def feed(self, chunk):
+        """Takes the next bytes, and returns the matches that are settled by them. If it raises, nothing of them was taken."""
+        chunk = bytes(chunk)
+        _told(_zf.zf_stream_feed(self._call(), chunk, len(chunk)))
+        return self._next()
+
+    def finish(self):
+        """Says that no more follows, and returns the matches that are left."""
+        _told(_zf.zf_stream_finish(self._call()))
+        return self._next()
+
+    def kept(self):
+        """Where the first byte that it keeps stands in the whole text, and the bytes from there on, up to the last that was fed."""
+        kept = _Kept()
+        _zf.zf_stream_kept(self._call(), b"", 0, kept)
+        place = ctypes.create_string_buffer(max(kept.len, 1))
+        _told(_zf.zf_stream_kept(self._call(), place, kept.len, kept))
+        return kept.start, place.raw[:kept.len]
+
+
+class Steps(_Apart):
+    """A search of a text in slices, between which other work is done. Pattern.steps makes it. `found` is its match, a span, once it has ended."""
+
+    def __init__(self, of, start):
+        super().__init__(of)
+        self.found = None
+        _told(_zf.zf_step_new(self._call(), start))
+
+    def start(self, start):
+        """Begins another search from start on, in this or in another text."""
+        self.found = None
+        _told(_zf.zf_step_start(self._call(), start))
+
+    def resume(self, text, budget=65536):
+        """Searches about so many bytes more, and returns whether the search has ended. The text is the whole one each time, cut as you like."""
+        text, found = _Text(text), _Match()
+        status = _zf.zf_step_resume(self._call(), text.array, text.count, budget, found)
+        if status == _MORE_AFTER:
+            return False
+        self.found = (found.start, found.end) if _told(status) else None
+        return True
+
+    @property
+    def position(self):
+        """How many bytes of the text were looked at, or where the search begins."""
+        at = _size()
+        _told(_zf.zf_step_position(self._call(), at))
+        return at.value
 
 
 class _Owned:
@@ -417,6 +510,14 @@ class Pattern:
     def live(self, text):
         """The list of all matches of the text, which can be kept under edits."""
         return Live(self, text)
+
+    def stream(self, limit=None):
+        """A text that is still coming, of which nothing has come yet. It keeps at most `limit` bytes."""
+        return Stream(self, limit)
+
+    def steps(self, start=0):
+        """A search in slices, from start on."""
+        return Steps(self, start)
 
     def is_match(self, text, start=0, end=None):
         """Whether there is a match from start to end."""

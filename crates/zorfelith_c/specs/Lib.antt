@@ -7,5 +7,7 @@ pub mod Options
 pub mod Refusals
 pub mod Replacing
 pub mod Statuses
+pub mod Steps
+pub mod Streams
 pub mod Tells
 pub mod Windows

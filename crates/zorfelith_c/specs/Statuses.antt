@@ -68,3 +68,19 @@ more_after = 15
 -- a window begins later than four bytes before the place to search from
 abbrev pub more_before : ℕ
 more_before = 16
+
+-- the handle keeps no stream
+abbrev pub no_stream : ℕ
+no_stream = 17
+
+-- the stream was finished
+abbrev pub finished : ℕ
+finished = 18
+
+-- the stream would keep more bytes than its limit
+abbrev pub limit : ℕ
+limit = 19
+
+-- the handle keeps no search in slices
+abbrev pub no_stepper : ℕ
+no_stepper = 20

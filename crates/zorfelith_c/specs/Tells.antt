@@ -75,9 +75,7 @@ LeavesGroups s chunks start end (suc (suc n)) old new t = (t ≡ Some s) × (new
 pub record IsBatch (s : Searching) (text : List ℕ) (end : ℕ) (batch : List MatchAt) (p : Progress) (t : Searching) : Type 0 where
   pub filled : IsFilled (left_in s text end) (left_in t text end) batch p.count
   pub next : p.next ≡ t.from
-  pub regex : t.regex ≡ s.regex
-  pub captures : t.captures ≡ s.captures
-  pub live : t.live ≡ s.live
+  pub rest : t ≡ record s { from = t.from; last = t.last }
 
 -- what a call for a batch tells, and what it leaves in the handle: after a fault what was there
 abbrev pub TellsBatch : Searching → List (Bor (List ℕ)) → ℕ → ℕ → List MatchAt → Progress → Option Searching → Type 0

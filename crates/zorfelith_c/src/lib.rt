@@ -16,4 +16,6 @@ mod options;
 pub mod replace;
 pub mod search;
 pub mod status;
+pub mod step;
+pub mod stream;
 pub mod window;

@@ -173,7 +173,7 @@ fn put_text(bytes: &[u8], count: usize, place: &mut [u8], replaced: &mut Replace
 }
 
 /// Writes the bytes, and returns the status: `DONE` or `SHORT`.
-fn put_bytes(bytes: &[u8], place: &mut [u8]) -> u32
+pub(crate) fn put_bytes(bytes: &[u8], place: &mut [u8]) -> u32
     ensures answered { IsTextPut bytes.now result place.new }
     ensures unwritten { result ≢ done → place.new ≡ place.old }
 {

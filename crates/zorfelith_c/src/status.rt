@@ -34,3 +34,11 @@ pub const MISFIT: u32 = 14;
 pub const MORE_AFTER: u32 = 15;
 /// A window begins later than four bytes before the place to search from.
 pub const MORE_BEFORE: u32 = 16;
+/// The handle keeps no stream.
+pub const NO_STREAM: u32 = 17;
+/// The stream was finished.
+pub const FINISHED: u32 = 18;
+/// The stream would keep more bytes than its limit.
+pub const LIMIT: u32 = 19;
+/// The handle keeps no search in slices.
+pub const NO_STEPPER: u32 = 20;

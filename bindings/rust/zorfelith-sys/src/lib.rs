@@ -22,6 +22,10 @@ pub const ZF_NO_LIST: u32 = 13;
 pub const ZF_MISFIT: u32 = 14;
 pub const ZF_MORE_AFTER: u32 = 15;
 pub const ZF_MORE_BEFORE: u32 = 16;
+pub const ZF_NO_STREAM: u32 = 17;
+pub const ZF_FINISHED: u32 = 18;
+pub const ZF_LIMIT: u32 = 19;
+pub const ZF_NO_STEPPER: u32 = 20;
 
 /// The version that these declarations are of.
 pub const ZF_VERSION: u32 = 1000;
@@ -134,6 +138,13 @@ pub struct zf_change {
 pub struct zf_window {
     pub start: usize,
     pub is_last: u8,
+}
+
+#[repr(C)]
+#[derive(Clone, Copy, Default)]
+pub struct zf_kept {
+    pub start: usize,
+    pub len: usize,
 }
 
 #[repr(C)]
@@ -281,6 +292,24 @@ unsafe extern "C" {
         batch_len: usize,
         count: *mut usize,
     ) -> u32;
+    pub fn zf_stream_new(handle: *mut zf_handle) -> u32;
+    pub fn zf_stream_limit(handle: *mut zf_handle, limit: usize) -> u32;
+    pub fn zf_stream_feed(handle: *mut zf_handle, bytes: *const u8, len: usize) -> u32;
+    pub fn zf_stream_next(handle: *mut zf_handle, found: *mut zf_match) -> u32;
+    pub fn zf_stream_finish(handle: *mut zf_handle) -> u32;
+    pub fn zf_stream_kept(handle: *mut zf_handle, place: *mut u8, place_len: usize, kept: *mut zf_kept) -> u32;
+    pub fn zf_stream_free(handle: *mut zf_handle) -> u32;
+    pub fn zf_step_new(handle: *mut zf_handle, start: usize) -> u32;
+    pub fn zf_step_start(handle: *mut zf_handle, start: usize) -> u32;
+    pub fn zf_step_resume(
+        handle: *mut zf_handle,
+        chunks: *const zf_bytes<'_>,
+        chunk_count: usize,
+        budget: usize,
+        found: *mut zf_match,
+    ) -> u32;
+    pub fn zf_step_position(handle: *mut zf_handle, position: *mut usize) -> u32;
+    pub fn zf_step_free(handle: *mut zf_handle) -> u32;
     pub fn zf_pattern_count(handle: *mut zf_handle, count: *mut usize) -> u32;
     pub fn zf_group_count(handle: *mut zf_handle, pattern: usize, count: *mut usize) -> u32;
     pub fn zf_group_name(
