@@ -1,5 +1,5 @@
 -- An entry: a match, and how many bytes settle it.
-use Rattle.std.specs.Prelude.{◌≡◌, ℕ, ◌<◌, ◌≤◌, min, if◌then◌else◌, nat_lt}
+use Rattle.std.specs.Prelude.{ℕ, min, if◌then◌else◌, nat_lt}
 use Rattle.rc_text.specs.Found.{Found}
 
 -- A match of a list. The bytes before its end settle it, with so many after its end.

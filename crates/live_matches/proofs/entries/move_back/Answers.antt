@@ -1,5 +1,5 @@
-use Rattle.std.proofs.Common.{◌∙◌, ◌++◌, ◌∷◌, [], sym, ap, subst, arith}
-use Rattle.live_matches.specs.Entries.{AreBelow, Rise, TwoSides, counted_back, entries_of, most_of}
+use Rattle.std.proofs.Common.{◌∙◌, ◌++◌, ◌∷◌, sym, ap, subst, arith}
+use Rattle.live_matches.specs.Entries.{Rise, TwoSides, counted_back, entries_of, most_of}
 use Rattle.live_matches.proofs.Gaps.{below, most_push, moved_back, rise_pop}
 use Rattle.live_matches.proofs.entries.move_back.Goals as goal
 

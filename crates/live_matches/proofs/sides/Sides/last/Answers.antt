@@ -1,4 +1,4 @@
-use Rattle.std.proofs.Common.{◌∙◌, ap, arith}
+use Rattle.std.proofs.Common.{arith}
 use Rattle.live_matches.proofs.Gaps.{last_of}
 use Rattle.live_matches.proofs.sides.Sides.last.Goals as goal
 
