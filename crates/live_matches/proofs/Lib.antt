@@ -11,6 +11,7 @@ mod Searches
 mod Lives
 mod Had
 mod Cuts
+mod Opens
 mod Windows
 mod Bounds
 mod Quiets

@@ -8,6 +8,10 @@ use Rattle.live_matches.specs.declared.sides.Kept.{Kept}
 abbrev pub reach_of : Entry → ℕ
 reach_of e = e.found.end + e.ahead
 
+-- More bytes settle the entry than a text of `len` bytes has: it depends on where that text ends.
+abbrev pub is_open : ℕ → Entry → Bool
+is_open len e = nat_lt len (reach_of e)
+
 -- The entry, its places counted from the other end of a text of so many bytes.
 abbrev pub mirror : ℕ → Entry → Entry
 mirror len e = record {

@@ -1,6 +1,6 @@
 //! Entries: a list of matches with a gap that follows the edits.
 ghost use Rattle.std.specs.Prelude.{◌≡◌, ◌+◌, ◌++◌, ◌∷◌, ◌<◌, ◌≤◌, ℕ, [], IfOk, IsTrue, List, MatchOption, false, min};
-ghost use Rattle.live_matches.specs.Entries.{AreBelow, Rise, counted_back, entries_of, is_before, most_of, reach_of};
+ghost use Rattle.live_matches.specs.Entries.{AreBelow, Rise, counted_back, entries_of, is_before, is_open, most_of, reach_of};
 ghost use Rattle.live_matches.specs.Lists.{place_of};
 ghost use Rattle.live_matches.specs.Stretches.{last_start};
 ghost use Rattle.live_matches.specs.declared.sides.Kept.{Kept as a_kept};
@@ -34,7 +34,8 @@ impl Model for Entries {
 
 impl Entries {
     ghost use Rattle.std.specs.Prelude.{◌≡◌, ◌+◌, ◌-◌, ◌++◌, ◌<◌, ◌≤◌, ◌^◌, ◌∷◌, [], All, IfOk, IfSome, IsTrue, MatchOption, length, map, slice_get};
-    ghost use Rattle.live_matches.specs.Entries.{AreBehind, AreBelow, FitsEdit, IsSettledTo, IsSkipped, all_of, last_end, len_after, moved_with};
+    ghost use Rattle.std.specs.List.{list_any};
+    ghost use Rattle.live_matches.specs.Entries.{AreBehind, AreBelow, FitsEdit, IsSettledTo, IsSkipped, all_of, is_open, last_end, len_after, moved_with};
     ghost use Rattle.live_matches.specs.Quiet.{BeginFrom, HasGone, IsSkippedOver};
     ghost use Rattle.live_matches.specs.Stretches.{IsDroppedBack};
 
@@ -87,6 +88,22 @@ impl Entries {
     /// Roughly the number of bytes that the list has allocated.
     pub fn memory_usage(&self) -> usize {
         self.sides.memory_usage()
+    }
+
+    /// Whether an entry depends on where the text ends: more bytes settle it than the text has. It
+    /// looks at the entries up to the first such one.
+    pub fn is_open_ended(&self) -> bool
+        ensures { result ≡ list_any (is_open self.now.len) (all_of self.now) }
+    {
+        let len = self.text_len();
+        let mut index = 0;
+        'each: while index < self.len() {
+            if is_open(self.get(index), len) {
+                return true;
+            }
+            index += 1;
+        }
+        false
     }
 
     /// The entry with this index, in order, or `None` if there are no more.
@@ -270,6 +287,16 @@ pub fn is_before(mark: Option<usize>, at: usize, margin: usize) -> bool
     match mark {
         Some(mark) => mark < at || mark - at < margin,
         None => true,
+    }
+}
+
+/// Whether the entry is there, and more bytes settle it than a text of `len` bytes has.
+fn is_open(entry: Option<Entry>, len: usize) -> bool
+    ensures { MatchOption entry (result ≡ false) (λ e. result ≡ is_open len e) }
+{
+    match entry {
+        Some(entry) => entry.is_open(len),
+        None => false,
     }
 }
 

@@ -1,6 +1,6 @@
 //! Entry: a match of a list, with how many bytes settle it; and an edit of its text.
 ghost use Rattle.std.specs.Prelude.{◌≡◌, ◌+◌, ◌-◌, ◌<◌, ◌≤◌, ◌^◌, IsTrue, min};
-ghost use Rattle.live_matches.specs.Entries.{mirror, moved_with, reach_of};
+ghost use Rattle.live_matches.specs.Entries.{is_open, mirror, moved_with, reach_of};
 
 use regex_cursor::types::{Match, PatternID, Span};
 use std::marker::Model;
@@ -107,14 +107,32 @@ impl Entry {
         self.span.end
     }
 
-    /// How many bytes settle it, or the greatest `usize` if they are more than that.
-    pub fn reach(&self) -> usize
-        ensures { result ≡ min (reach_of self.now) usize.MAX }
+    /// How many bytes after its end settle it. The greatest `usize` stands for all that a text may
+    /// have.
+    fn ahead(&self) -> usize
+        ensures { result ≡ self.now.ahead }
     {
         if self.ahead == u32::MAX {
             return usize::MAX;
         }
-        self.span.end.saturating_add(self.ahead as usize)
+        self.ahead as usize
+    }
+
+    /// How many bytes settle it, or the greatest `usize` if they are more than that.
+    pub fn reach(&self) -> usize
+        ensures { result ≡ min (reach_of self.now) usize.MAX }
+    {
+        self.span.end.saturating_add(self.ahead())
+    }
+
+    /// Whether more bytes settle it than a text of `len` bytes has.
+    pub fn is_open(&self, len: usize) -> bool
+        ensures { result ≡ is_open len self.now }
+    {
+        match self.span.end.checked_add(self.ahead()) {
+            Some(reach) => len < reach,
+            None => true,
+        }
     }
 
     /// The entry with its places counted from the other end of a text of `len` bytes.

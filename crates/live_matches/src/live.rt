@@ -48,7 +48,9 @@ impl LiveMatches {
     ghost use Rattle.rc_program.specs.Matches.{AreInOrder, begin_of, end_of};
     ghost use Rattle.live_matches.specs.Reading.{IsAbove, IsCut, IsDownTo, IsLastBefore, IsNextFrom, matches_left, touches};
     ghost use Rattle.rc_text.specs.Text.{Keeps};
+    ghost use Rattle.std.specs.List.{list_any};
     ghost use Rattle.live_matches.specs.Drawn.{IsDrawn};
+    ghost use Rattle.live_matches.specs.Entries.{is_open};
     ghost use Rattle.live_matches.specs.Lists.{IsChanged};
     ghost use Rattle.live_matches.specs.Live.{IsCacheOf, IsLive, IsStale, IsWhole, WasLive, listed};
     ghost use Rattle.live_matches.specs.Quiet.{IsLongest};
@@ -359,6 +361,16 @@ impl LiveMatches {
     pub fn memory_usage(&self) -> usize {
         let entries = self.entries.memory_usage();
         entries.saturating_add(self.stretches.memory_usage())
+    }
+
+    /// Whether a match depends on where the text ends: more bytes settle it than the text has. Then
+    /// each edit behind the start of that match reads on to the end of the text. So it is with
+    /// `(?s).*x|a`, and with a last match that ends with the text, as a word of `\w+`. It looks at
+    /// the matches up to the first such one.
+    pub fn is_open_ended(&self) -> bool
+        ensures { result ≡ list_any (is_open self.now.len) self.now.entries }
+    {
+        self.entries.is_open_ended()
     }
 
     /// Whether the list is stale: out of memory, an edit left it so. It has no matches then.
