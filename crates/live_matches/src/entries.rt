@@ -1,5 +1,5 @@
 //! Entries: a list of matches with a gap that follows the edits.
-ghost use Rattle.std.specs.Prelude.{◌≡◌, ◌+◌, ◌++◌, ◌∷◌, ◌<◌, ◌≤◌, ℕ, [], IfOk, IsTrue, List, MatchOption, false, min};
+ghost use Rattle.std.specs.Prelude.{◌≡◌, ◌+◌, ◌++◌, ◌∷◌, ◌<◌, ◌≤◌, ℕ, [], IfOk, IfSome, IsTrue, List, MatchOption, false, min};
 ghost use Rattle.live_matches.specs.Entries.{AreBelow, Rise, counted_back, entries_of, is_before, is_open, most_of, reach_of};
 ghost use Rattle.live_matches.specs.Lists.{place_of};
 ghost use Rattle.live_matches.specs.Stretches.{last_start};
@@ -296,6 +296,16 @@ fn is_open(entry: Option<Entry>, len: usize) -> bool
 {
     match entry {
         Some(entry) => entry.is_open(len),
+        None => false,
+    }
+}
+
+/// Whether the entry is there, and begins before a place.
+pub fn begins_before(entry: Option<Entry>, place: usize) -> bool
+    ensures { result ≡ false → IfSome entry (λ e. place ≤ e.found.start) }
+{
+    match entry {
+        Some(entry) => entry.start() < place,
         None => false,
     }
 }

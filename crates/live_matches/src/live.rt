@@ -6,7 +6,7 @@ use crate::entries::Entries;
 use crate::entry::{Changed, Edit};
 use crate::iter::LiveMatchesIter;
 use crate::ranges::{begin_of_range, join, search_to};
-use crate::search::{search_on, update};
+use crate::search::{search_all, update};
 use crate::stretches::Stretches;
 use rc_text::input::{content_fits, high};
 use regex_cursor::engines::meta::{Cache, Regex};
@@ -169,7 +169,8 @@ impl LiveMatches {
         self.entries.clear(len);
         self.stretches.clear(len);
         self.is_stale = false;
-        let done = search_on(&mut self.entries, None, regex, cache, input);
+        let (entries, stretches) = (&mut self.entries, &mut self.stretches);
+        let done = search_all(entries, stretches, regex, cache, input);
         input.set_start(0);
         if done.is_err() {
             self.make_stale();

@@ -13,10 +13,10 @@ ghost use Rattle.live_matches.specs.Live.{Goes, IsCacheOf, IsOver, WereEntries, 
 ghost use Rattle.live_matches.specs.Quiet.{BeginFrom, HasGone, IsCarried, IsFrom, IsLeft, IsLongest, IsShort};
 ghost use Rattle.live_matches.specs.Stretches.{AreStretches, IsQuiet};
 
-use crate::entries::{Entries, place_of};
+use crate::entries::{Entries, begins_before, place_of};
 use crate::entry::{Edit, Entry, entry_of};
 use crate::search::{LOOKS_BEHIND, mark_after, next_entry, search_from};
-use crate::stretches::{Stretch, Stretches};
+use crate::stretches::{STEP, Stretch, Stretches};
 use rc_text::input::content_fits;
 use regex_cursor::engines::meta::{Cache, Regex};
 use regex_cursor::types::{MatchKind, Span};
@@ -165,16 +165,6 @@ fn is_met<C: Cursor>(
         return false;
     }
     finds_none_by(regex, cache, input, start, stop)
-}
-
-/// Whether the entry is there, and begins before a place.
-fn begins_before(entry: Option<Entry>, place: usize) -> bool
-    ensures { result ≡ false → IfSome entry (λ e. place ≤ e.found.start) }
-{
-    match entry {
-        Some(entry) => entry.start() < place,
-        None => false,
-    }
 }
 
 /// Returns the next entry of the list, if the match before it ended at `last`. The next match has
@@ -375,9 +365,61 @@ fn stretch_on<C: Cursor>(
     stretches.go_on(stretch, stop, limit, regex, cache, input)
 }
 
+/// Makes the stretch behind a new match longer, as `stretch_on` does. It stays as it is if no old
+/// list is taken up and the last two matches are near each other: the next one is likely near too.
+/// An `Err` means out of memory.
+fn stretch_behind<C: Cursor>(
+    entries: &Entries,
+    stretches: &mut Stretches,
+    mark: Option<usize>,
+    stretch: Stretch,
+    regex: &Regex,
+    cache: &mut Cache,
+    input: &mut Input<C>,
+) -> Result<Stretch, AllocError>
+    requires made { IsCacheOf regex.now cache.old }
+    requires over { IsOver input.old }
+    requires leftmost { regex_kind regex.now ≢ all_matches }
+    requires len { entries.now.len ≡ length input.old.content }
+    requires stretches_len { stretches.old.entries.len ≡ length input.old.content }
+    requires order { stretch.start ≤ stretch.end }
+    requires inside { stretch.end ≤ length input.old.content }
+    requires are { AreStretches (regex_kind regex.now) (seeks regex.now) input.old.content 0
+        (all_of stretches.old.entries) }
+    requires quiet { IsQuiet (regex_kind regex.now) (seeks regex.now) input.old.content
+        stretch.reach stretch.start stretch.end }
+    ensures cache { IsCacheOf regex.now cache.new }
+    ensures keeps { Keeps input.old input.new }
+    ensures len { IfOk result (λ _. stretches.new.entries.len ≡ length input.old.content) }
+    ensures are { IfOk result (λ _. AreStretches (regex_kind regex.now) (seeks regex.now)
+        input.old.content 0 (all_of stretches.new.entries)) }
+    ensures start { IfOk result (λ r. r.start ≡ stretch.start) }
+    ensures order { IfOk result (λ r. stretch.end ≤ r.end) }
+    ensures inside { IfOk result (λ r. r.end ≤ length input.old.content) }
+    ensures quiet { IfOk result (λ r. IsQuiet (regex_kind regex.now) (seeks regex.now)
+        input.old.content r.reach r.start r.end) }
+{
+    if mark.is_none() && ends_near(entries) {
+        return Ok(stretch);
+    }
+    stretch_on(entries, stretches, mark, stretch, regex, cache, input)
+}
+
+/// Whether the last two matches before the gap are less than two steps apart.
+fn ends_near(entries: &Entries) -> bool {
+    let count = entries.count_before();
+    if count < 2 {
+        return false;
+    }
+    let (Some(one), Some(next)) = (entries.get(count - 2), entries.get(count - 1)) else {
+        return false;
+    };
+    next.start().saturating_sub(one.end()) < 2 * STEP
+}
+
 /// Searches on from the last match before the gap, by steps, until a match ends where the list is
 /// taken up, or no match begins before that. An `Err` means out of memory.
-fn search_quiet<C: Cursor>(
+pub fn search_quiet<C: Cursor>(
     entries: &mut Entries,
     stretches: &mut Stretches,
     mark: Option<usize>,
@@ -420,7 +462,7 @@ fn search_quiet<C: Cursor>(
         entries.push(entry)?;
         mark = skip_past(entries, mark, end);
         stretch = Stretch::at(end);
-        stretch = stretch_on(entries, stretches, mark, stretch, regex, cache, input)?;
+        stretch = stretch_behind(entries, stretches, mark, stretch, regex, cache, input)?;
     }
     Ok(())
 }

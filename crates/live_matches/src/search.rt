@@ -1,5 +1,5 @@
 //! Searches for the entries of a list, one after the other.
-ghost use Rattle.std.specs.Prelude.{◌≡◌, ◌+◌, ◌-◌, ◌^◌, ◌<◌, ◌≤◌, IfOk, IfSome, IsTrue, MatchOption, None, Some, length};
+ghost use Rattle.std.specs.Prelude.{◌≡◌, ◌+◌, ◌-◌, ◌^◌, ◌<◌, ◌≤◌, [], IfOk, IfSome, IsTrue, MatchOption, None, Some, length};
 ghost use Rattle.rc_program.specs.Matches.{begin_of, end_of, is_again};
 ghost use Rattle.rc_reach.specs.Fixed.{IsFixed};
 ghost use Rattle.rc_reach.specs.Live.{found_by};
@@ -14,7 +14,7 @@ ghost use Rattle.live_matches.specs.Stretches.{AreStretches};
 use crate::changes::{Ahead, change_of};
 use crate::entries::{Entries, is_before, place_of};
 use crate::entry::{Changed, Edit, Entry, entry_of};
-use crate::quiet::{carry_near, carry_quiet, is_leftmost, short_length};
+use crate::quiet::{carry_near, carry_quiet, is_leftmost, search_quiet, short_length};
 use crate::stretches::Stretches;
 use rc_text::input::content_fits;
 use regex_cursor::engines::meta::{Cache, Reached, Regex};
@@ -122,6 +122,41 @@ pub fn search_on<C: Cursor>(
     Ok(())
 }
 
+/// Searches for all entries of a text. If leftmost matches count, it lays stretches where they are
+/// far apart. There are no entries after the gap. An `Err` means out of memory.
+pub fn search_all<C: Cursor>(
+    entries: &mut Entries,
+    stretches: &mut Stretches,
+    regex: &Regex,
+    cache: &mut Cache,
+    input: &mut Input<C>,
+) -> Result<(), AllocError>
+    requires made { IsCacheOf regex.now cache.old }
+    requires over { IsOver input.old }
+    requires len { entries.old.len ≡ length input.old.content }
+    requires first { AreFirst (regex_kind regex.now) (seeks regex.now) input.old.content None
+        entries.old.before }
+    requires rest { entries.old.after ≡ [] }
+    requires stretches_len { stretches.old.entries.len ≡ length input.old.content }
+    requires are { AreStretches (regex_kind regex.now) (seeks regex.now) input.old.content 0
+        (all_of stretches.old.entries) }
+    ensures cache { IsCacheOf regex.now cache.new }
+    ensures goes { Goes input.old input.new }
+    ensures over { IsOver input.new }
+    ensures on { IfOk result (λ _. IsSearchedOn entries.old entries.new) }
+    ensures all { IfOk result (λ _. AreEntries (regex_kind regex.now) (seeks regex.now)
+        input.old.content None (all_of entries.new)) }
+    ensures stretches_len { IfOk result (λ _. stretches.new.entries.len
+        ≡ length input.old.content) }
+    ensures are { IfOk result (λ _. AreStretches (regex_kind regex.now) (seeks regex.now)
+        input.old.content 0 (all_of stretches.new.entries)) }
+{
+    if is_leftmost(regex) {
+        return search_quiet(entries, stretches, None, regex, cache, input);
+    }
+    search_on(entries, None, regex, cache, input)
+}
+
 /// Makes the entries and the stretches those of a text after an edit of it. `longest` is the
 /// greatest length of a match, if it is known. An `Err` means out of memory.
 pub fn update<C: Cursor>(
@@ -164,7 +199,7 @@ pub fn update<C: Cursor>(
 }
 
 /// Carries the entries over an edit, which the bytes before it settle as far as they are before the
-/// gap. An `Err` means out of memory.
+/// gap. With a length it needs no stretches, and drops them. An `Err` means out of memory.
 fn carry<C: Cursor>(
     entries: &mut Entries,
     stretches: &mut Stretches,
@@ -195,6 +230,8 @@ fn carry<C: Cursor>(
         input.old.content 0 (all_of stretches.new.entries)) }
 {
     if let Some(longest) = short_length(regex, longest) {
+        let len = stretches.entries.text_len();
+        stretches.clear(len);
         return carry_near(entries, longest, regex, cache, edit, input);
     }
     if is_leftmost(regex) {

@@ -11,7 +11,7 @@ ghost use Rattle.live_matches.specs.Live.{IsCacheOf, IsOver, seeks};
 ghost use Rattle.live_matches.specs.Quiet.{BeginFrom, HasGone};
 ghost use Rattle.live_matches.specs.Stretches.{IsQuiet, IsStretch};
 
-use crate::entries::Entries;
+use crate::entries::{Entries, begins_before};
 use crate::entry::{Edit, Entry, entry_of};
 use crate::input::whole_input;
 use crate::search::LOOKS_BEHIND;
@@ -22,7 +22,7 @@ use regex_cursor::{Cursor, Input};
 use std::alloc::{AllocError, Global};
 
 /// How many bytes are asked at once whether a match begins in them.
-const STEP: usize = 4096;
+pub const STEP: usize = 4096;
 
 /// How many bytes of the next stretch are asked with those before it, so that the two meet.
 const OVER: usize = 64;
@@ -155,7 +155,7 @@ impl Stretches {
             → IsQuiet kind s c result.reach at result.end }
     {
         let mut stretch = Stretch::at(at);
-        let mut index = 0;
+        let mut index = self.index_near(at);
         'each: while index < self.entries.count_before() {
             if let Some(entry) = self.entries.get(index) {
                 stretch = stretch.with(entry);
@@ -163,6 +163,21 @@ impl Stretches {
             index += 1;
         }
         stretch
+    }
+
+    /// The index of the last stretch before the gap that begins before a place, or 0.
+    fn index_near(&self, at: usize) -> usize {
+        let mut low = 0;
+        let mut high = self.entries.count_before();
+        'halves: while low < high {
+            let middle = low + (high - low) / 2;
+            if begins_before(self.entries.get(middle), at) {
+                low = middle + 1;
+            } else {
+                high = middle;
+            }
+        }
+        low.saturating_sub(1)
     }
 
     /// Adds a stretch before the gap. Those before it go that begin after its start, and those after

@@ -71,8 +71,8 @@ push-requires g c =
     let h = (left_falls (regex_kind r) (seeks r) content c.last_end-last.result e.found is.found).1 in
     omega (arith, h, i.on.len, c.requires.len)
 
-pub stretch_on-requires-in-quiet-clause-inside : goal.stretch_on-requires-in-quiet-clause-inside
-stretch_on-requires-in-quiet-clause-inside g c =
+pub stretch_behind-requires-clause-inside : goal.stretch_behind-requires-clause-inside
+stretch_behind-requires-clause-inside g c =
     let r = c.args.regex.now in
     let content = c.args.input.now.content in
     let e = c.in-Some.entry in
@@ -83,8 +83,8 @@ stretch_on-requires-in-quiet-clause-inside g c =
     let same = ap length (c.in-Some.ensures.goes.content ∙ i.goes.content) in
     omega (arith, h, end, c.end-end.ensures.value, same)
 
-pub stretch_on-requires-in-quiet-clause-quiet : goal.stretch_on-requires-in-quiet-clause-quiet
-stretch_on-requires-in-quiet-clause-quiet g c =
+pub stretch_behind-requires-clause-quiet : goal.stretch_behind-requires-clause-quiet
+stretch_behind-requires-clause-quiet g c =
     let r = c.args.regex.now in
     let content = c.entry_behind.new.input.content in
     subst (λ (t : Stretch). IsQuiet (regex_kind r) (seeks r) content t.reach t.start t.end) (sym c.at-stretch.ensures)
@@ -119,7 +119,7 @@ quiet-preserved g c =
     let on = c.in_ok-stretch-2.ensures in
     let t = c.in_ok-stretch-2.stretch in
     let from = c.entry_behind.new.input in
-    let to = c.stretch_on-in-quiet.new.input in
+    let to = c.stretch_behind.new.input in
     let same = was.goes.content ∙ i.goes.content in
     let long = ap length same in
     record {
@@ -136,7 +136,7 @@ quiet-preserved g c =
       start = on.start ∙ ap (λ (t : Stretch). t.start) c.at-stretch.ensures ∙ c.end-end.ensures.value ∙ sym (ap place_of ends);
       quiet = subst (λ x. IsQuiet (regex_kind r) (seeks r) x t.reach t.start t.end) same on.quiet;
       stretches_len = on.len ∙ long;
-      are = subst (λ x. AreStretches (regex_kind r) (seeks r) x 0 (all_of c.stretch_on-in-quiet.new.stretches.entries)) same on.are;
+      are = subst (λ x. AreStretches (regex_kind r) (seeks r) x 0 (all_of c.stretch_behind.new.stretches.entries)) same on.are;
     }
 
 pub returns-clause-all : goal.returns-clause-all
