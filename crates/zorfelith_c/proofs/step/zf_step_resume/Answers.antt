@@ -16,21 +16,21 @@ returns-clause-answered c =
     let slice = TellsSlice c.args.chunks.now c.args.budget status found in
     let left : OfStepper s status t slice = elim c.match-take_stepper.branch [
       | in-Some w ↦
-        let old = w.in-Some.stepper in
-        let new = w.resume-status.new.stepper in
-        let had : s.stepper ≡ Some old = search rules in
-        let kept : t ≡ record s { stepper = Some new } = search rules in
-        let told : slice old new =
-        subst (λ (n : ℕ). TellsSlice c.args.chunks.now c.args.budget n found old new) (sym w.status-is)
-        (subst (λ (m : MatchAt). TellsSlice c.args.chunks.now c.args.budget w.resume-status.result m old new) (sym w.found-is)
-        w.resume-status.ensures.answered) in
-        subst (λ (u : Searching). OfStepper s status u slice) (sym kept) (
-          refl,
-          subst (λ (o : Option Stepping). MatchOption o ((status ≡ no_stepper) × (Some new ≡ None)) (λ (x : Stepping). slice x new)) (sym had) told,
-        )
+          let old = w.in-Some.stepper in
+          let new = w.resume-status.new.stepper in
+          let had : s.stepper ≡ Some old = search rules in
+          let kept : t ≡ record s { stepper = Some new } = search rules in
+          let told : slice old new =
+          subst (λ (n : ℕ). TellsSlice c.args.chunks.now c.args.budget n found old new) (sym w.status-is)
+          (subst (λ (m : MatchAt). TellsSlice c.args.chunks.now c.args.budget w.resume-status.result m old new) (sym w.found-is)
+          w.resume-status.ensures.answered) in
+          subst (λ (u : Searching). OfStepper s status u slice) (sym kept) (
+            refl,
+            subst (λ (o : Option Stepping). MatchOption o ((status ≡ no_stepper) × (Some new ≡ None)) (λ (x : Stepping). slice x new)) (sym had) told,
+          )
       | in-None w ↦ search rules
     ] in
     subst (λ (o : Option Searching). MatchOption o ((status ≡ empty) × (c.of.result.held.value ≡ None))
-        (λ (s : Searching). MatchOption c.of.result.held.value ⊥ (λ (t : Searching). OfStepper s status t slice)))
+    (λ (s : Searching). MatchOption c.of.result.held.value ⊥ (λ (t : Searching). OfStepper s status t slice)))
     (sym c.take-held.ensures.taken)
     (subst (λ (o : Option Searching). MatchOption o ⊥ (λ (t : Searching). OfStepper s status t slice)) (sym c.of.ensures) left)

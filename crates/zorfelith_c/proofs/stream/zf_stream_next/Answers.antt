@@ -16,6 +16,6 @@ returns-clause-answered c =
       | in-None w ↦ search rules
     ] in
     subst (λ (o : Option Searching). MatchOption o ((status ≡ empty) × (c.of.result.held.value ≡ None))
-        (λ (s : Searching). MatchOption c.of.result.held.value ⊥ (λ (t : Searching). OfStream s status t (TellsNext status found))))
+    (λ (s : Searching). MatchOption c.of.result.held.value ⊥ (λ (t : Searching). OfStream s status t (TellsNext status found))))
     (sym c.take-held.ensures.taken)
     (subst (λ (o : Option Searching). MatchOption o ⊥ (λ (t : Searching). OfStream s status t (TellsNext status found))) (sym c.of.ensures) left)
