@@ -30,12 +30,20 @@ any_take (suc n) (m ∷ ms) none =
     let parts = or_parts m.selected (list_any is_selected ms) none in
     or_from m.selected (list_any is_selected (take n ms)) parts.0 (any_take n ms parts.1)
 
-pub marked_none : (picks : List ℕ → Bool) (ls : List (List ℕ)) → list_any is_selected (marked picks 0 ls) ≡ false
-marked_none picks [] = refl
-marked_none picks (l ∷ ls) =
-    let no : (picks l && false) ≡ false = and_right (picks l) false refl in
-    or_from (picks l && false) (list_any is_selected (marked picks (cond (picks l && false) 0 0) ls)) no
-    (subst (λ k. list_any is_selected (marked picks k ls) ≡ false) (sym (ap (λ b. cond b 0 0) no)) (marked_none picks ls))
+pub marked_none : (picks : ℕ → List ℕ → Bool) (p : ℕ) (ls : List (List ℕ)) → list_any is_selected (marked picks 0 p ls) ≡ false
+marked_none picks p [] = refl
+marked_none picks p (l ∷ ls) =
+    let no : (picks p l && false) ≡ false = and_right (picks p l) false refl in
+    or_from (picks p l && false) (list_any is_selected (marked picks (cond (picks p l && false) 0 0) (p + length l + 1) ls)) no
+    (subst (λ k. list_any is_selected (marked picks k (p + length l + 1) ls) ≡ false) (sym (ap (λ b. cond b 0 0) no)) (marked_none picks (p + length l + 1) ls))
+
+-- where a test looks at the line alone, places don't matter
+pub marked_anywhere : (picks : List ℕ → Bool) (most p q : ℕ) (ls : List (List ℕ)) → marked (λ _. picks) most p ls ≡ marked (λ _. picks) most q ls
+marked_anywhere picks most p q [] = refl
+marked_anywhere picks most p q (l ∷ ls) =
+    let passes = picks l && nat_lt 0 most in
+    ap (λ (ms : List Marked). record { line = l; selected = passes } ∷ ms)
+    (marked_anywhere picks (cond passes (most - 1) most) (p + length l + 1) (q + length l + 1) ls)
 
 plains_none : (ls : List (List ℕ)) → list_any is_selected (map plain ls) ≡ false
 plains_none [] = refl

@@ -4,3 +4,4 @@ mod PageLemmas
 mod PartLemmas
 mod ContextLemmas
 mod StandsLemmas
+mod TouchedLemmas

@@ -60,12 +60,12 @@ Flushes e old new before after =
 abbrev pub Skips : Extent → (old new : Progress) → List ℕ → Type 0
 Skips e old new line = (rest : List Marked) → ahead e old (plain line ∷ rest) ≡ ahead e new rest
 
--- Reading a text stands behind some of its lines, `count` of which were selected, and `left` is what is left of it: what was printed goes on
--- with what is to be printed yet.
-pub record Stands (t : ℕ) (e : Extent) (picks : List ℕ → Bool) (p : Progress) (old now : Option (List Part)) (left : Option (List ℕ)) (count : ℕ) (text : List ℕ) : Type 0 where
+-- Reading a text stands behind some of its lines, `count` of which were selected, and `left` is what is left of it, from the place on: what
+-- was printed goes on with what is to be printed yet.
+pub record Stands (t : ℕ) (e : Extent) (picks : ℕ → List ℕ → Bool) (p : Progress) (old now : Option (List Part)) (left : Option (List ℕ)) (count place : ℕ) (text : List ℕ) : Type 0 where
   pub rest : List ℕ
   pub known : left ≡ Some rest
   pub parts : List Part
   pub told : Prints old now parts
-  pub all : printed t e picks text ≡ parts ++ ahead e p (marked picks (e.most - count) (lines t rest))
-  pub counted : selected_count t picks e.most text ≡ count + length (filter is_selected (marked picks (e.most - count) (lines t rest)))
+  pub all : printed t e picks text ≡ parts ++ ahead e p (marked picks (e.most - count) place (lines t rest))
+  pub counted : selected_count t picks e.most text ≡ count + length (filter is_selected (marked picks (e.most - count) place (lines t rest)))

@@ -17,12 +17,13 @@ pub record Marked : Type 0 where
 abbrev pub is_selected : Marked → Bool
 is_selected m = m.selected
 
--- the lines; the first `most` of those that the test passes are selected
-abbrev pub marked : (List ℕ → Bool) → ℕ → List (List ℕ) → List Marked
-marked picks most [] = []
-marked picks most (line ∷ rest) =
-    let passes = picks line && nat_lt 0 most in
-    record { line = line; selected = passes } ∷ marked picks (if passes then most - 1 else most) rest
+-- The lines, the first of which begins at the place. The first `most` of those that the test passes are selected. It is asked of a line and
+-- the place where that begins.
+abbrev pub marked : (ℕ → List ℕ → Bool) → (most place : ℕ) → List (List ℕ) → List Marked
+marked picks most place [] = []
+marked picks most place (line ∷ rest) =
+    let passes = picks place line && nat_lt 0 most in
+    record { line = line; selected = passes } ∷ marked picks (if passes then most - 1 else most) (place + length line + 1) rest
 
 -- the bytes of lines, with a terminator behind each
 abbrev pub size_of : List Marked → ℕ
@@ -65,12 +66,12 @@ separated behind [] = []
 separated behind (s ∷ rest) = gap behind s.number ++ line_of s ∷ separated (Some (s.number + 1)) rest
 
 -- what is printed of a text
-abbrev pub printed : (terminator : ℕ) → Extent → (List ℕ → Bool) → (text : List ℕ) → List Part
-printed t e picks text = separated None (shown e [] (marked picks e.most (lines t text)))
+abbrev pub printed : (terminator : ℕ) → Extent → (ℕ → List ℕ → Bool) → (text : List ℕ) → List Part
+printed t e picks text = separated None (shown e [] (marked picks e.most 0 (lines t text)))
 
 -- the number of selected lines
-abbrev pub selected_count : (terminator : ℕ) → (List ℕ → Bool) → (most : ℕ) → (text : List ℕ) → ℕ
-selected_count t picks most text = length (filter is_selected (marked picks most (lines t text)))
+abbrev pub selected_count : (terminator : ℕ) → (ℕ → List ℕ → Bool) → (most : ℕ) → (text : List ℕ) → ℕ
+selected_count t picks most text = length (filter is_selected (marked picks most 0 (lines t text)))
 
 -- What a printer has printed gained these parts. `None` claims nothing.
 abbrev pub Prints : (old new : Option (List Part)) → List Part → Type 0
@@ -78,7 +79,7 @@ Prints None new parts = Unit {0}
 Prints (Some before) new parts = new ≡ Some (before ++ parts)
 
 -- A beginning of what is printed of a text was printed.
-abbrev pub PrintsBeginning : (terminator : ℕ) → Extent → (List ℕ → Bool) → (old new : Option (List Part)) → (text : List ℕ) → Type 0
+abbrev pub PrintsBeginning : (terminator : ℕ) → Extent → (ℕ → List ℕ → Bool) → (old new : Option (List Part)) → (text : List ℕ) → Type 0
 PrintsBeginning t e picks old new text = (parts rest : List Part) × (printed t e picks text ≡ parts ++ rest) × Prints old new parts
 
 -- It holds if the reader failed. A printer that failed claims nothing.

@@ -3,4 +3,5 @@ pub mod Selected
 pub mod Pages
 pub mod Parts
 pub mod Context
+pub mod Touched
 pub mod Ahead

@@ -67,7 +67,7 @@ pub enum PrintError {
 
 /// How far the lines were read and printed.
 #[derive(Drop)]
-struct Progress {
+pub(crate) struct Progress {
     alloc: Global,
     /// The lines before the next one that are printed if a line soon after them is selected.
     kept: VecDeque<Vec<u8>>,
@@ -76,13 +76,13 @@ struct Progress {
     /// The place at which that line begins.
     place: u128,
     /// The number of lines that are still context of the last selected line.
-    left: u64,
+    pub(crate) left: u64,
     /// The number behind the line that was printed last.
     behind: Option<u64>,
 }
 
 impl Progress {
-    fn new(alloc: Global) -> Progress
+    pub(crate) fn new(alloc: Global) -> Progress
         ensures kept { result.kept.items ≡ [] }
         ensures next { result.next ≡ 1 }
         ensures place { result.place ≡ 0 }
@@ -188,7 +188,7 @@ impl Progress {
     }
 
     /// Prints a line that was read if it is selected or context, or keeps it.
-    fn take<S: LineSelector, P: LinePrinter<S>>(
+    pub(crate) fn take<S: LineSelector, P: LinePrinter<S>>(
         &mut self,
         selector: &mut S,
         printer: &mut P,
@@ -247,11 +247,11 @@ pub fn print_selected<R: BufRead, S: LineSelector, P: LinePrinter<S>>(
 ) -> Result<u64, PrintError>
     ensures printed { OnOk result (IfSome (R.remaining reader.old) (λ text.
         Prints (P.printed printer.old) (P.printed printer.new)
-        (printed terminator extent (S.selects selector.old) text))) }
+        (printed terminator extent (λ _. S.selects selector.old) text))) }
     ensures counted { IfOk result (λ count. IfSome (R.remaining reader.old) (λ text.
-        count ≡ selected_count terminator (S.selects selector.old) extent.most text)) }
+        count ≡ selected_count terminator (λ _. S.selects selector.old) extent.most text)) }
     ensures begun { IfErr result (λ e. IfRead e (IfSome (R.remaining reader.old) (λ text.
-        PrintsBeginning terminator extent (S.selects selector.old) (P.printed printer.old)
+        PrintsBeginning terminator extent (λ _. S.selects selector.old) (P.printed printer.old)
         (P.printed printer.new) text))) }
     ensures failed { IfErr result (λ e. IfPrint e (IsPrintFault P.fails_by)) }
     ensures same { S.selects selector.new ≡ S.selects selector.old }

@@ -5,7 +5,9 @@ pub mod context;
 mod pages;
 pub mod parts;
 pub mod select;
+pub mod touched;
 
 pub use context::{Extent, LinePrinter, PrintError, print_selected};
 pub use parts::split_at_line;
 pub use select::{LineSelector, next_line, next_selected};
+pub use touched::{Touched, print_touched, spans_from};

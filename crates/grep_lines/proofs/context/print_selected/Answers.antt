@@ -1,6 +1,6 @@
 use Rattle.std.proofs.Common.{Bool, ℕ, false, true, ◌≡◌, ◌+◌, ◌-◌, ◌&&◌, ◌∙◌, List, IfSome, ap, arith, cond, length, nat_lt, refl, subst, sym}
 use Rattle.grep_lines.specs.Selected.{TakesLine}
-use Rattle.grep_lines.proofs.StandsLemmas.{begun, few_more, stands_first, stands_next, told_at_end, told_enough}
+use Rattle.grep_lines.proofs.StandsLemmas.{begun, few_more, stands_anywhere, stands_first, stands_next, told_at_end, told_enough}
 use Rattle.grep_lines.proofs.context.print_selected.Goals as goal
 use Rattle.grep_lines.proofs.context.print_selected.Goals.{then-is_selected, else-is_selected}
 
@@ -15,21 +15,21 @@ loop-read-init g c =
       size = omega (arith, new.next, ap length new.kept);
       few = omega arith;
       stands =
-          stands_first c.args.terminator c.args.extent (g.S.LineSelector.selects c.args.selector.now) (g.P.LinePrinter.printed c.args.printer.now) c.new-progress.result
+          stands_first c.args.terminator c.args.extent (λ _. g.S.LineSelector.selects c.args.selector.now) (g.P.LinePrinter.printed c.args.printer.now) c.new-progress.result
           (g.R.Read.remaining c.args.reader.now) new.kept new.next new.place new.left new.behind;
     }
 
 -- enough lines were selected, and those behind the last one printed
 pub returns-then-progress-eq0-clause-printed : goal.returns-then-progress-eq0-clause-printed
 returns-then-progress-eq0-clause-printed g c =
-    (told_enough c.args.terminator c.args.extent (g.S.LineSelector.selects c.args.selector.now) (g.P.LinePrinter.printed c.args.printer.now) c.loop-read.progress
-    (g.P.LinePrinter.printed c.loop-read.printer) c.loop-read.count (g.R.Read.remaining c.args.reader.now) (g.R.Read.remaining c.loop-read.reader)
+    (told_enough c.args.terminator c.args.extent (λ _. g.S.LineSelector.selects c.args.selector.now) (g.P.LinePrinter.printed c.args.printer.now) c.loop-read.progress
+    (g.P.LinePrinter.printed c.loop-read.printer) c.loop-read.count 0 (g.R.Read.remaining c.args.reader.now) (g.R.Read.remaining c.loop-read.reader)
     (omega arith) (omega arith) c.loop-read.invariant.stands).0
 
 pub returns-then-progress-eq0-clause-counted : goal.returns-then-progress-eq0-clause-counted
 returns-then-progress-eq0-clause-counted g c =
-    (told_enough c.args.terminator c.args.extent (g.S.LineSelector.selects c.args.selector.now) (g.P.LinePrinter.printed c.args.printer.now) c.loop-read.progress
-    (g.P.LinePrinter.printed c.loop-read.printer) c.loop-read.count (g.R.Read.remaining c.args.reader.now) (g.R.Read.remaining c.loop-read.reader)
+    (told_enough c.args.terminator c.args.extent (λ _. g.S.LineSelector.selects c.args.selector.now) (g.P.LinePrinter.printed c.args.printer.now) c.loop-read.progress
+    (g.P.LinePrinter.printed c.loop-read.printer) c.loop-read.count 0 (g.R.Read.remaining c.args.reader.now) (g.R.Read.remaining c.loop-read.reader)
     (omega arith) (omega arith) c.loop-read.invariant.stands).1
 
 -- the text's end was reached
@@ -40,8 +40,8 @@ returns-in-Ok-false-clause-printed g c =
     let line = c.next_line.new.line.items in
     let ended : IfSome mid (λ text. TakesLine c.args.terminator text false line left) =
     subst (λ b. IfSome mid (λ text. TakesLine c.args.terminator text b line left)) c.in-Ok-false.field-0-test c.in-Ok-false.ensures.taken in
-    (told_at_end c.args.terminator c.args.extent (g.S.LineSelector.selects c.args.selector.now) (g.P.LinePrinter.printed c.args.printer.now) c.loop-read.progress
-    (g.P.LinePrinter.printed c.loop-read.printer) c.loop-read.count (g.R.Read.remaining c.args.reader.now) mid left line c.loop-read.invariant.sound ended
+    (told_at_end c.args.terminator c.args.extent (λ _. g.S.LineSelector.selects c.args.selector.now) (g.P.LinePrinter.printed c.args.printer.now) c.loop-read.progress
+    (g.P.LinePrinter.printed c.loop-read.printer) c.loop-read.count 0 (g.R.Read.remaining c.args.reader.now) mid left line c.loop-read.invariant.sound ended
     c.loop-read.invariant.stands).0
 
 pub returns-in-Ok-false-clause-counted : goal.returns-in-Ok-false-clause-counted
@@ -51,8 +51,8 @@ returns-in-Ok-false-clause-counted g c =
     let line = c.next_line.new.line.items in
     let ended : IfSome mid (λ text. TakesLine c.args.terminator text false line left) =
     subst (λ b. IfSome mid (λ text. TakesLine c.args.terminator text b line left)) c.in-Ok-false.field-0-test c.in-Ok-false.ensures.taken in
-    (told_at_end c.args.terminator c.args.extent (g.S.LineSelector.selects c.args.selector.now) (g.P.LinePrinter.printed c.args.printer.now) c.loop-read.progress
-    (g.P.LinePrinter.printed c.loop-read.printer) c.loop-read.count (g.R.Read.remaining c.args.reader.now) mid left line c.loop-read.invariant.sound ended
+    (told_at_end c.args.terminator c.args.extent (λ _. g.S.LineSelector.selects c.args.selector.now) (g.P.LinePrinter.printed c.args.printer.now) c.loop-read.progress
+    (g.P.LinePrinter.printed c.loop-read.printer) c.loop-read.count 0 (g.R.Read.remaining c.args.reader.now) mid left line c.loop-read.invariant.sound ended
     c.loop-read.invariant.stands).1
 
 -- a line more was read
@@ -87,20 +87,23 @@ loop-read-preserved g c =
       size = omega (arith, ensured.next, inv.size);
       few = few_more e.most count more (picks line) b inv.few is passes;
       stands =
-          stands_next c.args.terminator e picks (g.P.LinePrinter.printed c.args.printer.now) c.loop-read.progress c.take.new.self (g.P.LinePrinter.printed c.loop-read.printer)
-          (g.P.LinePrinter.printed c.take.new.printer) count more line (g.R.Read.remaining c.args.reader.now) mid left b inv.stands taken passes is ensured.ok;
+          stands_anywhere c.args.terminator e picks c.take.new.self (g.P.LinePrinter.printed c.args.printer.now) (g.P.LinePrinter.printed c.take.new.printer) left more
+          (length line + 1) (g.R.Read.remaining c.args.reader.now)
+          (stands_next c.args.terminator e (λ _. picks) (g.P.LinePrinter.printed c.args.printer.now) c.loop-read.progress c.take.new.self
+          (g.P.LinePrinter.printed c.loop-read.printer) (g.P.LinePrinter.printed c.take.new.printer) count more 0 (length line + 1) line
+          (g.R.Read.remaining c.args.reader.now) mid left b inv.stands taken passes is (omega arith) ensured.ok);
     }
 
 -- a line couldn't be read
 pub returns-in-Err-clause-begun : goal.returns-in-Err-clause-begun
 returns-in-Err-clause-begun g c =
-    begun c.args.terminator c.args.extent (g.S.LineSelector.selects c.args.selector.now) (g.P.LinePrinter.printed c.args.printer.now) c.loop-read.progress
-    (g.P.LinePrinter.printed c.loop-read.printer) c.loop-read.count (g.R.Read.remaining c.args.reader.now) (g.R.Read.remaining c.loop-read.reader)
+    begun c.args.terminator c.args.extent (λ _. g.S.LineSelector.selects c.args.selector.now) (g.P.LinePrinter.printed c.args.printer.now) c.loop-read.progress
+    (g.P.LinePrinter.printed c.loop-read.printer) c.loop-read.count 0 (g.R.Read.remaining c.args.reader.now) (g.R.Read.remaining c.loop-read.reader)
     c.loop-read.invariant.stands
 
 -- there are too many lines
 pub returns-clause-begun : goal.returns-clause-begun
 returns-clause-begun g c =
-    begun c.args.terminator c.args.extent (g.S.LineSelector.selects c.args.selector.now) (g.P.LinePrinter.printed c.args.printer.now) c.loop-read.progress
-    (g.P.LinePrinter.printed c.loop-read.printer) c.loop-read.count (g.R.Read.remaining c.args.reader.now) (g.R.Read.remaining c.loop-read.reader)
+    begun c.args.terminator c.args.extent (λ _. g.S.LineSelector.selects c.args.selector.now) (g.P.LinePrinter.printed c.args.printer.now) c.loop-read.progress
+    (g.P.LinePrinter.printed c.loop-read.printer) c.loop-read.count 0 (g.R.Read.remaining c.args.reader.now) (g.R.Read.remaining c.loop-read.reader)
     c.loop-read.invariant.stands

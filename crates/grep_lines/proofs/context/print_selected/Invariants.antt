@@ -12,6 +12,6 @@ invariant-loop-read g l = record {
   few : l.count ≤ l.extent.most;
   stands :
       IfSome (g.R.Read.remaining l.initial.reader)
-      (Stands l.fn.terminator l.extent (g.S.LineSelector.selects l.initial.selector) l.progress (g.P.LinePrinter.printed l.initial.printer) (g.P.LinePrinter.printed l.printer)
-      (g.R.Read.remaining l.reader) l.count);
+      (Stands l.fn.terminator l.extent (λ _. g.S.LineSelector.selects l.initial.selector) l.progress (g.P.LinePrinter.printed l.initial.printer) (g.P.LinePrinter.printed l.printer)
+      (g.R.Read.remaining l.reader) l.count 0);
 }
