@@ -8,6 +8,7 @@ complete -c rcgrep -l smart-case -s S -d 'As -i, if no pattern has a capital let
 complete -c rcgrep -l word-regexp -s w -d 'Only matches that are whole words.'
 complete -c rcgrep -l line-regexp -s x -d 'Only matches that are whole lines.'
 complete -c rcgrep -l invert-match -s v -d 'Select the lines in which no pattern matches.'
+complete -c rcgrep -l multiline -s U -d 'A match may go on across lines. Each line that it touches is selected.'
 complete -c rcgrep -l count -s c -d 'Print only the number of selected lines.'
 complete -c rcgrep -l files-with-matches -s l -d 'Print only the names of files with a selected line.'
 complete -c rcgrep -l files-without-match -s L -d 'Print only the names of files with no selected line.'

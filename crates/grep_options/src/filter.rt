@@ -53,6 +53,8 @@ pub struct Options<'w> {
     pub smart_case: bool,
     pub fit: Fit,
     pub invert: bool,
+    /// Whether a match may go on across lines.
+    pub multiline: bool,
     pub counts: bool,
     pub quiet: bool,
     /// Whether only the names of files are printed, and of which.
@@ -102,6 +104,8 @@ pub enum Refusal<'w> {
     BadValue(&'w str),
     /// Records are asked for, and something else in their place.
     Clash,
+    /// A match may go on across lines, and something is asked for that goes line by line.
+    LineClash,
     /// A pattern is missing.
     NoPattern,
     /// Out of memory.
@@ -146,6 +150,7 @@ impl<'w> Options<'w> {
             smart_case: false,
             fit: Fit::Any,
             invert: false,
+            multiline: false,
             counts: false,
             quiet: false,
             lists: None,
@@ -188,6 +193,7 @@ impl<'w> Options<'w> {
             }
             Id::LineRegexp => self.fit = Fit::Line,
             Id::InvertMatch => self.invert = true,
+            Id::Multiline => self.multiline = true,
             _ => return false,
         }
         true
@@ -305,7 +311,15 @@ impl<'w> Options<'w> {
         if options.json && options.report() != Report::Lines {
             return Err(Refusal::Clash);
         }
+        if options.multiline && options.needs_lines() {
+            return Err(Refusal::LineClash);
+        }
         Ok(options)
+    }
+
+    /// Whether something is asked for that is known of matches in one line alone.
+    fn needs_lines(&self) -> bool {
+        self.null_data || self.json || self.stats || self.template.is_some()
     }
 
     /// What is printed of a file.

@@ -3,7 +3,7 @@
 use crate::table::{Entry, Id, Program, Section, Takes};
 
 /// The options of `rcgrep`.
-pub static OPTIONS: [Entry; 38] = [
+pub static OPTIONS: [Entry; 39] = [
     Entry {
         id: Id::Regexp,
         section: Section::Patterns,
@@ -75,6 +75,14 @@ pub static OPTIONS: [Entry; 38] = [
         name: "invert-match",
         takes: Takes::Nothing,
         help: "Select the lines in which no pattern matches.",
+    },
+    Entry {
+        id: Id::Multiline,
+        section: Section::Patterns,
+        letter: Some('U'),
+        name: "multiline",
+        takes: Takes::Nothing,
+        help: "A match may go on across lines. Each line that it touches is selected.",
     },
     Entry {
         id: Id::Count,

@@ -35,6 +35,7 @@ pub enum Id {
     WordRegexp,
     LineRegexp,
     InvertMatch,
+    Multiline,
     Count,
     FilesWithMatches,
     FilesWithoutMatch,

@@ -9,7 +9,7 @@ use crate::json::{put_end, put_summary};
 use crate::records::{Pending, Records};
 use crate::stats::Stats;
 use crate::style::{Line, Style};
-use grep_lines::LinePrinter;
+use grep_lines::{LinePrinter, spans_from};
 use rc_text::types::Span;
 use std::alloc::{AllocError, Global};
 use std::io;
@@ -136,6 +136,35 @@ pub struct Printer<'o, W: Write + Drop> {
     is_apart: bool,
     /// The matches in the line.
     matches: Vec<Span>,
+    /// The matches in the text, in order, if they are known. Those that end before the line may lack.
+    spans: Option<&'o [Span]>,
+}
+
+/// Where a place of a text is in a line of so many bytes that begins at `start`. It is the line's
+/// beginning or end if the place is before the line or behind it.
+fn offset_in(at: usize, start: u128, len: usize) -> usize {
+    let offset = (at as u128).saturating_sub(start);
+    usize::try_from(offset).unwrap_or(len).min(len)
+}
+
+/// Adds the parts of spans of a text in the line that begins at a place. The spans are in order.
+fn add_parts(
+    spans: &[Span],
+    place: u128,
+    line: &[u8],
+    parts: &mut Vec<Span>,
+) -> Result<(), AllocError> {
+    let end = place.saturating_add(line.len() as u128);
+    for span in spans {
+        if span.start as u128 > end {
+            break;
+        }
+        parts.push(Span {
+            start: offset_in(span.start, place, line.len()),
+            end: offset_in(span.end, place, line.len()),
+        })?;
+    }
+    Ok(())
 }
 
 impl<'o, W: Write + Drop> Printer<'o, W> {
@@ -147,7 +176,38 @@ impl<'o, W: Write + Drop> Printer<'o, W> {
             style,
             is_apart,
             matches: Vec::new(alloc),
+            spans: None,
         }
+    }
+
+    /// Sets that the matches in a line are the parts in it of these spans of the text. They are in
+    /// order.
+    pub fn with_spans(mut self, spans: &'o [Span]) -> Printer<'o, W> {
+        self.spans = Some(spans);
+        self
+    }
+
+    /// Finds the matches in a selected line, and counts it, if that is asked for.
+    fn find_matches<F: MatchFinder>(
+        &mut self,
+        finder: &mut F,
+        place: u128,
+        line: &[u8],
+    ) -> Result<(), AllocError>
+        ensures same { F.selects finder.new ≡ F.selects finder.old }
+    {
+        let style = self.style;
+        if let Some(spans) = self.spans {
+            if style.needs_matches() {
+                let left = spans_from(spans, place);
+                self.spans = Some(left);
+                add_parts(left, place, line, &mut self.matches)?;
+            }
+        } else if self.out.total.is_some() || style.needs_matches() {
+            self.out
+                .count_line(finder, style.is_inverted, line, &mut self.matches)?;
+        }
+        Ok(())
     }
 }
 
@@ -164,9 +224,8 @@ impl<'o, F: MatchFinder, W: Write + Drop> LinePrinter<F> for Printer<'o, W> {
     ) -> io::Result<()> {
         let style = self.style;
         self.matches.clear();
-        if is_selected && (self.out.total.is_some() || style.needs_matches()) {
-            self.out
-                .count_line(selector, style.is_inverted, line, &mut self.matches)?;
+        if is_selected {
+            self.find_matches(selector, place, line)?;
         }
         self.out.is_binary |= style.finds_binary(line);
         if style.is_quiet || self.out.is_binary {

@@ -1,18 +1,16 @@
 //! Reader search: what is printed of one reader.
 
 use crate::fault::{Fault, read, written};
+use crate::pages::{PAGE, PageReader, bytes_of, read_pages};
 use grep_files::Identity;
-use grep_lines::{Extent, LinePrinter, next_selected, print_selected};
+use grep_lines::{Extent, LinePrinter, Touched, next_selected, print_selected, print_touched};
 use grep_options::filter::{Options, Report};
 use grep_output::{MatchFinder, Output, Printer, Recorder, Style, Template};
 use memchr::memchr;
 use std::alloc::Global;
 use std::io;
-use std::io::{BufRead, BufReader, Read, Write};
+use std::io::{BufRead, BufReader, ErrorKind, Read, Write};
 use std::time::{Duration, Instant};
-
-/// The length of the pages in which a file is read, in bytes.
-const PAGE: usize = 65_536;
 
 /// Whether a file is binary: its first page has a NUL byte.
 fn is_binary<R: BufRead>(reader: &mut R) -> bool {
@@ -92,6 +90,27 @@ impl Job<'_, '_, '_> {
         }
     }
 
+    /// The greatest number of lines that are selected. One is enough if nothing else is printed.
+    fn most(&self, report: Report) -> u64 {
+        match report {
+            Report::Lines | Report::Count => self.options.most,
+            _ => self.options.most.min(1),
+        }
+    }
+
+    /// How many lines are printed around a selected one, and how many are selected. If no line is
+    /// printed, there are none around it.
+    fn extent_for(&self, report: Report) -> Extent {
+        if report == Report::Lines {
+            return self.extent();
+        }
+        Extent {
+            before: 0,
+            after: 0,
+            most: self.most(report),
+        }
+    }
+
     /// Prints the lines of a reader, with those around them if that is asked for, and returns how
     /// many were selected. If something else is printed, the lines are only counted.
     fn put_lines<R: BufRead, F: MatchFinder, W: Write + Drop>(
@@ -102,6 +121,9 @@ impl Job<'_, '_, '_> {
         name: &str,
         report: Report,
     ) -> Result<u64, Fault> {
+        if self.options.multiline {
+            return self.put_touched(finder, reader, out, name, report);
+        }
         let style = self.style(name, report);
         let terminator = style.terminator;
         let mut printer = Printer::new(self.alloc, out, style);
@@ -117,11 +139,43 @@ impl Job<'_, '_, '_> {
             );
             return Ok(printed?);
         }
-        let most = match report {
-            Report::Lines | Report::Count => self.options.most,
-            _ => self.options.most.min(1),
-        };
+        let most = self.most(report);
         print_lines(self.alloc, finder, reader, &mut printer, terminator, most)
+    }
+
+    /// Prints the lines of a reader that a match touches, or the others, with those around them if
+    /// that is asked for, and returns how many were selected. If something else is printed, the lines
+    /// are only counted. The text is in memory as a whole, in pages.
+    fn put_touched<R: BufRead, F: MatchFinder, W: Write + Drop>(
+        &self,
+        finder: &mut F,
+        reader: &mut R,
+        out: &mut Output<W>,
+        name: &str,
+        report: Report,
+    ) -> Result<u64, Fault> {
+        let pages = read(read_pages(self.alloc, reader))?;
+        let chunks = read(bytes_of(self.alloc, &pages))?;
+        let mut spans = Vec::new(self.alloc);
+        read(finder.find_in_text(&chunks, &mut spans))?;
+        let Some(touched) = Touched::new(&spans, self.options.invert) else {
+            return Err(Fault::Read(io::Error::from(ErrorKind::Other)));
+        };
+        let pages_again = PageReader::new(&chunks);
+        let mut lines = read(BufReader::with_capacity(self.alloc, PAGE, pages_again))?;
+        let style = self.style(name, report);
+        let terminator = style.terminator;
+        let mut printer = Printer::new(self.alloc, out, style).with_spans(&spans);
+        let printed = print_touched(
+            self.alloc,
+            &mut lines,
+            &touched,
+            finder,
+            &mut printer,
+            terminator,
+            self.extent_for(report),
+        );
+        Ok(printed?)
     }
 
     /// Prints the records of a reader's lines, and returns how many were selected. The last one is

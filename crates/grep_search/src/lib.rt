@@ -4,6 +4,7 @@
 mod fault;
 mod files;
 mod job;
+mod pages;
 mod prompt;
 
 pub use files::search_all;

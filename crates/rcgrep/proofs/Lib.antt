@@ -1,2 +1,3 @@
 mod LocalLemmas
 mod LineLemmas
+mod TextLemmas

@@ -1,9 +1,10 @@
 -- Which lines a regex selects.
-use Rattle.std.specs.Prelude.{◌≡◌, ℕ, Bool, false, not, List, Option, Some, length, if◌then◌else◌}
+use Rattle.std.specs.Prelude.{◌≡◌, ℕ, Bool, false, not, List, Option, None, Some, length, map, if◌then◌else◌}
 use Rattle.std.specs.Option.{is_some}
 use Rattle.rc_text.specs.Found.{Found}
 use Rattle.rc_text.specs.Text.{Searched}
-use Rattle.rc_program.specs.Kinds.{answer_by}
+use Rattle.rc_text.specs.declared.types.Span.{Span}
+use Rattle.rc_program.specs.Kinds.{answer_by, matches_by_kind}
 use Rattle.rc_program.specs.Sought.{Sought, search_for}
 use Rattle.rc_settings.specs.Settings.{Settings, unset}
 use Rattle.api_meta.specs.Views.{regex_kind, sought}
@@ -33,6 +34,13 @@ IsLineFrom line from s = (q : Sought) → search_for q s ≡ search_for q (from_
 -- the match that a search of the line from the place on finds
 abbrev pub found_from : Regex → List ℕ → ℕ → Option Found
 found_from r line from = answer_by (regex_kind r) (search_for (sought r) (from_place line from))
+
+abbrev pub span_of : Found → Span
+span_of m = record { start = m.start; end = m.end }
+
+-- the matches in a text, which may go on across lines
+abbrev pub text_matches : Regex → List ℕ → List Span
+text_matches r text = map span_of (matches_by_kind (regex_kind r) (search_for (sought r) (whole text)) 0 None)
 
 -- the lines with a match, or the others
 abbrev pub is_picked : Bool → Bool → Bool

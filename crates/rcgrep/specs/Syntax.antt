@@ -9,5 +9,6 @@ abbrev pub grammar_of : (is_stated : Bool) → Grammar
 grammar_of true = Stated
 grammar_of false = Full
 
-abbrev pub syntax_settings : (is_stated folds_case : Bool) → Settings
-syntax_settings is_stated folds_case = record default_settings { grammar = grammar_of is_stated; case_insensitive = folds_case }
+abbrev pub syntax_settings : (is_stated folds_case by_line : Bool) → Settings
+syntax_settings is_stated folds_case by_line =
+    record default_settings { grammar = grammar_of is_stated; case_insensitive = folds_case; multi_line = by_line }

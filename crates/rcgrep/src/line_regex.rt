@@ -1,19 +1,24 @@
 //! Line matching: patterns that select lines.
-ghost use Rattle.std.specs.Prelude.{◌≡◌, ◌<◌, ◌≤◌, IfOk, None, false, length};
-ghost use Rattle.rc_program.specs.Kinds.{answer_by};
+ghost use Rattle.std.specs.Prelude.{◌≡◌, ◌<◌, ◌≤◌, ◌++◌, IfOk, None, OnOk, false, length, map};
+ghost use Rattle.rc_text.specs.Joined.{joined};
+ghost use Rattle.rc_program.specs.Kinds.{answer_by, matches_by_kind};
 ghost use Rattle.rc_program.specs.Sought.{search_for};
-ghost use Rattle.api_meta.specs.Views.{regex_kind, sought};
-ghost use Rattle.regex_cursor.specs.Output.{whole};
+ghost use Rattle.api_meta.specs.Caches.{IsCacheFor};
+ghost use Rattle.api_meta.specs.Views.{regex_kind, regex_patterns, regex_settings, sought};
+ghost use Rattle.regex_cursor.specs.Output.{IsWhole, whole};
 ghost use Rattle.rcgrep.specs.Local.{start_or};
-ghost use Rattle.rcgrep.specs.Picked.{IsLine, IsLineFrom, found_from, has_match, is_picked};
+ghost use Rattle.rcgrep.specs.Picked.{IsLine, IsLineFrom, found_from, has_match, is_picked, span_of, text_matches};
 
 use crate::patterns::Patterns;
 use grep_lines::LineSelector;
 use grep_output::MatchFinder;
-use regex_cursor::Input;
-use regex_cursor::engines::meta::{Cache, Captures};
+use regex_cursor::cursor::{ChunkCursor, TooLong};
+use regex_cursor::engines::meta::{Cache, Captures, Regex};
 use regex_cursor::types::{Match, Span};
+use regex_cursor::{Cursor, Input};
 use std::alloc::{AllocError, Global};
+use std::io;
+use std::io::ErrorKind;
 use std::marker::Model;
 use std::simd::prelude::*;
 
@@ -191,6 +196,32 @@ fn input_from(line: &[u8], from: usize) -> Input<&[u8]>
     Input::new(line).range(from, line.len())
 }
 
+/// The chunks, as one text.
+fn input_over_chunks<'a>(chunks: &'a [&'a [u8]]) -> Result<Input<ChunkCursor<'a>>, TooLong>
+    ensures { IfOk result (IsWhole (joined chunks.now)) }
+{
+    Ok(Input::new(ChunkCursor::new(chunks)?))
+}
+
+/// Adds the spans of the matches in the input.
+fn add_matches<C: Cursor>(
+    regex: &Regex,
+    cache: &mut Cache,
+    input: &mut Input<C>,
+    spans: &mut Vec<Span>,
+) -> Result<(), AllocError>
+    requires made { IsCacheFor (regex_patterns regex.now) (regex_settings regex.now) cache.old }
+    ensures cache { IsCacheFor (regex_patterns regex.now) (regex_settings regex.now) cache.new }
+    ensures added { OnOk result (spans.new.items ≡ spans.old.items
+        ++ map span_of (matches_by_kind (regex_kind regex.now)
+        (search_for (sought regex.now) input.old) input.old.span.start None)) }
+{
+    for found in regex.find_iter_with(cache, input) {
+        spans.push(found.span())?;
+    }
+    Ok(())
+}
+
 impl LineSelector for LineRegex<'_> {
     ghost selects = { λ s line. is_picked s.is_inverted (has_match s.regex line) };
 
@@ -216,6 +247,8 @@ impl LineSelector for LineRegex<'_> {
 }
 
 impl MatchFinder for LineRegex<'_> {
+    ghost spans_in = { λ s. text_matches s.regex };
+
     fn find_matches(&mut self, line: &[u8], matches: &mut Vec<Span>) -> Result<(), AllocError> {
         matches.clear();
         let mut from = 0;
@@ -233,6 +266,15 @@ impl MatchFinder for LineRegex<'_> {
             }
             last = Some(found.end());
         }
+        Ok(())
+    }
+
+    fn find_in_text(&mut self, chunks: &[&[u8]], spans: &mut Vec<Span>) -> io::Result<()> {
+        spans.clear();
+        let Ok(mut input) = input_over_chunks(chunks) else {
+            return Err(io::Error::from(ErrorKind::FileTooLarge));
+        };
+        add_matches(&self.patterns.regex, &mut self.cache, &mut input, spans)?;
         Ok(())
     }
 

@@ -60,11 +60,11 @@ fn patterns_of(rt: &HostRuntime, options: &Options<'_>, files: &[String]) -> Res
     let Ok(texts) = all_texts(rt.alloc(), &options.patterns, files) else {
         return Err(RCGREP.report(rt, "out of memory"));
     };
-    if !options.null_data && has_newline(&texts) {
+    if !options.null_data && !options.multiline && has_newline(&texts) {
         return Err(RCGREP.report(rt, "a pattern has a newline, and no line has one"));
     }
     let folds_case = options.ignore_case || (options.smart_case && !have_capital(&texts));
-    let config = syntax_of(options.is_stated, folds_case);
+    let config = syntax_of(options.is_stated, folds_case, !options.null_data);
     if !options.is_fixed {
         return build_texts(rt, &texts, &config, options.fit());
     }
@@ -131,6 +131,11 @@ fn run_given(rt: &HostRuntime, given: &Given<'_>) -> u8 {
         Err(Refusal::Clash) => RCGREP.report_usage(
             rt,
             "no record is printed with -c, -l, -L or -q",
+            "",
+        ),
+        Err(Refusal::LineClash) => RCGREP.report_usage(
+            rt,
+            "-U goes with none of -z, --json, --replace and --stats",
             "",
         ),
         Err(Refusal::NoPattern) => RCGREP.report_usage(rt, "no pattern", ""),

@@ -46,16 +46,20 @@ impl<T: Drop> From<AllocFailed<T>> for Unread {
     }
 }
 
-/// The syntax of the patterns: that of the full grammar, unless the stated one is asked for.
-pub fn syntax_of(is_stated: bool, folds_case: bool) -> Config
-    ensures { settings_of result ≡ syntax_settings is_stated folds_case }
+/// The syntax of the patterns: that of the full grammar, unless the stated one is asked for. `^` and
+/// `$` stand for the ends of each line if `by_line` is true, else for those of the text.
+pub fn syntax_of(is_stated: bool, folds_case: bool, by_line: bool) -> Config
+    ensures { settings_of result ≡ syntax_settings is_stated folds_case by_line }
 {
     let grammar = if is_stated {
         Grammar::Stated
     } else {
         Grammar::Full
     };
-    Config::new().grammar(grammar).case_insensitive(folds_case)
+    Config::new()
+        .grammar(grammar)
+        .case_insensitive(folds_case)
+        .multi_line(by_line)
 }
 
 /// Parses the texts as patterns, in their order. An `Err` is the first text that isn't a pattern, or
