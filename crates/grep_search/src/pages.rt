@@ -32,31 +32,37 @@ pub fn bytes_of(alloc: Global, pages: &[Vec<u8>]) -> io::Result<Vec<&[u8]>> {
 /// A reader of pages, one after another. None of them is empty.
 #[derive(Drop)]
 pub struct PageReader<'p> {
-    /// What is left of the page that is read.
-    page: &'p [u8],
-    /// The pages behind it.
-    rest: &'p [&'p [u8]],
+    pages: &'p [&'p [u8]],
+    /// The number of the page that is read.
+    index: usize,
+    /// How many bytes of it were read.
+    from: usize,
 }
 
 impl<'p> PageReader<'p> {
     /// Returns a reader of these pages.
     pub fn new(pages: &'p [&'p [u8]]) -> PageReader<'p> {
         PageReader {
-            page: &[],
-            rest: pages,
+            pages,
+            index: 0,
+            from: 0,
         }
     }
 }
 
-impl<'p> Read for PageReader<'p> {
+impl Read for PageReader<'_> {
     fn read(&mut self, bytes: &mut [u8]) -> io::Result<usize> {
-        if self.page.is_empty() {
-            if let Some((first, rest)) = self.rest.split_first() {
-                let first: &'p [u8] = *first;
-                self.page = first;
-                self.rest = rest;
-            }
+        let Some(page) = self.pages.get(self.index) else {
+            return Ok(0);
+        };
+        let mut left: &[u8] = page.get(self.from..).unwrap_or(&[]);
+        let count = left.read(bytes)?;
+        if left.is_empty() {
+            self.index = self.index.saturating_add(1);
+            self.from = 0;
+        } else {
+            self.from = self.from.saturating_add(count);
         }
-        self.page.read(bytes)
+        Ok(count)
     }
 }
