@@ -1,5 +1,5 @@
 use Rattle.std.specs.Prelude.{slice_get}
-use Rattle.std.proofs.Common.{◌<◌, Bool, ℕ, false, true, ◌≡◌, ◌+◌, ◌-◌, ◌&&◌, ◌∙◌, List, IfSome, ap, arith, cond, length, nat_lt, refl, subst, sym}
+use Rattle.std.proofs.Common.{◌<◌, ℕ, false, true, ◌≡◌, ◌+◌, ◌-◌, ◌&&◌, ◌∙◌, List, IfSome, ap, arith, cond, length, nat_lt, refl, subst, sym}
 use Rattle.grep_lines.specs.Selected.{TakesLine}
 use Rattle.grep_lines.specs.Touched.{are_from, behind, is_touched, picks_touched}
 use Rattle.grep_lines.proofs.TouchedLemmas.{left_first, left_ordered, left_touch}

@@ -1,6 +1,6 @@
-use Rattle.std.proofs.Common.{◌≡◌, ◌∙◌, ◌∷◌, ap, not, nat_lt, sym}
+use Rattle.std.proofs.Common.{◌∙◌, nat_lt, sym}
 use Rattle.std.proofs.lemmas.Bool.{not-false, not-true}
-use Rattle.grep_lines.specs.Touched.{behind, left_at}
+use Rattle.grep_lines.specs.Touched.{behind}
 use Rattle.grep_lines.proofs.TouchedLemmas.{passed, stays}
 use Rattle.grep_lines.proofs.touched.spans_from.Goals as goal
 
