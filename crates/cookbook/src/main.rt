@@ -1,6 +1,8 @@
 //! The recipes of the cookbook, each run once over a text in chunks. What is printed tells their answers, or why there is none.
 #![tactic(auto)]
 
+ghost use Rattle.live_matches.specs.Live.{IsCacheOf};
+
 mod bytes;
 mod cases;
 mod escaping;
@@ -9,6 +11,7 @@ mod finding;
 mod growing;
 mod kept;
 mod lent;
+mod lexing;
 mod lines;
 mod parts;
 mod places;
@@ -26,6 +29,7 @@ use crate::finding::{match_in_selection, matches_on_screen, next_match, previous
 use crate::growing::{final_match, is_kept};
 use crate::kept::first_matches;
 use crate::lent::count_in_both;
+use crate::lexing::{all_kinds, type_code, words_in};
 use crate::lines::{group_named, lines_with_a_match};
 use crate::parts::{Part, first_in_pieces};
 use crate::places::line_of;
@@ -35,9 +39,11 @@ use crate::rules::rules_met;
 use crate::stepping::search_on;
 use crate::tokens::{KINDS, next_token, words};
 use chunk_replace::Template;
+use gap_buffer::GapBuffer;
+use live_matches::{LiveMatches, whole_input};
 use regex_cursor::Input;
 use regex_cursor::cursor::ChunkCursor;
-use regex_cursor::engines::meta::{Finder, Regex};
+use regex_cursor::engines::meta::{Cache, Finder, Regex};
 use regex_cursor::run::{RunError, Written};
 use regex_cursor::types::{Anchored, Match, Span};
 use std::alloc::{AllocError, Global};
@@ -192,6 +198,36 @@ fn tokenize(rt: &HostRuntime, text: ChunkCursor<'_>) {
     drop(kinds);
 }
 
+/// The words of a text before and after a key.
+fn type_a_word(rt: &HostRuntime, kinds: &Regex, cache: &mut Cache) -> Result<(), AllocError>
+    requires made { IsCacheOf kinds.now cache.old }
+{
+    let all = Span {
+        start: 0,
+        end: usize::MAX,
+    };
+    let mut text = GapBuffer::new(rt.alloc());
+    text.insert(b"let to$ = 4;")?;
+    text.move_to(6);
+    let mut tokens = LiveMatches::new(rt.alloc(), kinds, cache, &mut whole_input(text.cursor()))?;
+    show(rt, "lexed", &words_in(rt.alloc(), &tokens, all));
+    type_code(&mut text, b"tal", &mut tokens, kinds, cache)?;
+    show(rt, "typed", &words_in(rt.alloc(), &tokens, all));
+    Ok(())
+}
+
+/// Tokens that follow a key.
+fn lex(rt: &HostRuntime) {
+    let Ok(kinds) = all_kinds(rt.alloc()) else {
+        return;
+    };
+    if let Ok(mut cache) = kinds.create_cache(rt.alloc()) {
+        let _ = type_a_word(rt, &kinds, &mut cache);
+        drop(cache);
+    }
+    drop(kinds);
+}
+
 /// The numbers of the rules that have a match.
 fn numbers_met(
     alloc: Global,
@@ -293,4 +329,5 @@ fn main(rt: HostRuntime) {
     ask(&rt, text);
     grow(&rt);
     divide(&rt);
+    lex(&rt);
 }

@@ -10,7 +10,7 @@ use std::alloc::{AllocError, Global};
 pub const KINDS: [&str; 4] = [r"[ \t\n]+", r"[A-Za-z_]\w*", r"[0-9]+", r"[-+*/=();]"];
 
 /// The number of the kind of words.
-const WORD: usize = 1;
+pub const WORD: usize = 1;
 
 /// The words among the tokens.
 pub fn words(alloc: Global, kinds: &Regex, text: ChunkCursor<'_>) -> Result<Vec<Span>, AllocError> {
