@@ -7,6 +7,7 @@ use crate::groups::{Captures, GroupInfo, Match};
 use crate::input::{Anchored, Input, WHOLE};
 use crate::iter::{CapturesMatches, FindMatches, Split, SplitN};
 use crate::live::LiveMatches;
+use crate::order;
 use crate::pool::{Handle, Loan, Pool, locked};
 use crate::search::{Search, Source, found_in};
 use crate::text::{Text, at_hand};
@@ -19,6 +20,13 @@ pub(crate) struct Compiled {
     /// It makes the handles that search, and searches nothing itself.
     pub(crate) handle: Mutex<Handle>,
     pub(crate) groups: Arc<GroupInfo>,
+}
+
+impl Drop for Compiled {
+    /// The last clone drops it, after all that the others did with its handle.
+    fn drop(&mut self) {
+        order::after(&self.handle);
+    }
 }
 
 /// Compiled patterns.
