@@ -1,5 +1,5 @@
 -- What searches by an automaton of patterns are to what is sought.
-use Rattle.std.proofs.Common.{◌≡◌, ℕ, ◌≤◌, Bool, sym, subst, refl, arith}
+use Rattle.std.proofs.Common.{◌+◌, ◌≡◌, ℕ, ◌≤◌, Bool, sym, subst, ap, arith}
 use Rattle.rc_text.specs.declared.types.MatchKind.{MatchKind}
 use Rattle.rc_program.specs.Laws.{heaviness}
 use Rattle.rc_program.specs.Program.{program, shown}
@@ -8,8 +8,10 @@ use Rattle.rc_program.proofs.GroupLemmas.{length-shown}
 use Rattle.rc_dfa.specs.Automata.{machine_of, classes_of, samples_of}
 use Rattle.rc_dfa.specs.declared.automaton.Automaton.{Automaton}
 use Rattle.rc_dfa.specs.declared.automaton.Direction.TheVariants.{Backwards, Forwards}
-use Rattle.rc_dfa.proofs.AutomatonLemmas.{is_classing}
+use Rattle.rc_dfa.specs.Machine.{Machine}
+use Rattle.rc_dfa.proofs.AutomatonLemmas.{is_classing, plain_columns}
 use Rattle.rc_lazy_dfa.specs.Caches.{IsLazyOf, IsNone, least_of}
+use Rattle.rc_lazy_dfa.specs.Stores.{minimum_of}
 use Rattle.rc_lazy_dfa.specs.declared.lazy.Lazy.{Lazy}
 use Rattle.rc_lazy_dfa.specs.declared.error.LazyError.{LazyError}
 use Rattle.rc_lazy_dfa.specs.declared.error.LazyError.TheVariants.{Memory, TooSmall}
@@ -41,7 +43,9 @@ module _ (q : Sought) (kind : MatchKind) (a : Automaton) (of : AreMachines (show
       are_samples = a.sampled;
       classed_ahead = is_classing a Forwards;
       classed_behind = is_classing a Backwards;
-      least_is = refl;
+      least_is =
+          ap (λ w. minimum_of (record { machine = machine_of a Forwards; classes = classes_of a; width = w + 1 }))
+          (plain_columns a (ap (λ (m : Machine). m.alphabet) of.ahead));
     }
 
     pub roomy_by : (capacity : ℕ) (l : Lazy) → IsLazyOf a capacity l → HasCapacity q kind byte_classes capacity l

@@ -2,8 +2,8 @@
 ghost use Rattle.std.specs.Prelude.{◌≡◌, ◌+◌, ◌*◌, ◌<◌, ◌≤◌, length, IfOk, IfErr, IfSome, Some, ℕ, slice_get, []};
 ghost use Rattle.rc_determinize.specs.Places.{state_of};
 ghost use Rattle.rc_determinize.specs.States as states;
-ghost use Rattle.rc_dfa.specs.Machine.{Machine, IsMachine, is_idle};
-ghost use Rattle.rc_dfa.specs.Automata.{machine_of, samples_of};
+ghost use Rattle.rc_dfa.specs.Machine.{Machine, IsMachine, bytes, is_idle};
+ghost use Rattle.rc_dfa.specs.Automata.{machine_of, alphabet_in, samples_of};
 ghost use Rattle.rc_dense_dfa.specs.Cells.{met};
 ghost use Rattle.rc_dense_dfa.specs.Tables.{code_of, mode_of, dead_state};
 ghost use Rattle.rc_dense_dfa.specs.Makes.{IsMade, IsRefused};
@@ -317,7 +317,8 @@ fn hints_of(
 }
 
 /// Builds the table of all states that searches by the automaton can reach in this direction. The
-/// error is `TooBig` if the states weigh more than `limit` bytes, and `Memory` if out of memory.
+/// automaton reads bytes. The error is `TooBig` if the states weigh more than `limit` bytes, and
+/// `Memory` if out of memory.
 /// With `rests`, searches that may rest look at each row at which they may.
 pub(crate) fn table_of(
     alloc: Global,
@@ -326,6 +327,7 @@ pub(crate) fn table_of(
     limit: Option<usize>,
     rests: bool,
 ) -> Result<Table, TableError>
+    requires { alphabet_in automaton.now ≡ bytes }
     ensures made { IfOk result (IsMade (machine_of automaton.now direction)
         (length (samples_of automaton.now)) limit) }
     ensures refused { IfErr result (IsRefused (machine_of automaton.now direction)

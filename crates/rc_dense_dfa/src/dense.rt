@@ -1,7 +1,8 @@
 //! DFA: a table for each direction, and the searches by them.
 ghost use Rattle.std.specs.Prelude.{◌≡◌, ◌⊎◌, ◌+◌, ◌*◌, ℕ, min, length, IfOk, IfErr};
 ghost use Rattle.rc_dfa.specs.declared.automaton.Direction.TheVariants.{Forwards, Backwards};
-ghost use Rattle.rc_dfa.specs.Automata.{machine_of, samples_of};
+ghost use Rattle.rc_dfa.specs.Machine.{bytes};
+ghost use Rattle.rc_dfa.specs.Automata.{machine_of, alphabet_in, samples_of};
 ghost use Rattle.rc_dense_dfa.specs.Makes.{IsRefused};
 ghost use Rattle.rc_dense_dfa.specs.Halves.{ArePatterns, AreHalves, AreTablesOf, bytes_of};
 
@@ -58,15 +59,16 @@ fn table_usage(table: &Table) -> u128
 }
 
 impl Dense {
-    /// Builds the tables of the automaton. The states of each may weigh `limit` bytes. The error is
-    /// `TooBig` if those of one table weigh more, and `Memory` if out of memory. With `rests`,
-    /// forward searches that may rest do so wherever they may.
+    /// Builds the tables of the automaton, which reads bytes. The states of each may weigh `limit`
+    /// bytes. The error is `TooBig` if those of one table weigh more, and `Memory` if out of
+    /// memory. With `rests`, forward searches that may rest do so wherever they may.
     pub fn new(
         alloc: Global,
         automaton: &Automaton,
         limit: Option<usize>,
         rests: bool,
     ) -> Result<Dense, TableError>
+        requires { alphabet_in automaton.now ≡ bytes }
         ensures made { IfOk result (AreTablesOf automaton.now limit) }
         ensures halves { IfOk result (λ dense. AreHalves dense (machine_of automaton.now Forwards)
             (machine_of automaton.now Backwards)) }

@@ -29,12 +29,12 @@ abbrev pub machine_over : Alphabet → Automaton → code.Direction → Machine
 machine_over alphabet a d =
     record { setting = setting_of a.places.items a.needs a.terminator; entries = a.entries.items; direction = direction_of a.kind d; alphabet = alphabet }
 
-abbrev pub machine_of : Automaton → code.Direction → Machine
-machine_of = machine_over bytes
-
 -- What its tables read.
 abbrev pub alphabet_in : Automaton → Alphabet
 alphabet_in a = alphabet_of a.alphabet
+
+abbrev pub machine_of : Automaton → code.Direction → Machine
+machine_of a = machine_over (alphabet_in a) a
 
 -- The class of each byte, and a byte of each class.
 abbrev pub classes_of : Automaton → List ℕ

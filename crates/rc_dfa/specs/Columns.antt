@@ -39,8 +39,8 @@ retagged needs tag seen = record seen { letter = needs.unicode && unwrap_or tag 
 abbrev pub turned : Asked → Tag → State → State
 turned needs tag s = record s { beside = retagged needs tag s.beside }
 
--- The law of columns: those of the classes of bytes, two more of each class for what begins there,
--- and two turns.
+-- The law of columns: those of the classes of bytes, and past ASCII one more of each class for each
+-- pair of tags.
 pub record ColumnLaw : Type 0 where
   -- What a step is told of a byte of the slice, its symbol tells, forwards and backwards.
   pub ahead : (g : Setting) (t : Text) (i : ℕ) (y : Symbol) → IsSymbolAt t i y →

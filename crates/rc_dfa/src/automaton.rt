@@ -91,7 +91,7 @@ impl Direction {
 }
 
 impl Automaton {
-    ghost use Rattle.std.specs.Prelude.{◌≡◌, ◌<◌, ◌↔◌, ℕ, IsTrue, length, IfOk};
+    ghost use Rattle.std.specs.Prelude.{◌≡◌, ◌<◌, ◌≤◌, ◌↔◌, ℕ, IsTrue, length, IfOk};
     ghost use Rattle.rc_program.specs.Laws.{IsClosed};
     ghost use Rattle.rc_utf8.specs.Places.{places_of};
     ghost use Rattle.rc_determinize.specs.Places.{state_of};
@@ -216,6 +216,7 @@ impl Automaton {
     /// class, and if they read symbols, five more for each class past ASCII.
     pub fn columns(&self) -> usize
         ensures value { result ≡ columns_of self.now }
+        ensures small { result ≤ 1536 }
         ensures columning { (direction : Direction)
             → IsColumning (machine_of self.now direction) (classes_of self.now) }
     {

@@ -6,6 +6,7 @@ use Rattle.rc_dfa.specs.Machine.{Leads}
 use Rattle.rc_dfa.specs.Runs.{MayRead}
 use Rattle.rc_table_search.proofs.WayLemmas.{none_of}
 use Rattle.rc_lazy_dfa.specs.Cells.{unknown, met, quit, row_of}
+use Rattle.rc_lazy_dfa.specs.declared.letters.Letter.TheVariants.{Alone}
 use Rattle.rc_lazy_dfa.specs.Stores.{Frame, Held, IsRow, Names, IsKnown}
 use Rattle.rc_lazy_dfa.specs.declared.store.Store.{Store}
 use Rattle.rc_lazy_dfa.proofs.StepLemmas.{cell_says}
@@ -22,7 +23,7 @@ pub cell_here : (f : Frame) (s : Store) (cells classes : List ℕ) (row b : ℕ)
     IsRow f.width s.states row t → slice_index_or cells (row + slice_index_or classes b 0) 0 ≢ unknown →
     IsKnown f s.states (Some b) (Leads f.machine t (Some b)) (slice_index_or cells (row + slice_index_or classes b 0) 0)
 cell_here f s cells classes row b t h same_cells same_classes byte r ne =
-    cell_says f s row (slice_index_or classes b 0) (slice_index_or cells (row + slice_index_or classes b 0) 0) 0 (Some b) t h byte
+    cell_says f s row (slice_index_or classes b 0) (slice_index_or cells (row + slice_index_or classes b 0) 0) 0 (Alone (Some b)) t h byte
     (ap (λ xs. slice_index_or xs b 0) same_classes) (ap (λ xs. slice_index_or xs (row + slice_index_or classes b 0) 0) same_cells) ne r
 
 -- where it leads, if the byte is read

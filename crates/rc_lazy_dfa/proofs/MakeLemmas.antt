@@ -1,5 +1,5 @@
 -- A table of no states, and what capacity serves in both directions.
-use Rattle.std.proofs.Common.{◌≡◌, ℕ, ◌+◌, ◌*◌, ◌≤◌, List, [], length, replicate, slice_index_or, inl, inr, sym, subst, ◌∙◌, arith}
+use Rattle.std.proofs.Common.{◌≡◌, ℕ, ◌+◌, ◌*◌, ◌<◌, ◌≤◌, [], length, replicate, slice_index_or, inl, inr, refl, sym, subst, ◌∙◌, arith}
 use Rattle.std.proofs.lemmas.Bool.{cases_lt}
 use Rattle.std.proofs.lemmas.List.{length-replicate, get_or-replicate, get_or_past}
 use Rattle.std.proofs.lemmas.Option.{none-some, slice_get_within}
@@ -7,22 +7,26 @@ use Rattle.rc_text.specs.declared.types.MatchKind.{MatchKind}
 use Rattle.rc_text.specs.declared.types.MatchKind.TheVariants.{All as all_matches, LeftmostFirst as leftmost_first, LeftmostLongest as leftmost_longest}
 use Rattle.rc_determinize.specs.Kinds.{longest}
 use Rattle.rc_dfa.specs.declared.automaton.Automaton.{Automaton}
+use Rattle.rc_dfa.specs.declared.automaton.Direction.{Direction}
 use Rattle.rc_dfa.specs.declared.automaton.Direction.TheVariants.{Backwards, Forwards}
+use Rattle.rc_dfa.specs.Automata.{machine_of, classes_of, samples_of}
+use Rattle.rc_dfa.specs.Symbols.{IsColumning}
+use Rattle.rc_dfa.proofs.AutomatonLemmas.{counts}
 use Rattle.rc_dfa.specs.Machine.{IsMachine, IsClassing}
 use Rattle.rc_lazy_dfa.specs.Cells.{unknown}
 use Rattle.rc_lazy_dfa.specs.Stores.{Frame, frame_of, IsFrame, Held, AreCells, AreStarts, AreWithin, listed_by, starts_in, minimum_of}
 use Rattle.rc_lazy_dfa.specs.declared.store.Store.{Store}
 
-pub frame_is : (f : Frame) (samples : List ℕ) → IsMachine f.machine → IsClassing f.machine f.classes samples → f.width ≡ length samples + 1 → IsFrame f
-frame_is f samples m k wide = record {
+pub frame_is : (a : Automaton) (d : Direction) → IsMachine (machine_of a d) → IsClassing (machine_of a d) (classes_of a) (samples_of a) →
+    IsColumning (machine_of a d) (classes_of a) → IsFrame (frame_of a d)
+frame_is a d m k n = record {
   machine = m;
   size = k.size;
-  below = λ b class e.
-      let s = k.sampled b class e in
-      let lt = slice_get_within samples class s.0 s.2 in
-      omega (arith, lt, wide);
+  below = λ b class e. let s = k.sampled b class e in subst (λ c. class < c) (counts a) (slice_get_within (samples_of a) class s.0 s.2);
   alike = k.alike;
-  wide = omega (arith, wide);
+  columns = refl;
+  columning = n;
+  wide = omega arith;
 }
 
 blank : (n i : ℕ) → slice_index_or (replicate n unknown) i unknown ≡ unknown
@@ -47,11 +51,11 @@ blank_held f s k b roomy fits =
       width = b.width;
       within = subst (λ xs. AreWithin f xs) states (record { each = λ id t e. absurd (none-some t e) });
       cells = subst (λ xs. AreCells f xs s.cells.items) states (subst (λ ys. AreCells f [] ys) (sym b.cells)
-          (record { rows = omega arith; told = λ row column t beside r at. absurd (none-some t r.1) }));
+          (record { rows = omega arith; told = λ row column t letter r at. absurd (none-some t r.1) }));
       starts = subst (λ xs. AreStarts f xs s.starts.items) states (subst (λ ys. AreStarts f [] ys) (sym b.starts)
           (record {
             size = length-replicate (starts_in f) unknown;
-            told = λ anchored column beside asked at. inl (blank (starts_in f) _);
+            told = λ anchored column letter asked at. inl (blank (starts_in f) _);
           }));
       used = used ∙ subst (λ xs. 24 * f.width + 8 * starts_in f + 96 ≡ 8 * ((length xs + 3) * f.width) + 8 * starts_in f + 32 * (length xs + 3) + 8 * listed_by xs) states (omega arith);
       light = omega (arith, used, roomy);

@@ -1,17 +1,20 @@
 -- What the cells of a cache say to a search.
-use Rattle.std.proofs.Common.{◌≡◌, ◌≢◌, ℕ, ◌<◌, ◌*◌, Bool, false, true≢false, List, length, Option, Some, None, Result, Ok, Err, IfOk, IfErr, slice_get, inl, inr, ⊎_elim, refl, sym, subst, ap, ◌∙◌, arith}
+use Rattle.std.proofs.Common.{◌≡◌, ◌≢◌, ℕ, ◌<◌, ◌*◌, Bool, true, false, true≢false, List, length, Option, Some, None, Result, Ok, Err, IfOk, IfErr, slice_get, inl, inr, ⊎_elim, refl, sym, subst, ap, ◌∙◌, arith}
 use Rattle.std.proofs.lemmas.Option.{slice_get_cases, slice_get_within}
 use Rattle.rc_determinize.specs.States.{State}
 use Rattle.rc_dfa.specs.Automata.{machine_of}
 use Rattle.rc_text.specs.declared.types.Anchored.{Anchored}
 use Rattle.rc_dfa.specs.Machine.{Machine, Begins, Leads}
-use Rattle.rc_table_search.specs.Views.{IsEnd, IsSame, IsStart, IsStep, Knows, LeadsTo}
+use Rattle.rc_dfa.specs.Symbols.{LeadsTagged, BeginsTagged}
+use Rattle.rc_dfa.specs.declared.symbols.Symbol.{Symbol}
+use Rattle.rc_table_search.specs.Views.{IsEnd, IsSame, IsStart, IsStartBeside, IsStep, IsStepOver, Knows, LeadsTo}
 use Rattle.rc_table_search.specs.Walks.{cell_by, skip}
 use Rattle.rc_table_search.specs.Refusals.{is_memory}
 use Rattle.rc_table_search.specs.declared.refusal.Refusal.{Refusal}
 use Rattle.rc_table_search.specs.declared.refusal.Refusal.TheVariants.{Memory, Short}
 use Rattle.rc_lazy_dfa.specs.Cells.{has_died, row_of}
-use Rattle.rc_lazy_dfa.specs.Stores.{Frame, Held, IsKnown, IsRefused, IsRow, Names, Spends}
+use Rattle.rc_lazy_dfa.specs.Stores.{Frame, Held, IsKnown, IsKnownBy, IsRefused, IsRow, LeadsByLetter, BeginsByLetter, Names, Spends, goes_back}
+use Rattle.rc_lazy_dfa.specs.declared.letters.Letter.TheVariants.{Tagged}
 use Rattle.rc_lazy_dfa.specs.Courses.{MayGiveUp, direction_of, frame_in, view_of}
 use Rattle.rc_lazy_dfa.specs.Halves.{IsPlace}
 use Rattle.rc_lazy_dfa.specs.Rows.{IsRowOf}
@@ -73,6 +76,11 @@ module _ (l : Lazy) (backwards : Bool) (h : Half) (held : Held (frame_in l backw
       knows (Some b) (λ m. Leads m s (Some b)) (cell_by cells classes r b)
       (cell_here (frame_in l backwards) h.store cells classes r b s held same_cells same_classes byte here.1 (ne refl)) m here.0
 
+-- the automaton steps in the direction of the search
+same_way : (l : Lazy) (backwards : Bool) → goes_back (machine_of l.automaton (direction_of backwards)).direction ≡ backwards
+same_way l false = refl
+same_way l true = refl
+
 -- the cell of a step or of a start, if the call gave one
 pub ok_so : {A E : Type 0} (P Q : A → Type 0) → ((a : A) → P a → Q a) → (r : Result A E) → IfOk r P → IfOk r Q
 ok_so P Q f (Ok a) h = f a h
@@ -99,6 +107,37 @@ module _ (l : Lazy) (backwards : Bool) (old new : Half) (held : Held (frame_in l
       let t = state_of (frame_in l backwards) old.store row p in record {
         is_row = place_known (frame_in l backwards) new.store (Some b) (Leads (machine_of l.automaton (direction_of backwards)) t.0 (Some b)) cell held (k t.0 t.1);
         leads = λ m s has. knows l backwards new held (Some b) (λ m. Leads m s (Some b)) cell (k s has.1) m has.0;
+      }
+
+  -- what a symbol leads to, which is always read
+  over : (y : Symbol) (To : State → Type 0) (cell : ℕ) → IsKnownBy (frame_in l backwards) new.store.states (Tagged y) To cell →
+      (t : State) × To t × Names (frame_in l backwards).width new.store.states cell t
+  over y To cell (inl k) = absurd (k.1 tt)
+  over y To cell (inr k) = k.1
+
+  pub start_beside_says : (anchored : Anchored) (y : Symbol) (cell : ℕ) →
+      IsKnownBy (frame_in l backwards) new.store.states (Tagged y) (BeginsByLetter (frame_in l backwards) anchored (Tagged y)) cell →
+      IsStartBeside (view_of l backwards) backwards new anchored y cell
+  start_beside_says anchored y cell k =
+      let x = over y (BeginsByLetter (frame_in l backwards) anchored (Tagged y)) cell k in record {
+        is_row = λ alive. place_of (frame_in l backwards) new.store (row_of cell) x.0 (row_going (frame_in l backwards) new.store held cell x.0 x.2 alive);
+        begins = λ m of asked.
+            subst (λ m. (s : State) × BeginsTagged backwards m anchored y s × LeadsTo ((view_of l backwards).HasState new m) false cell s) of
+            (x.0, subst (λ b. BeginsTagged b (machine_of l.automaton (direction_of backwards)) anchored y x.0) (same_way l backwards) x.1, leads l backwards new held cell x.0 x.2);
+      }
+
+  pub step_over_says : (row : ℕ) (y : Symbol) (cell : ℕ) → IsPlace (frame_in l backwards) old.store row →
+      ((s : State) → IsRow (frame_in l backwards).width old.store.states row s →
+      IsKnownBy (frame_in l backwards) new.store.states (Tagged y) (LeadsByLetter (frame_in l backwards) s (Tagged y)) cell) →
+      IsStepOver (view_of l backwards) backwards old new row y cell
+  step_over_says row y cell p k =
+      let here = state_of (frame_in l backwards) old.store row p in
+      let to = over y (LeadsByLetter (frame_in l backwards) here.0 (Tagged y)) cell (k here.0 here.1) in record {
+        is_row = λ alive. place_of (frame_in l backwards) new.store (row_of cell) to.0 (row_going (frame_in l backwards) new.store held cell to.0 to.2 alive);
+        leads = λ m s has.
+            let x = over y (LeadsByLetter (frame_in l backwards) s (Tagged y)) cell (k s has.1) in
+            subst (λ m. (t : State) × LeadsTagged backwards m s y t × LeadsTo ((view_of l backwards).HasState new m) false cell t) has.0
+            (x.0, subst (λ b. LeadsTagged b (machine_of l.automaton (direction_of backwards)) s y x.0) (same_way l backwards) x.1, leads l backwards new held cell x.0 x.2);
       }
 
 -- what is found at the end, which is always read

@@ -6,6 +6,7 @@ use Rattle.rc_table_search.specs.Walks.{AreRows, cell_by, met, skip}
 use Rattle.rc_lazy_dfa.specs.Rows.{IsRowOf}
 use Rattle.rc_lazy_dfa.specs.declared.store.Store.{Store}
 use Rattle.rc_lazy_dfa.proofs.RowLemmas as rows
+use Rattle.rc_lazy_dfa.proofs.WriteLemmas.{byte_inside}
 use Rattle.rc_lazy_dfa.proofs.CellLemmas.{cell_here, leads_to, marked, plain}
 
 module _ (s : Store) (classes : List ℕ) (row b : ℕ) (x : IsRowOf s classes row) (byte : b < 256) where
@@ -15,7 +16,7 @@ module _ (s : Store) (classes : List ℕ) (row b : ℕ) (x : IsRowOf s classes r
       let same = x.same in
       let lt : b < length classes = subst (λ xs. b < length xs) (sym same) (omega (arith, size, byte)) in
       let here = slice_get-get_or classes b 0 lt in
-      let below = x.held.frame.below b (slice_index_or classes b 0) (subst (λ xs. slice_get xs b ≡ Some (slice_index_or classes b 0)) same here) in
+      let below = byte_inside x.frame b (slice_index_or classes b 0) x.held.frame (subst (λ xs. slice_get xs b ≡ Some (slice_index_or classes b 0)) same here) in
       let fits = rows.row_inside x.frame s x.held row x.state x.in_row in
       (lt, omega (arith, below, fits))
 

@@ -23,6 +23,7 @@ use Rattle.rc_dfa.proofs.OverlapLemmas.{overlap_law}
 use Rattle.rc_table_search.specs.Ways.{IsNext}
 use Rattle.rc_lazy_dfa.specs.Cells.{unknown, met, quit, row_of, has_died, column_of}
 use Rattle.rc_lazy_dfa.specs.Stores.{Grows, Frame, IsFrame, Held, IsRow, IsColumn, IsKnown, Names, frame_of}
+use Rattle.rc_lazy_dfa.specs.declared.letters.Letter.TheVariants.{Alone}
 use Rattle.rc_lazy_dfa.specs.Halves.{IsHalf, IsPlace}
 use Rattle.rc_lazy_dfa.specs.Overlaps.{AddsOnly, AreCollected, ComesTo, EndsAt, HasEach, IsAmong, IsOverlap, IsTold, IsUnderway, Meets, MeetsAt, MeetsBefore, Overlap, text_over}
 use Rattle.rc_lazy_dfa.specs.declared.which.Ends.{Ends}
@@ -32,7 +33,7 @@ use Rattle.rc_lazy_dfa.proofs.CellLemmas as cells
 use Rattle.rc_lazy_dfa.proofs.CellLemmas.{cell_here, leads_to}
 use Rattle.rc_lazy_dfa.proofs.NameLemmas.{died_or_not, row_going}
 use Rattle.rc_lazy_dfa.proofs.RowLemmas.{same_row, same_column}
-use Rattle.rc_lazy_dfa.proofs.WriteLemmas.{column_inside}
+use Rattle.rc_lazy_dfa.proofs.WriteLemmas.{byte_inside, column_inside}
 use Rattle.rc_lazy_dfa.proofs.StepLemmas.{column_is}
 use Rattle.rc_lazy_dfa.proofs.SetLemmas.{adds_as, adds_more, adds_none, each_kept}
 
@@ -146,23 +147,24 @@ ends_alike a b c class s q x y =
     gather_law.alike (machine_of a Overlapping).setting b c s q
     (a.alike b c (within b x) (within c y) (get_or_from_slice_get (classes_of a) b class 0 x ∙ sym (get_or_from_slice_get (classes_of a) c class 0 y)))
 
-column_alike : (a : Automaton) (b c : Option ℕ) (column : ℕ) (s : State) (p : ℕ) → IsFrame (frame_of a Overlapping) → IsColumn (frame_of a Overlapping) b column →
-    IsColumn (frame_of a Overlapping) c column → EndsAt (machine_of a Overlapping) s b p → EndsAt (machine_of a Overlapping) s c p
+column_alike : (a : Automaton) (b c : Option ℕ) (column : ℕ) (s : State) (p : ℕ) → IsFrame (frame_of a Overlapping) →
+    IsColumn (frame_of a Overlapping) (Alone b) column → IsColumn (frame_of a Overlapping) (Alone c) column →
+    EndsAt (machine_of a Overlapping) s b p → EndsAt (machine_of a Overlapping) s c p
 column_alike a None None column s p k x y h = h
-column_alike a None (Some c) column s p k x y h = let lt = k.below c column y in absurd (omega (arith, lt, x))
-column_alike a (Some b) None column s p k x y h = let lt = k.below b column x in absurd (omega (arith, lt, y))
+column_alike a None (Some c) column s p k x y h = let lt = byte_inside (frame_of a Overlapping) c column k y in absurd (omega (arith, lt, x))
+column_alike a (Some b) None column s p k x y h = let lt = byte_inside (frame_of a Overlapping) b column k x in absurd (omega (arith, lt, y))
 column_alike a (Some b) (Some c) column s p k x y h = let e = h.1 in (h.0, (ends_alike a b c column s h.0 x y e.0, e.1), h.2)
 
 -- one more cell is collected, of a row there is
 pub one_collected : (a : Automaton) (f : Frame) (s : Store) (row b : ℕ) (v : State) (collected collected2 set : List Bool) → frame_of a Overlapping ≡ f → Held f s → b < 256 →
     IsRow f.width s.states row v → HasEach (EndsAt f.machine v (Some b)) set →
-    length collected2 ≤ max (length collected) (row + column_of f.classes f.width (Some b) + 1) →
-    ((index : ℕ) → slice_get collected2 index ≡ Some true → (slice_get collected index ≡ Some true) ⊎ (index ≡ row + column_of f.classes f.width (Some b))) →
+    length collected2 ≤ max (length collected) (row + column_of f.classes f.width (Alone (Some b)) + 1) →
+    ((index : ℕ) → slice_get collected2 index ≡ Some true → (slice_get collected index ≡ Some true) ⊎ (index ≡ row + column_of f.classes f.width (Alone (Some b)))) →
     AreCollected f s.states collected set → AreCollected f s.states collected2 set
 one_collected a f s row b v collected collected2 set same h byte r each short told x =
-    let column = column_of f.classes f.width (Some b) in
-    let is : IsColumn f (Some b) column = column_is f (Some b) h.frame byte in
-    let inside : column < f.width = column_inside f (Some b) column h.frame is in
+    let column = column_of f.classes f.width (Alone (Some b)) in
+    let is : IsColumn f (Alone (Some b)) column = column_is f (Alone (Some b)) h.frame byte in
+    let inside : column < f.width = column_inside f (Alone (Some b)) column h.frame is in
     record {
       short =
           let was = x.short in
@@ -173,25 +175,25 @@ one_collected a f s row b v collected collected2 set same h byte r each short to
       told = λ row2 column2 u beside r2 is2 here. ⊎_elim
           (λ old. x.told row2 column2 u beside r2 is2 old)
           (λ e.
-          let inside2 : column2 < f.width = column_inside f beside column2 h.frame is2 in
+          let inside2 : column2 < f.width = column_inside f (Alone beside) column2 h.frame is2 in
           let at = r.2 in
           let at2 = r2.2 in
           let sum : r2.0 * f.width + column2 ≡ r.0 * f.width + column = omega (arith, e, at, at2) in
           let ids : r2.0 ≡ r.0 = same_row f.width r2.0 r.0 column2 column inside2 inside sum in
           let columns : column2 ≡ column = same_column f.width r2.0 r.0 column2 column ids sum in
           let states : v ≡ u = same_Some v u (sym r.1 ∙ ap (λ i. slice_get s.states i) (sym ids) ∙ r2.1) in
-          let here2 : IsColumn f beside column = subst (λ n. IsColumn f beside n) columns is2 in
+          let here2 : IsColumn f (Alone beside) column = subst (λ n. IsColumn f (Alone beside) n) columns is2 in
           subst (λ w. HasEach (EndsAt f.machine w beside) set) states
           (λ p lt ends. each p lt (back beside p ends here2 is)))
           (told (row2 + column2) here);
     }
   where
-    back : (beside : Option ℕ) (p : ℕ) → EndsAt f.machine v beside p → IsColumn f beside (column_of f.classes f.width (Some b)) →
-        IsColumn f (Some b) (column_of f.classes f.width (Some b)) → EndsAt f.machine v (Some b) p
+    back : (beside : Option ℕ) (p : ℕ) → EndsAt f.machine v beside p → IsColumn f (Alone beside) (column_of f.classes f.width (Alone (Some b))) →
+        IsColumn f (Alone (Some b)) (column_of f.classes f.width (Alone (Some b))) → EndsAt f.machine v (Some b) p
     back beside p ends x y =
-        subst (λ (g : Frame). IsFrame g → EndsAt g.machine v beside p → IsColumn g beside (column_of f.classes f.width (Some b)) →
-        IsColumn g (Some b) (column_of f.classes f.width (Some b)) → EndsAt g.machine v (Some b) p) same
-        (λ frame e x2 y2. column_alike a beside (Some b) (column_of f.classes f.width (Some b)) v p frame x2 y2 e) h.frame ends x y
+        subst (λ (g : Frame). IsFrame g → EndsAt g.machine v beside p → IsColumn g (Alone beside) (column_of f.classes f.width (Alone (Some b))) →
+        IsColumn g (Alone (Some b)) (column_of f.classes f.width (Alone (Some b))) → EndsAt g.machine v (Some b) p) same
+        (λ frame e x2 y2. column_alike a beside (Some b) (column_of f.classes f.width (Alone (Some b))) v p frame x2 y2 e) h.frame ends x y
 
 state_there : (xs : List State) (i : ℕ) → i < length xs → (u : State) × (slice_get xs i ≡ Some u)
 state_there [] i lt = absurd (omega (arith, lt))
@@ -407,9 +409,9 @@ module _ (a : Automaton) (o : Overlap) (k : IsOverlap o) (same : frame_of a Over
         }
 
     -- the cell is collected from then on
-    pub look_collects : (collected2 : List Bool) → length collected2 ≤ max (length e.collected.items) (row + column_of o.frame.classes o.frame.width (Some b) + 1) →
+    pub look_collects : (collected2 : List Bool) → length collected2 ≤ max (length e.collected.items) (row + column_of o.frame.classes o.frame.width (Alone (Some b)) + 1) →
         ((index : ℕ) → slice_get collected2 index ≡ Some true →
-        (slice_get e.collected.items index ≡ Some true) ⊎ (index ≡ row + column_of o.frame.classes o.frame.width (Some b))) →
+        (slice_get e.collected.items index ≡ Some true) ⊎ (index ≡ row + column_of o.frame.classes o.frame.width (Alone (Some b)))) →
         AreCollected o.frame store.states collected2 set2
     look_collects collected2 short told =
         subst (λ (s : Store). AreCollected o.frame s.states collected2 set2) (sym was)

@@ -1,7 +1,10 @@
 -- Transitions: cells as numbers.
-use Rattle.std.specs.Prelude.{ℕ, ◌+◌, ◌-◌, ◌%◌, Bool, is_some, List, Option, Some, None, nat_le, slice_index_or, if◌then◌else◌}
+use Rattle.std.specs.Prelude.{ℕ, ◌+◌, ◌-◌, ◌%◌, Bool, is_some, List, Some, None, nat_le, slice_index_or, if◌then◌else◌}
 use Rattle.rc_determinize.specs.States.{State}
 use Rattle.rc_dfa.specs.Machine.{is_dead}
+use Rattle.rc_dfa.specs.Symbols.{column_by}
+use Rattle.rc_lazy_dfa.specs.declared.letters.Letter.{Letter}
+use Rattle.rc_lazy_dfa.specs.declared.letters.Letter.TheVariants.{Alone, Tagged}
 
 -- It isn't known where the byte leads.
 abbrev pub unknown : ℕ
@@ -31,7 +34,8 @@ has_died cell = if nat_le met cell then nat_le dead (cell - met) else nat_le dea
 abbrev pub marks : State → ℕ
 marks s = (if is_some s.matched then met else 0) + (if is_dead s then dead else 0)
 
--- The column of the byte, or of the end.
-abbrev pub column_of : List ℕ → ℕ → Option ℕ → ℕ
-column_of classes width (Some b) = slice_index_or classes b 0
-column_of classes width None = width - 1
+-- The column of what is read, in rows of this width.
+abbrev pub column_of : List ℕ → ℕ → Letter → ℕ
+column_of classes width (Alone (Some b)) = slice_index_or classes b 0
+column_of classes width (Alone None) = width - 1
+column_of classes width (Tagged y) = column_by classes y

@@ -1,7 +1,6 @@
 -- Lazy DFA searches: what the caches say.
 use Rattle.std.specs.Prelude.{◌≡◌, ℕ, ◌≤◌, Bool, true, false}
-use Rattle.rc_dfa.specs.Automata.{machine_of}
-use Rattle.rc_dfa.specs.Machine.{bytes}
+use Rattle.rc_dfa.specs.Automata.{machine_of, alphabet_in}
 use Rattle.rc_dfa.specs.declared.automaton.Direction.{Direction}
 use Rattle.rc_dfa.specs.declared.automaton.Direction.TheVariants.{Forwards, Backwards}
 use Rattle.rc_table_search.specs.Views.{View}
@@ -30,7 +29,7 @@ frame_in l backwards = frame_of l.automaton (direction_of backwards)
 abbrev pub view_of : Lazy → Bool → View Half
 view_of l backwards = record {
   IsOf = λ m. machine_of l.automaton (direction_of backwards) ≡ m;
-  alphabet = bytes;
+  alphabet = alphabet_in l.automaton;
   IsCache = λ h. IsHalf (frame_in l backwards) h;
   IsRow = λ h row. IsPlace (frame_in l backwards) h.store row;
   HasState = λ h m row s. (machine_of l.automaton (direction_of backwards) ≡ m) × IsRow (frame_in l backwards).width h.store.states row s;

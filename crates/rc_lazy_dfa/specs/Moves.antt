@@ -1,10 +1,11 @@
 -- Only proofs use this file.
 -- Cache: how its states change.
-use Rattle.std.specs.Prelude.{◌≡◌, ℕ, ◌+◌, ◌*◌, ◌<◌, ◌≤◌, Bool, true, false, List, [], ◌∷◌, ◌++◌, length, Option, min}
+use Rattle.std.specs.Prelude.{◌≡◌, ℕ, ◌+◌, ◌*◌, ◌<◌, ◌≤◌, Bool, true, false, List, [], ◌∷◌, ◌++◌, length, min}
 use Rattle.rc_text.specs.declared.types.Anchored.{Anchored}
 use Rattle.rc_determinize.specs.States.{State}
-use Rattle.rc_dfa.specs.Machine.{Leads, Begins, IsAsked}
-use Rattle.rc_lazy_dfa.specs.Stores.{Frame, Grows, IsRow, Names, IsCell, IsColumn, mode_of, weight_of}
+use Rattle.rc_dfa.specs.Machine.{IsAsked}
+use Rattle.rc_lazy_dfa.specs.Stores.{Frame, Grows, IsRow, Names, IsCell, IsColumn, LeadsByLetter, BeginsByLetter, mode_of, weight_of}
+use Rattle.rc_lazy_dfa.specs.declared.letters.Letter.{Letter}
 use Rattle.rc_lazy_dfa.specs.declared.store.Store.{Store}
 use Rattle.rc_lazy_dfa.specs.declared.store.Named.{Named}
 
@@ -49,12 +50,12 @@ pub record HasCell (f : Frame) (states : List State) (row column cell : ℕ) : T
   pub there : id < length states
   pub row_is : row ≡ id * f.width
   pub inside : column < f.width
-  pub cell_is : (s : State) (beside : Option ℕ) → IsRow f.width states row s → IsColumn f beside column →
-      IsCell f states beside (Leads f.machine s beside) cell
+  pub cell_is : (s : State) (letter : Letter) → IsRow f.width states row s → IsColumn f letter column →
+      IsCell f states letter (LeadsByLetter f s letter) cell
 
 -- The start cell of the kind of anchoring and the column: there is such a start.
 pub record HasStart (f : Frame) (states : List State) (mode column cell : ℕ) : Type 0 where
   pub there : mode < length f.machine.entries + 2
   pub inside : column < f.width
-  pub cell_is : (anchored : Anchored) (beside : Option ℕ) → mode_of anchored ≡ mode → IsAsked f.machine anchored → IsColumn f beside column →
-      IsCell f states beside (Begins f.machine anchored beside) cell
+  pub cell_is : (anchored : Anchored) (letter : Letter) → mode_of anchored ≡ mode → IsAsked f.machine anchored → IsColumn f letter column →
+      IsCell f states letter (BeginsByLetter f anchored letter) cell

@@ -17,6 +17,7 @@ use Rattle.rc_dfa.specs.Runs.{MayRead, Runs, behind_at}
 use Rattle.rc_lazy_dfa.specs.Stores.{Frame, IsRow, IsColumn}
 use Rattle.rc_lazy_dfa.specs.Halves.{IsHalf}
 use Rattle.rc_lazy_dfa.specs.declared.which.Ends.{Ends}
+use Rattle.rc_lazy_dfa.specs.declared.letters.Letter.TheVariants.{Alone}
 use Rattle.rc_lazy_dfa.specs.declared.which.Progress.{Progress}
 use Rattle.rc_lazy_dfa.specs.declared.which.Progress.TheVariants.{Through, Done, GivenUp}
 
@@ -96,7 +97,7 @@ pub record ComesTo (o : Overlap) (i : ℕ) (s : State) : Type 0 where
 -- of its class is ahead. Only cells of these states are.
 pub record AreCollected (f : Frame) (states : List State) (collected set : List Bool) : Type 0 where
   pub short : length collected ≤ length states * f.width
-  pub told : (row column : ℕ) (s : State) (beside : Option ℕ) → IsRow f.width states row s → IsColumn f beside column →
+  pub told : (row column : ℕ) (s : State) (beside : Option ℕ) → IsRow f.width states row s → IsColumn f (Alone beside) column →
       slice_get collected (row + column) ≡ Some true → HasEach (EndsAt f.machine s beside) set
 
 -- The search stands at the position, in this row, and the set has each pattern that was met before.

@@ -1,34 +1,41 @@
 -- Cache: the states of one direction, which are added as searches reach them.
-use Rattle.std.specs.Prelude.{◌≡◌, ◌⊎◌, ℕ, ◌+◌, ◌*◌, ◌/◌, ◌<◌, ◌≤◌, true, List, [], ◌∷◌, length, Option, Some, None, slice_get, slice_index_or}
+use Rattle.std.specs.Prelude.{◌≡◌, ◌⊎◌, ℕ, ◌+◌, ◌*◌, ◌/◌, ◌<◌, ◌≤◌, Bool, true, false, List, [], ◌∷◌, length, Option, Some, None, slice_get, slice_index_or}
 use Rattle.rc_text.specs.declared.types.Anchored.{Anchored}
 use Rattle.rc_text.specs.declared.types.Anchored.TheVariants.{No, Yes, Pattern}
 use Rattle.rc_determinize.specs.States.{State}
 use Rattle.rc_dfa.specs.declared.automaton.Automaton.{Automaton}
 use Rattle.rc_dfa.specs.declared.automaton.Direction.{Direction}
-use Rattle.rc_dfa.specs.Machine.{Machine, IsMachine, longest_in, Leads, Begins, IsAsked, AreOfOneClass, is_dead}
-use Rattle.rc_dfa.specs.Automata.{machine_of, classes_of, samples_of}
+use Rattle.rc_dfa.specs.Machine as machines
+use Rattle.rc_dfa.specs.Machine.{Machine, Alphabet, symbols, IsMachine, longest_in, Leads, Begins, IsAsked, AreOfOneClass, is_dead}
+use Rattle.rc_dfa.specs.Automata.{machine_of, classes_of, columns_of}
+use Rattle.rc_dfa.specs.Samples.{class_count}
+use Rattle.rc_dfa.specs.Symbols.{IsPast, LeadsTagged, BeginsTagged, IsColumning, column_by, columns_for}
 use Rattle.rc_dfa.specs.Laws.{IsWithin}
-use Rattle.rc_dfa.specs.Runs.{MayRead}
+use Rattle.rc_dfa.specs.Runs.{IsByte, MayRead}
+use Rattle.rc_lazy_dfa.specs.declared.letters.Letter.{Letter}
+use Rattle.rc_lazy_dfa.specs.declared.letters.Letter.TheVariants.{Alone, Tagged}
 use Rattle.rc_lazy_dfa.specs.Cells.{unknown, dead, quit, marks}
 use Rattle.rc_lazy_dfa.specs.declared.store.Store.{Store}
 use Rattle.rc_table_search.specs.declared.refusal.Refusal.{Refusal}
 use Rattle.rc_table_search.specs.declared.refusal.Refusal.TheVariants.{Memory, Short}
 
--- The frame of the rows: a machine, the class of each byte, and how many cells a row has, one for
--- each class and one for the end.
+-- The frame of the rows: a machine, the class of each byte, and how many cells a row has: one for
+-- each column and one for the end.
 pub record Frame : Type 0 where
   pub machine : Machine
   pub classes : List ℕ
   pub width : ℕ
 
 abbrev pub frame_of : Automaton → Direction → Frame
-frame_of a d = record { machine = machine_of a d; classes = classes_of a; width = length (samples_of a) + 1 }
+frame_of a d = record { machine = machine_of a d; classes = classes_of a; width = columns_of a + 1 }
 
 pub record IsFrame (f : Frame) : Type 0 where
   pub machine : IsMachine f.machine
   pub size : length f.classes ≡ 256
-  pub below : (b class : ℕ) → slice_get f.classes b ≡ Some class → class + 1 < f.width
+  pub below : (b class : ℕ) → slice_get f.classes b ≡ Some class → class < class_count f.classes
   pub alike : (b c class : ℕ) → slice_get f.classes b ≡ Some class → slice_get f.classes c ≡ Some class → AreOfOneClass f.machine b c
+  pub columns : f.width ≡ columns_for f.machine.alphabet f.classes + 1
+  pub columning : IsColumning f.machine f.classes
   pub wide : 0 < f.width
 
 -- THE COUNT
@@ -42,8 +49,8 @@ abbrev pub listed_by : List State → ℕ
 listed_by [] = 0
 listed_by (s ∷ ss) = length s.list + listed_by ss
 
--- How many start cells there are: for each kind of anchoring, one for each class of the byte beside
--- and one for an end.
+-- How many start cells there are: for each kind of anchoring, one for each column of what stands
+-- beside.
 abbrev pub starts_in : Frame → ℕ
 starts_in f = (length f.machine.entries + 2) * f.width
 
@@ -70,19 +77,48 @@ Names width states cell s =
     ((cell ≡ dead) × (is_dead s ≡ true) × (s.matched ≡ None))
     ⊎ ((row : ℕ) × IsRow width states row s × (cell ≡ row + marks s))
 
--- The byte leads where the cell says, or may not be read.
+-- What is read may be read; a symbol always may.
+abbrev pub MayReadLetter : Machine → Letter → Type 0
+MayReadLetter m (Alone beside) = MayRead m beside
+MayReadLetter m (Tagged y) = Unit {0}
+
+-- Whether the machine searches backwards.
+abbrev pub goes_back : machines.Direction → Bool
+goes_back (machines.forwards kind) = false
+goes_back machines.backwards = true
+
+-- It leads to a state, or a search begins beside it in one.
+abbrev pub LeadsByLetter : Frame → State → Letter → State → Type 0
+LeadsByLetter f s (Alone beside) = Leads f.machine s beside
+LeadsByLetter f s (Tagged y) = LeadsTagged (goes_back f.machine.direction) f.machine s y
+
+abbrev pub BeginsByLetter : Frame → Anchored → Letter → State → Type 0
+BeginsByLetter f anchored (Alone beside) = Begins f.machine anchored beside
+BeginsByLetter f anchored (Tagged y) = BeginsTagged (goes_back f.machine.direction) f.machine anchored y
+
+-- What is read leads where the cell says, or may not be read.
+abbrev pub IsKnownBy : Frame → List State → Letter → (State → Type 0) → ℕ → Type 0
+IsKnownBy f states letter To cell =
+    ((cell ≡ quit) × (¬ MayReadLetter f.machine letter))
+    ⊎ (MayReadLetter f.machine letter × ((t : State) × To t × Names f.width states cell t))
+
+abbrev pub IsCell : Frame → List State → Letter → (State → Type 0) → ℕ → Type 0
+IsCell f states letter To cell = (cell ≡ unknown) ⊎ IsKnownBy f states letter To cell
+
+-- The same of a byte that is known alone, or of the end.
 abbrev pub IsKnown : Frame → List State → Option ℕ → (State → Type 0) → ℕ → Type 0
-IsKnown f states beside To cell =
-    ((cell ≡ quit) × (¬ MayRead f.machine beside))
-    ⊎ (MayRead f.machine beside × ((t : State) × To t × Names f.width states cell t))
+IsKnown f states beside = IsKnownBy f states (Alone beside)
 
-abbrev pub IsCell : Frame → List State → Option ℕ → (State → Type 0) → ℕ → Type 0
-IsCell f states beside To cell = (cell ≡ unknown) ⊎ IsKnown f states beside To cell
+-- It is of this alphabet.
+abbrev pub IsLetter : Alphabet → Letter → Type 0
+IsLetter a (Alone beside) = IsByte beside
+IsLetter a (Tagged y) = (a ≡ symbols) × IsPast y
 
--- The column of the byte, or of the end.
-abbrev pub IsColumn : Frame → Option ℕ → ℕ → Type 0
-IsColumn f (Some b) column = slice_get f.classes b ≡ Some column
-IsColumn f None column = column + 1 ≡ f.width
+-- Its column.
+abbrev pub IsColumn : Frame → Letter → ℕ → Type 0
+IsColumn f (Alone (Some b)) column = slice_get f.classes b ≡ Some column
+IsColumn f (Alone None) column = column + 1 ≡ f.width
+IsColumn f (Tagged y) column = IsLetter f.machine.alphabet (Tagged y) × (column ≡ column_by f.classes y)
 
 -- The number of a kind of anchoring.
 abbrev pub mode_of : Anchored → ℕ
@@ -90,17 +126,17 @@ mode_of No = 0
 mode_of Yes = 1
 mode_of (Pattern p) = p + 2
 
--- Each cell that is known is the step from the state of its row, for every byte of its class.
+-- Each cell that is known is the step from the state of its row, for all that its column stands for.
 pub record AreCells (f : Frame) (states : List State) (cells : List ℕ) : Type 0 where
   pub rows : length cells ≡ length states * f.width
-  pub told : (row column : ℕ) (s : State) (beside : Option ℕ) → IsRow f.width states row s → IsColumn f beside column →
-      IsCell f states beside (Leads f.machine s beside) (slice_index_or cells (row + column) unknown)
+  pub told : (row column : ℕ) (s : State) (letter : Letter) → IsRow f.width states row s → IsColumn f letter column →
+      IsCell f states letter (LeadsByLetter f s letter) (slice_index_or cells (row + column) unknown)
 
 -- Each start cell that is known is where a search begins that is anchored so.
 pub record AreStarts (f : Frame) (states : List State) (starts : List ℕ) : Type 0 where
   pub size : length starts ≡ starts_in f
-  pub told : (anchored : Anchored) (column : ℕ) (beside : Option ℕ) → IsAsked f.machine anchored → IsColumn f beside column →
-      IsCell f states beside (Begins f.machine anchored beside) (slice_index_or starts (mode_of anchored * f.width + column) unknown)
+  pub told : (anchored : Anchored) (column : ℕ) (letter : Letter) → IsAsked f.machine anchored → IsColumn f letter column →
+      IsCell f states letter (BeginsByLetter f anchored letter) (slice_index_or starts (mode_of anchored * f.width + column) unknown)
 
 -- The states have places of the program, each once; for leftmost-longest with marks between them.
 pub record AreWithin (f : Frame) (states : List State) : Type 0 where

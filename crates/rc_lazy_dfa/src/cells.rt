@@ -1,10 +1,10 @@
 //! Transitions: cells as numbers. A cell names the row to which a byte leads, by the index of that
 //! row's first cell. A cell below `UNKNOWN` has no mark, so a run follows it without a further
 //! look.
-ghost use Rattle.std.specs.Prelude.{◌≡◌, ◌≤◌, ◌<◌, length};
+ghost use Rattle.std.specs.Prelude.{◌≡◌, ◌≤◌, ◌<◌};
 ghost use Rattle.rc_determinize.specs.Places.{state_of};
 ghost use Rattle.rc_determinize.specs.States as states;
-ghost use Rattle.rc_lazy_dfa.specs.Cells.{marks, column_of};
+ghost use Rattle.rc_lazy_dfa.specs.Cells.{marks};
 ghost use Rattle.rc_lazy_dfa.specs.Stores.{Frame, Held, Names, mode_of};
 
 use crate::store::Store;
@@ -26,19 +26,6 @@ pub(crate) fn marks(state: &State) -> usize
         0
     };
     met + dead
-}
-
-/// Returns the column of the byte, or that of the end, which is the last.
-#[inline(always)]
-pub(crate) fn column(classes: &[u8], width: usize, beside: Option<u8>) -> usize
-    requires size { length classes.now ≡ 256 }
-    requires wide { 0 < width }
-    ensures { result ≡ column_of classes.now width beside }
-{
-    match beside {
-        Some(byte) => classes[byte as usize] as usize,
-        None => width - 1,
-    }
 }
 
 /// Returns the number of a kind of anchoring.

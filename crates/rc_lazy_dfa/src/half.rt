@@ -2,14 +2,14 @@
 ghost use Rattle.std.specs.Prelude.{◌≡◌, ◌<◌, ◌≤◌, length, IfOk, IfErr, MatchOption, [], true};
 ghost use Rattle.rc_determinize.specs.Places.{state_of};
 ghost use Rattle.rc_determinize.specs.States as states;
-ghost use Rattle.rc_dfa.specs.Machine.{IsAsked, Leads, Begins};
-ghost use Rattle.rc_lazy_dfa.specs.Stores.{Frame, Grows, frame_of, Spends, IsRefused, IsRow, IsKnown, minimum_of, starts_in};
+ghost use Rattle.rc_dfa.specs.Machine.{IsAsked};
+ghost use Rattle.rc_lazy_dfa.specs.Stores.{BeginsByLetter, Frame, Grows, LeadsByLetter, frame_of, Spends, IsLetter, IsRefused, IsRow, IsKnownBy, minimum_of, starts_in};
 ghost use Rattle.rc_lazy_dfa.specs.Halves.{IsHalf, IsFresh, IsPlace};
 ghost use Rattle.rc_dfa.specs.Laws.{IsWithin};
-ghost use Rattle.rc_dfa.specs.Runs.{IsByte};
 ghost use Rattle.rc_lazy_dfa.specs.Moves.{IsNamed};
 
-use crate::cells::{UNKNOWN, column, mode};
+use crate::cells::{UNKNOWN, mode};
+use crate::letters::{Letter, begin, column, may_read, step};
 use crate::store::{Named, Store};
 use rc_determinize::scratch::Scratch;
 use rc_determinize::sides::Seen;
@@ -50,8 +50,8 @@ fn no_places(alloc: Global) -> State {
     }
 }
 
-/// Returns how many start cells there are: for each kind of anchoring, one for each class of the
-/// byte beside and one for an end. Returns None if that overflows.
+/// Returns how many start cells there are: for each kind of anchoring, one for each column of what
+/// stands beside. Returns None if that overflows.
 pub(crate) fn starts_in(automaton: &Automaton, direction: Direction, width: usize) -> Option<usize>
     requires { width ≡ (frame_of automaton.now direction).width }
     ensures { MatchOption result (usize.MAX < starts_in (frame_of automaton.now direction))
@@ -76,7 +76,7 @@ impl Half {
         ensures fresh { IfOk result (IsFresh capacity) }
     {
         let _classes = automaton.classes();
-        let width = automaton.samples().len() + 1;
+        let width = automaton.columns() + 1;
         let Some(len) = starts_in(automaton, direction, width) else {
             return Err(AllocError);
         };
@@ -108,13 +108,13 @@ impl Half {
         self.served = self.served.saturating_add(bytes);
     }
 
-    /// Makes the state to which a byte leads from the state of the row; None is the end.
+    /// Makes the state to which a letter leads from the state of the row.
     fn lead(
         &mut self,
         automaton: &Automaton,
         direction: Direction,
         row: usize,
-        beside: Option<u8>,
+        letter: Letter,
     ) -> Result<(), AllocError>
         ghost f: { Frame }
         requires same { frame_of automaton.now direction ≡ f }
@@ -124,10 +124,17 @@ impl Half {
         ensures store { self.new.store ≡ self.old.store }
         ensures leads { IfOk result (λ _. (s : states.State)
             → IsRow f.width self.old.store.states row s
-            → Leads f.machine s beside (state_of self.new.to)) }
+            → LeadsByLetter f s letter (state_of self.new.to)) }
     {
         let from = self.store.states.get(row / self.store.width);
-        automaton.step(direction, &mut self.scratch, from, beside, &mut self.to)?;
+        step(
+            automaton,
+            direction,
+            &mut self.scratch,
+            from,
+            letter,
+            &mut self.to,
+        )?;
         Ok(())
     }
 
@@ -150,31 +157,31 @@ impl Half {
         Ok(named)
     }
 
-    /// Returns the cell of a row and a byte; None is the end. If it isn't known, the step is made,
-    /// and the cell is known from then on. Also returns whether all earlier rows were kept.
+    /// Returns the cell of a row and a letter. If it isn't known, the step is made, and the cell is
+    /// known from then on. Also returns whether all earlier rows were kept.
     #[inline(always)]
     pub(crate) fn follow(
         &mut self,
         automaton: &Automaton,
         direction: Direction,
         row: usize,
-        beside: Option<u8>,
+        letter: Letter,
     ) -> Result<Named, Refusal>
         ghost f: { Frame }
         requires same { frame_of automaton.now direction ≡ f }
         requires half { IsHalf f self.old }
         requires row { IsPlace f self.old.store row }
-        requires byte { IsByte beside }
+        requires letter { IsLetter f.machine.alphabet letter }
         ensures half { IsHalf f self.new }
         ensures spends { Spends f self.old.store self.new.store 1 }
         ensures leads { IfOk result (λ named. (s : states.State)
             → IsRow f.width self.old.store.states row s
-            → IsKnown f self.new.store.states beside (Leads f.machine s beside) named.cell) }
+            → IsKnownBy f self.new.store.states letter (LeadsByLetter f s letter) named.cell) }
         ensures grows { IfOk result (λ named. named.kept ≡ true
             → Grows self.old.store.states self.new.store.states) }
         ensures refused { IfErr result (IsRefused f self.old.store self.new.store) }
     {
-        let column = column(automaton.classes(), self.store.width, beside);
+        let column = column(automaton, self.store.width, letter);
         let known = self.store.cells[row + column];
         if known != UNKNOWN {
             return Ok(Named {
@@ -182,14 +189,14 @@ impl Half {
                 kept: true,
             });
         }
-        if !automaton.may_read(beside) {
+        if !may_read(automaton, letter) {
             self.store.write(row, column, QUIT);
             return Ok(Named {
                 cell: QUIT,
                 kept: true,
             });
         }
-        self.lead(automaton, direction, row, beside)?;
+        self.lead(automaton, direction, row, letter)?;
         let named = self.name()?;
         if named.kept {
             self.store.write(row, column, named.cell);
@@ -197,63 +204,63 @@ impl Half {
         Ok(named)
     }
 
-    /// Returns the cell of a row and a byte, as `follow` does.
+    /// Returns the cell of a row and a letter, as `follow` does.
     #[inline(always)]
     pub(crate) fn next(
         &mut self,
         automaton: &Automaton,
         direction: Direction,
         row: usize,
-        beside: Option<u8>,
+        letter: Letter,
     ) -> Result<usize, Refusal>
         ghost f: { Frame }
         requires same { frame_of automaton.now direction ≡ f }
         requires half { IsHalf f self.old }
         requires row { IsPlace f self.old.store row }
-        requires byte { IsByte beside }
+        requires letter { IsLetter f.machine.alphabet letter }
         ensures half { IsHalf f self.new }
         ensures spends { Spends f self.old.store self.new.store 1 }
         ensures leads { IfOk result (λ cell. (s : states.State)
             → IsRow f.width self.old.store.states row s
-            → IsKnown f self.new.store.states beside (Leads f.machine s beside) cell) }
+            → IsKnownBy f self.new.store.states letter (LeadsByLetter f s letter) cell) }
         ensures refused { IfErr result (IsRefused f self.old.store self.new.store) }
     {
-        let named = self.follow(automaton, direction, row, beside)?;
+        let named = self.follow(automaton, direction, row, letter)?;
         Ok(named.cell)
     }
 
-    /// Returns the start cell for a kind of anchoring and the byte beside, or an end. If it isn't
-    /// known, the state is made, and the cell is known from then on.
+    /// Returns the start cell for a kind of anchoring and the letter beside. If it isn't known, the
+    /// state is made, and the cell is known from then on.
     #[inline(always)]
     pub(crate) fn begin(
         &mut self,
         automaton: &Automaton,
         direction: Direction,
         anchored: &Anchored,
-        beside: Option<u8>,
+        letter: Letter,
     ) -> Result<usize, Refusal>
         ghost f: { Frame }
         requires same { frame_of automaton.now direction ≡ f }
         requires half { IsHalf f self.old }
         requires asked { IsAsked f.machine anchored.now }
-        requires byte { IsByte beside }
+        requires letter { IsLetter f.machine.alphabet letter }
         ensures half { IsHalf f self.new }
         ensures spends { Spends f self.old.store self.new.store 1 }
-        ensures begins { IfOk result (IsKnown f self.new.store.states beside
-            (Begins f.machine anchored.now beside)) }
+        ensures begins { IfOk result (IsKnownBy f self.new.store.states letter
+            (BeginsByLetter f anchored.now letter)) }
         ensures refused { IfErr result (IsRefused f self.old.store self.new.store) }
     {
-        let column = column(automaton.classes(), self.store.width, beside);
+        let column = column(automaton, self.store.width, letter);
         let mode = mode(*anchored);
         let known = self.store.starts[mode * self.store.width + column];
         if known != UNKNOWN {
             return Ok(known);
         }
-        if !automaton.may_read(beside) {
+        if !may_read(automaton, letter) {
             self.store.write_start(mode, column, QUIT);
             return Ok(QUIT);
         }
-        automaton.begin(direction, *anchored, beside, &mut self.to)?;
+        begin(automaton, direction, *anchored, letter, &mut self.to)?;
         let named = self.name()?;
         if named.kept {
             self.store.write_start(mode, column, named.cell);

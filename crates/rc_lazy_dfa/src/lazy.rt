@@ -49,7 +49,7 @@ fn minimum(automaton: &Automaton) -> Option<usize>
         < minimum_of (frame_of automaton.now direction.Forwards))
         (λ n. n ≡ minimum_of (frame_of automaton.now direction.Forwards)) }
 {
-    let width = automaton.samples().len() + 1;
+    let width = automaton.columns() + 1;
     let starts = starts_in(automaton, Direction::Forwards, width)?;
     let rows = 40 * width as u128 + 8 * starts as u128;
     let bytes = rows + 160 + 40 * automaton.longest_list(Direction::Forwards) as u128;
@@ -140,7 +140,7 @@ impl Lazy {
     /// Inserts into the set each pattern that has a match from the position `from` on, up to the
     /// end of the input's bounds, as far as the set can hold it. Returns false if some may be
     /// missing: the cache isn't for overlapping searches, its capacity or memory doesn't suffice,
-    /// or a byte may not be read.
+    /// a byte may not be read, or symbols are read.
     pub fn which_patterns<C: Cursor>(
         &self,
         cache: &mut Cache,

@@ -14,6 +14,7 @@ mod cells;
 pub mod error;
 mod half;
 pub mod lazy;
+mod letters;
 mod rows;
 mod search;
 mod store;

@@ -5,9 +5,10 @@ ghost use Rattle.rc_lazy_dfa.specs.Courses.{direction_of};
 use crate::cells::stop_by;
 use crate::half::Half;
 use crate::lazy::{Lazy, is_asked};
+use crate::letters::Letter;
 use crate::store::Store;
 use rc_dfa::automaton::Direction;
-use rc_dfa::symbols::Symbol;
+use rc_dfa::symbols::{Alphabet, Symbol};
 use rc_table_search::cells::DEAD;
 use rc_table_search::refusal::Refusal;
 use rc_table_search::run::{Extent, Stand, run, stops_of};
@@ -29,6 +30,27 @@ fn direction<W: Way>() -> Direction
     Direction::Forwards
 }
 
+impl Lazy {
+    ghost use Rattle.std.specs.Prelude.{◌≡◌};
+    ghost use Rattle.rc_dfa.specs.Automata.{alphabet_in};
+    ghost use Rattle.rc_dfa.specs.Machine.{symbols};
+    ghost use Rattle.rc_dfa.specs.Symbols.{IsPast};
+    ghost use Rattle.rc_lazy_dfa.specs.Stores.{IsLetter};
+    ghost use Rattle.rc_lazy_dfa.specs.declared.letters.Letter.TheVariants.{Tagged};
+
+    /// Returns the symbol as a letter, or its byte alone if bytes are read.
+    fn letter_of(&self, symbol: Symbol) -> Letter
+        requires past { IsPast symbol }
+        ensures read { IsLetter (alphabet_in self.now.automaton) result }
+        ensures symbol { alphabet_in self.now.automaton ≡ symbols → result ≡ Tagged symbol }
+    {
+        match self.automaton.alphabet() {
+            Alphabet::Symbols => Letter::Tagged(symbol),
+            Alphabet::Bytes => Letter::Alone(Some(symbol.byte)),
+        }
+    }
+}
+
 impl Transitions for Lazy {
     ghost use Rattle.rc_lazy_dfa.specs.Courses.{view_of};
     ghost use Rattle.rc_lazy_dfa.specs.SpendLaws.{lawful};
@@ -37,10 +59,12 @@ impl Transitions for Lazy {
 
     ghost view = { view_of };
 
-    // It reads bytes, each known alone.
     #[inline(always)]
     fn reads_symbols<W: Way>(&self) -> bool {
-        false
+        match self.automaton.alphabet() {
+            Alphabet::Bytes => false,
+            Alphabet::Symbols => true,
+        }
     }
 
     // If the pattern that is asked for doesn't exist, nothing goes on.
@@ -54,7 +78,12 @@ impl Transitions for Lazy {
         if !is_asked(&self.automaton, &anchored) {
             return Ok(DEAD);
         }
-        cache.begin(&self.automaton, direction::<W>(), &anchored, beside)
+        cache.begin(
+            &self.automaton,
+            direction::<W>(),
+            &anchored,
+            Letter::Alone(beside),
+        )
     }
 
     #[inline(always)]
@@ -64,12 +93,21 @@ impl Transitions for Lazy {
         anchored: Anchored,
         symbol: Symbol,
     ) -> Result<usize, Refusal> {
-        self.start::<W>(cache, anchored, Some(symbol.byte))
+        if !is_asked(&self.automaton, &anchored) {
+            return Ok(DEAD);
+        }
+        let letter = self.letter_of(symbol);
+        cache.begin(&self.automaton, direction::<W>(), &anchored, letter)
     }
 
     #[inline(always)]
     fn next<W: Way>(&self, cache: &mut Half, row: usize, byte: u8) -> Result<usize, Refusal> {
-        cache.next(&self.automaton, direction::<W>(), row, Some(byte))
+        cache.next(
+            &self.automaton,
+            direction::<W>(),
+            row,
+            Letter::Alone(Some(byte)),
+        )
     }
 
     #[inline(always)]
@@ -79,12 +117,13 @@ impl Transitions for Lazy {
         row: usize,
         symbol: Symbol,
     ) -> Result<usize, Refusal> {
-        self.next::<W>(cache, row, symbol.byte)
+        let letter = self.letter_of(symbol);
+        cache.next(&self.automaton, direction::<W>(), row, letter)
     }
 
     #[inline(always)]
     fn at_end<W: Way>(&self, cache: &mut Half, row: usize) -> Result<Option<usize>, Refusal> {
-        let cell = cache.next(&self.automaton, direction::<W>(), row, None)?;
+        let cell = cache.next(&self.automaton, direction::<W>(), row, Letter::Alone(None))?;
         Ok(stop_by(&cache.store, cell))
     }
 

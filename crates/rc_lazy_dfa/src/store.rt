@@ -23,10 +23,9 @@ pub(crate) struct Store {
     pub states: States,
     /// The rows, one after another.
     pub cells: Vec<usize>,
-    /// The start cells: for each kind of anchoring, one for each class of the byte beside, and one
-    /// for an end.
+    /// The start cells: for each kind of anchoring, one for each column of what stands beside.
     pub starts: Vec<usize>,
-    /// How many cells a row has: one for each byte class, and one for the end.
+    /// How many cells a row has: one for each column of the automaton, and one for the end.
     pub width: usize,
     /// How many bytes it may take.
     pub capacity: usize,

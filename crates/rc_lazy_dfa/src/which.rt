@@ -12,9 +12,11 @@ ghost use Rattle.rc_dfa.specs.Automata.{machine_of};
 ghost use Rattle.rc_dfa.specs.declared.automaton.Direction.TheVariants.{Overlapping};
 ghost use Rattle.rc_lazy_dfa.specs.Overlaps.{AddsOnly, HasEach, IsAmong};
 
-use crate::cells::{UNKNOWN, column};
+use crate::cells::UNKNOWN;
 use crate::half::Half;
+use crate::letters::{Letter, column};
 use rc_dfa::automaton::{Automaton, Direction};
+use rc_dfa::symbols::Alphabet;
 use rc_pattern_set::sets::PatternSet;
 use rc_table_search::cells::{MET, QUIT, has_died, row_of};
 use rc_table_search::sides::{byte_beside, piece_on};
@@ -91,6 +93,7 @@ impl Ends {
     ghost use Rattle.rc_lazy_dfa.specs.Cells.{column_of};
     ghost use Rattle.rc_lazy_dfa.specs.Stores.{Frame, IsRow, frame_of, minimum_of};
     ghost use Rattle.rc_lazy_dfa.specs.Halves.{IsHalf, IsPlace};
+    ghost use Rattle.rc_lazy_dfa.specs.declared.letters.Letter.TheVariants.{Alone};
     ghost use Rattle.rc_lazy_dfa.specs.Overlaps.{AddsOnly, EndsAt, HasEach, IsLeg, IsMet, IsOverlap, IsTold, IsUnderway, Overlap};
 
     /// No states yet, with this capacity in bytes. `Err` means out of memory.
@@ -203,12 +206,13 @@ impl Ends {
         requires row { IsPlace f self.old.half.store row }
         ensures half { self.new.half ≡ self.old.half }
         ensures short { length self.new.collected.items ≤ max (length self.old.collected.items)
-            (row + column_of f.classes f.width (Some byte) + 1) }
+            (row + column_of f.classes f.width (Alone (Some byte)) + 1) }
         ensures collected { (index : ℕ) → slice_get self.new.collected.items index ≡ Some true
             → (slice_get self.old.collected.items index ≡ Some true)
-            ⊎ (index ≡ row + column_of f.classes f.width (Some byte)) }
+            ⊎ (index ≡ row + column_of f.classes f.width (Alone (Some byte))) }
     {
-        let index = row + column(automaton.classes(), self.half.store.width, Some(byte));
+        let letter = Letter::Alone(Some(byte));
+        let index = row + column(automaton, self.half.store.width, letter);
         if index >= self.collected.len() {
             self.collected.resize(index + 1, false)?;
         }
@@ -244,9 +248,10 @@ impl Ends {
             return Progress::GivenUp;
         }
         self.half.serve(1);
+        let letter = Letter::Alone(Some(byte));
         let Ok(named) = self
             .half
-            .follow(automaton, Direction::Overlapping, stand.row, Some(byte))
+            .follow(automaton, Direction::Overlapping, stand.row, letter)
         else {
             return Progress::GivenUp;
         };
@@ -274,9 +279,12 @@ impl Ends {
         ensures { IsLeg o self.new o.from result o.old }
     {
         self.collected.clear();
-        let begun = self
-            .half
-            .begin(automaton, Direction::Overlapping, anchored, beside);
+        let begun = self.half.begin(
+            automaton,
+            Direction::Overlapping,
+            anchored,
+            Letter::Alone(beside),
+        );
         let Ok(cell) = begun else {
             return Progress::GivenUp;
         };
@@ -398,7 +406,7 @@ impl Ends {
 
     /// Inserts each pattern that has a match from the position `from` on, up to the end of the
     /// input's bounds, as far as the set can hold it. Returns false if some may be missing: the
-    /// capacity or memory doesn't suffice, or a byte may not be read.
+    /// capacity or memory doesn't suffice, a byte may not be read, or the automaton reads symbols.
     pub(crate) fn search<C: Cursor>(
         &mut self,
         automaton: &Automaton,
@@ -420,7 +428,12 @@ impl Ends {
             (text_of (machine_of automaton.now Overlapping).setting.terminator input.old)
             (high input.old) from anchored.now) set.new }
     {
-        let end = high(input);
-        self.go(automaton, input, anchored, from, end, set)
+        match automaton.alphabet() {
+            Alphabet::Symbols => false,
+            Alphabet::Bytes => {
+                let end = high(input);
+                self.go(automaton, input, anchored, from, end, set)
+            }
+        }
     }
 }

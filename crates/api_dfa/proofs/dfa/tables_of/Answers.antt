@@ -4,6 +4,7 @@ use Rattle.rc_program.specs.Program.{shown}
 use Rattle.rc_program.specs.Sought.{Sought}
 use Rattle.rc_dfa.specs.Automata.{classes_of, machine_of}
 use Rattle.rc_dfa.specs.declared.automaton.Direction.TheVariants.{Backwards, Forwards}
+use Rattle.rc_dfa.specs.Machine.{Machine}
 use Rattle.rc_dfa_search.specs.Classes.{AreClassesOf}
 use Rattle.rc_dfa_search.specs.Machines.{AreMachines}
 use Rattle.api_dfa.specs.Makes.{IsTablesRefusal}
@@ -27,6 +28,10 @@ classed g c =
     let a = c.in_ok-automaton.automaton in
     subst (λ t. AreClassesOf c.args.byte_classes (shown g.q.grouped g.q.patterns) t (classes_of a))
     (c.get_line_terminator-terminator.ensures ∙ sym (ap (λ (q : Sought). q.terminator) c.requires.0)) c.in_ok-automaton.ensures.classes
+
+-- so it reads bytes
+pub new-requires : goal.new-requires
+new-requires g c = let of = c.in_ok-automaton.ensures.machines in ap (λ (m : Machine). m.alphabet) of.ahead
 
 pub returns-in-Ok-clause-made : goal.returns-in-Ok-clause-made
 returns-in-Ok-clause-made g c =

@@ -64,5 +64,5 @@ invariant_of-result c =
 pub returns-clause-made : goal.returns-clause-made
 returns-clause-made c =
     let at = (goal.at.returns-clause-made c).In_ok-parts in
-    made_by (machine_of c.args.automaton.now c.args.direction) refl (samples_of c.args.automaton.now) c.args.limit c.in_ok-parts.parts.maker.names _ _
+    made_by (machine_of c.args.automaton.now c.args.direction) c.requires (samples_of c.args.automaton.now) c.args.limit c.in_ok-parts.parts.maker.names _ _
     (classing at) (width at) c.in_ok-parts.ensures.parts c.mark.ensures

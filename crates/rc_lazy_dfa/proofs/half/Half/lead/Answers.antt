@@ -13,5 +13,5 @@ pub returns-clause-leads : goal.returns-clause-leads
 returns-clause-leads g c = λ s r.
     let h = c.requires.1.0 in
     let is = row_state g.f c.args.self.now.store h.held c.args.row s r (state_of c.get-from.result.now) c.get-from.ensures in
-    led_by g.f (frame_of c.args.automaton.now c.args.direction) s (state_of c.get-from.result.now) (state_of c.step.new.to) c.args.beside c.requires.0 is
+    led_by g.f (frame_of c.args.automaton.now c.args.direction) s (state_of c.get-from.result.now) (state_of c.step.new.to) c.args.letter c.requires.0 is
     c.in_ok-step.ensures.leads

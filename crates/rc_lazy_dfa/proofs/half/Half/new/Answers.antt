@@ -1,5 +1,4 @@
-use Rattle.std.proofs.Common.{rules, ◌+◌, ◌*◌, ◌∙◌, length, replicate, refl, ap, arith}
-use Rattle.rc_dfa.specs.Automata.{samples_of}
+use Rattle.std.proofs.Common.{rules, ◌+◌, ◌*◌, ◌∙◌, replicate, ap, arith}
 use Rattle.rc_lazy_dfa.specs.Cells.{unknown}
 use Rattle.rc_lazy_dfa.specs.Stores.{frame_of}
 use Rattle.rc_lazy_dfa.proofs.MakeLemmas.{frame_is, blank_held}
@@ -10,9 +9,9 @@ returns-clause-made c =
     let a = c.args.automaton.now in
     let d = c.args.direction in
     let f = frame_of a d in
-    let width = ap (λ xs. length xs + 1) c.samples.ensures in
+    let width = ap (λ n. n + 1) c.columns-width.ensures.value in
     let len = c.in-Some.ensures in
-    let k = frame_is f (samples_of a) (c.classes-classes.ensures.machine d) (c.classes-classes.ensures.classing d) refl in
+    let k = frame_is a d (c.classes-classes.ensures.machine d) (c.classes-classes.ensures.classing d) (c.columns-width.ensures.columning d) in
     let fits = c.ranges.capacity.fits in
     record {
       held = blank_held f _ k (record {

@@ -5,6 +5,7 @@ use Rattle.rc_lazy_dfa.specs.Cells.{met, unknown}
 use Rattle.rc_lazy_dfa.specs.Overlaps.{IsUnderway}
 use Rattle.rc_lazy_dfa.proofs.RowLemmas.{row_inside}
 use Rattle.rc_lazy_dfa.proofs.WhichLemmas.{over_plain, over_collected}
+use Rattle.rc_lazy_dfa.proofs.WriteLemmas.{byte_inside}
 use Rattle.rc_lazy_dfa.proofs.which.Ends.run.Goals as goal
 use Rattle.rc_lazy_dfa.proofs.which.Ends.run.Goals.{then-cell-lt-UNKNOWN, else-cell-lt-UNKNOWN+then-cell-ge-MET+then-cell-lt-UNKNOWN-2+then-is_collected}
 
@@ -29,7 +30,7 @@ bounds-cells-index g c =
     let byte = c.type_inv.piece c.loop-place.place in
     let b = slice_index_or c.args.piece.now c.loop-place.place 0 in
     let lt : b < length c.args.classes.now = subst (λ xs. b < length xs) (sym same) (omega (arith, size, byte)) in
-    let below = frame.below b (slice_index_or c.args.classes.now b 0) (subst (λ xs. slice_get xs b ≡ Some (slice_index_or c.args.classes.now b 0)) same
+    let below = byte_inside g.o.frame b (slice_index_or c.args.classes.now b 0) frame (subst (λ xs. slice_get xs b ≡ Some (slice_index_or c.args.classes.now b 0)) same
     (slice_get-get_or c.args.classes.now b 0 lt)) in
     let inside = row_inside g.o.frame c.args.self.now.half.store held c.loop-place.row u.state u.in_row in
     let cells = c.as_slice-cells.ensures.value in

@@ -1,6 +1,7 @@
 use Rattle.std.proofs.Common.{◌≡◌, ◌∙◌, ◌⊎◌, ◌+◌, ◌<◌, ◌≤◌, true, false, length, slice_get, max, Some, sym, subst, ap, arith}
 use Rattle.rc_dfa.specs.declared.automaton.Direction.TheVariants.{Overlapping}
 use Rattle.rc_lazy_dfa.specs.Cells.{column_of}
+use Rattle.rc_lazy_dfa.specs.declared.letters.Letter.TheVariants.{Alone}
 use Rattle.rc_lazy_dfa.specs.Stores.{Held, frame_of}
 use Rattle.rc_lazy_dfa.specs.Halves.{IsHalf, IsPlace}
 use Rattle.rc_lazy_dfa.specs.Overlaps.{AreCollected, IsTold, IsUnderway}
@@ -48,7 +49,7 @@ returns-in_default g c =
     let o = g.o in
     let r = c.requires in
     let u = r.1.1.0 in
-    let read = read_by o.frame (frame_of c.args.automaton.now Overlapping) c.may_read.result (Some c.args.byte) r.0 c.if-not-may_read.false (c.may_read.ensures Overlapping).0 in
+    let read = read_by o.frame (frame_of c.args.automaton.now Overlapping) c.may_read.result (Alone (Some c.args.byte)) r.0 c.if-not-may_read.false (c.may_read.ensures Overlapping).0 in
     let byte : c.args.byte < 256 = let fits = c.ranges.byte.fits in omega (arith, fits) in
     let adds = c.insert.ensures.adds u.state u.in_row in
     look_some c.args.automaton.now o r.1.0 r.0 c.args.self.now c.args.set.now c.args.stand.at c.args.stand.row u c.args.byte r.1.1.1 byte read c.insert.new.set adds _ c.insert.ensures.half
@@ -58,7 +59,7 @@ returns-then-is_full g c =
     let o = g.o in
     let r = c.requires in
     let u = r.1.1.0 in
-    let read = read_by o.frame (frame_of c.args.automaton.now Overlapping) c.may_read.result (Some c.args.byte) r.0 c.if-not-may_read.false (c.may_read.ensures Overlapping).0 in
+    let read = read_by o.frame (frame_of c.args.automaton.now Overlapping) c.may_read.result (Alone (Some c.args.byte)) r.0 c.if-not-may_read.false (c.may_read.ensures Overlapping).0 in
     let byte : c.args.byte < 256 = let fits = c.ranges.byte.fits in omega (arith, fits) in
     let adds = c.insert.ensures.adds u.state u.in_row in
     look_full c.args.automaton.now o r.1.0 r.0 c.args.self.now c.args.set.now c.args.stand.at c.args.stand.row u c.args.byte r.1.1.1 byte read c.insert.new.set adds _ c.insert.ensures.half (c.is_full.ensures c.if-is_full.true)
@@ -68,7 +69,7 @@ returns-then-is_err g c =
     let o = g.o in
     let r = c.requires in
     let u = r.1.1.0 in
-    let read = read_by o.frame (frame_of c.args.automaton.now Overlapping) c.may_read.result (Some c.args.byte) r.0 c.if-not-may_read.false (c.may_read.ensures Overlapping).0 in
+    let read = read_by o.frame (frame_of c.args.automaton.now Overlapping) c.may_read.result (Alone (Some c.args.byte)) r.0 c.if-not-may_read.false (c.may_read.ensures Overlapping).0 in
     let byte : c.args.byte < 256 = let fits = c.ranges.byte.fits in omega (arith, fits) in
     let adds = c.insert.ensures.adds u.state u.in_row in
     look_some c.args.automaton.now o r.1.0 r.0 c.args.self.now c.args.set.now c.args.stand.at c.args.stand.row u c.args.byte r.1.1.1 byte read c.insert.new.set adds _ (subst (λ (h : Half). IsHalf o.frame h) (sym c.collect.ensures.half) c.insert.ensures.half)
@@ -78,7 +79,7 @@ returns-in_default-follow g c =
     let o = g.o in
     let r = c.requires in
     let u = r.1.1.0 in
-    let read = read_by o.frame (frame_of c.args.automaton.now Overlapping) c.may_read.result (Some c.args.byte) r.0 c.if-not-may_read.false (c.may_read.ensures Overlapping).0 in
+    let read = read_by o.frame (frame_of c.args.automaton.now Overlapping) c.may_read.result (Alone (Some c.args.byte)) r.0 c.if-not-may_read.false (c.may_read.ensures Overlapping).0 in
     let byte : c.args.byte < 256 = let fits = c.ranges.byte.fits in omega (arith, fits) in
     let adds = c.insert.ensures.adds u.state u.in_row in
     look_some c.args.automaton.now o r.1.0 r.0 c.args.self.now c.args.set.now c.args.stand.at c.args.stand.row u c.args.byte r.1.1.1 byte read c.insert.new.set adds _ c.follow.ensures.half
@@ -88,7 +89,7 @@ returns-then-named g c =
     let o = g.o in
     let r = c.requires in
     let u = r.1.1.0 in
-    let read = read_by o.frame (frame_of c.args.automaton.now Overlapping) c.may_read.result (Some c.args.byte) r.0 c.if-not-may_read.false (c.may_read.ensures Overlapping).0 in
+    let read = read_by o.frame (frame_of c.args.automaton.now Overlapping) c.may_read.result (Alone (Some c.args.byte)) r.0 c.if-not-may_read.false (c.may_read.ensures Overlapping).0 in
     let byte : c.args.byte < 256 = let fits = c.ranges.byte.fits in omega (arith, fits) in
     let adds = c.insert.ensures.adds u.state u.in_row in
     elim c.if-not-named.branch [
@@ -101,7 +102,7 @@ returns-then-has_died g c =
     let o = g.o in
     let r = c.requires in
     let u = r.1.1.0 in
-    let read = read_by o.frame (frame_of c.args.automaton.now Overlapping) c.may_read.result (Some c.args.byte) r.0 c.if-not-may_read.false (c.may_read.ensures Overlapping).0 in
+    let read = read_by o.frame (frame_of c.args.automaton.now Overlapping) c.may_read.result (Alone (Some c.args.byte)) r.0 c.if-not-may_read.false (c.may_read.ensures Overlapping).0 in
     let byte : c.args.byte < 256 = let fits = c.ranges.byte.fits in omega (arith, fits) in
     let adds = c.insert.ensures.adds u.state u.in_row in
     let was = c.serve.ensures.store ∙ ap (λ (h : Half). h.store) c.collect.ensures.half ∙ c.insert.ensures.store in
@@ -119,7 +120,7 @@ returns g c =
     let o = g.o in
     let r = c.requires in
     let u = r.1.1.0 in
-    let read = read_by o.frame (frame_of c.args.automaton.now Overlapping) c.may_read.result (Some c.args.byte) r.0 c.if-not-may_read.false (c.may_read.ensures Overlapping).0 in
+    let read = read_by o.frame (frame_of c.args.automaton.now Overlapping) c.may_read.result (Alone (Some c.args.byte)) r.0 c.if-not-may_read.false (c.may_read.ensures Overlapping).0 in
     let byte : c.args.byte < 256 = let fits = c.ranges.byte.fits in omega (arith, fits) in
     let adds = c.insert.ensures.adds u.state u.in_row in
     let was = c.serve.ensures.store ∙ ap (λ (h : Half). h.store) c.collect.ensures.half ∙ c.insert.ensures.store in
@@ -127,7 +128,7 @@ returns g c =
     let alive = sym c.has_died.ensures ∙ c.if-has_died.false in
     let states = c.follow.new.self.store.states in
     let items = ap (λ v. v.items) c.insert.ensures.collected in
-    let short = subst (λ xs. length c.collect.new.self.collected.items ≤ max (length xs) (c.args.stand.row + column_of o.frame.classes o.frame.width (Some c.args.byte) + 1))
+    let short = subst (λ xs. length c.collect.new.self.collected.items ≤ max (length xs) (c.args.stand.row + column_of o.frame.classes o.frame.width (Alone (Some c.args.byte)) + 1))
     items c.collect.ensures.short in
     elim c.if-not-named.branch [
       | then-not-named w ↦ subst (λ (e : Ends). IsUnderway o e (c.args.stand.at + 1) c.row_of.result c.insert.new.set) (sym w.self-is)
@@ -141,6 +142,6 @@ returns g c =
           (c.in-Ok-follow.ensures.grows (so_kept c.in-Ok-follow.named.kept w.if-not-named.false))
           (look_collects c.args.automaton.now o r.1.0 r.0 c.args.self.now c.args.set.now c.args.stand.at c.args.stand.row u c.args.byte r.1.1.1 byte read c.insert.new.set adds each c.serve.new.self.store was (record { half = c.follow.new.self; places = c.collect.new.self.places; collected = c.collect.new.self.collected })
           c.follow.ensures.half c.in-Ok-follow.named.cell c.if-named.false c.in-Ok-follow.ensures.leads c.collect.new.self.collected.items short
-          (λ index here. subst (λ xs. (slice_get xs index ≡ Some true) ⊎ (index ≡ c.args.stand.row + column_of o.frame.classes o.frame.width (Some c.args.byte))) items
+          (λ index here. subst (λ xs. (slice_get xs index ≡ Some true) ⊎ (index ≡ c.args.stand.row + column_of o.frame.classes o.frame.width (Alone (Some c.args.byte)))) items
           (c.collect.ensures.collected index here)))))
     ]
