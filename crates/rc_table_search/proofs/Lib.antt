@@ -2,6 +2,7 @@ pub mod RunLemmas
 pub mod WayLemmas
 pub mod SpanLemmas
 mod SymbolLemmas
+mod ScalarLemmas
 mod BesideLemmas
 mod SearchLemmas
 mod MemoLemmas

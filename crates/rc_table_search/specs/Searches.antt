@@ -1,6 +1,6 @@
 -- Only proofs use this file.
 -- Searches by a table: what their runs keep, and how they end.
-use Rattle.std.specs.Prelude.{◌≡◌, ℕ, ◌+◌, Bool, false, not, Option, Some, None}
+use Rattle.std.specs.Prelude.{◌≡◌, ℕ, ◌+◌, Bool, false, not, Option, Some, None, Result, IfOk, IfErr}
 use Rattle.rc_text.specs.Text.{Searched}
 use Rattle.rc_program.specs.Text.{Text}
 use Rattle.rc_program.specs.Sought.{text_of}
@@ -13,6 +13,8 @@ use Rattle.rc_text.specs.declared.types.Anchored.{Anchored}
 use Rattle.rc_table_search.specs.Walks.{has_died, row_of}
 use Rattle.rc_table_search.specs.Ways.{Course, EndsFrom, HasEndedBy, HasEndedFrom, IsOn, RunsBy, far_at, side_at, span}
 use Rattle.rc_table_search.specs.Views.{View, IsNoted, KnowsSide}
+use Rattle.rc_table_search.specs.Refusals.{is_memory}
+use Rattle.rc_table_search.specs.declared.refusal.Refusal.{Refusal}
 use Rattle.rc_table_search.specs.declared.run.Stand.{Stand}
 use Rattle.rc_table_search.specs.declared.search.Request.{Request}
 use Rattle.rc_table_search.specs.declared.search.Progress.{Progress}
@@ -95,6 +97,16 @@ pub record IsAt {C : Type 0} (v : View C) (backwards : Bool) (o : Outset C) (q :
   pub on : IsOn backwards q.from i
   pub spends : v.Spends o.begun c (span backwards q.from i)
   pub stands : (m : Machine) → v.IsOf m → (first : State) → v.HasState o.begun m o.row first → IsHere v backwards o.seen q c m first i stand
+
+-- What is read next at the position leads where the cell says, from where the run stood. Or a state
+-- was refused.
+pub record HasLed {C : Type 0} (v : View C) (backwards : Bool) (o : Outset C) (q : Request) (c : C) (i : ℕ) (stand : Stand) (cell : Result ℕ Refusal) : Type 0 where
+  pub before : C
+  pub here : IsAt v backwards o q before i stand
+  pub cache : v.IsCache c
+  pub spends : v.Spends before c 1
+  pub leads : IfOk cell (LeadsAt v backwards o.seen before c i stand.row)
+  pub refused : IfErr cell (λ e. v.GivesUp before c 1 (is_memory e))
 
 -- The states that it adds: at most one for each byte, and one at the end.
 abbrev pub run_spent : Bool → Request → ℕ

@@ -6,6 +6,7 @@ pub mod cells;
 pub mod refusal;
 pub mod rows;
 pub mod run;
+pub mod scalars;
 pub mod search;
 pub mod sides;
 pub mod symbols;

@@ -4,22 +4,26 @@ ghost use Rattle.std.specs.Prelude.{◌≡◌, ◌+◌, ◌≤◌, ◌<◌, ◌^
 ghost use Rattle.rc_text.specs.Text.{Keeps, Searched, slice_end};
 ghost use Rattle.rc_program.specs.Sought.{text_of};
 ghost use Rattle.rc_determinize.specs.States.{State, best_at};
-ghost use Rattle.rc_dfa.specs.Machine.{Machine};
+ghost use Rattle.rc_symbols.specs.Symbols.{IsSymbolAt};
+ghost use Rattle.rc_dfa.specs.Machine.{Machine, symbols};
 ghost use Rattle.rc_dfa.specs.Runs.{IsByte};
+ghost use Rattle.rc_dfa.specs.Symbols.{IsPast, symbol_of};
 ghost use Rattle.rc_table_search.specs.Refusals.{is_memory};
 ghost use Rattle.rc_table_search.specs.Walks.{first_of, next_of};
-ghost use Rattle.rc_table_search.specs.Ways.{IsBeside, IsBounded, IsInSlice, IsNext, IsOn, LiesWithin, beside_at, span};
+ghost use Rattle.rc_table_search.specs.Ways.{IsBeside, IsBounded, IsInSlice, IsNext, IsOn, LiesWithin, beside_at, offset_of, span};
 ghost use Rattle.rc_table_search.specs.Views.{IsFound, IsNoted, LeadsTo, needs_symbol};
-ghost use Rattle.rc_table_search.specs.Searches.{BeginsAt, HasBegun, HasRun, IsAt, IsBegun, IsLeg, IsOver, LeadsAt, Origin, Outset, Says};
+ghost use Rattle.rc_table_search.specs.Searches.{BeginsAt, HasBegun, HasLed, HasRun, IsAt, IsBegun, IsLeg, IsOver, LeadsAt, Origin, Outset, Says};
 
 use crate::cells::{MET, QUIT, has_died, row_of};
 use crate::refusal::Refusal;
 use crate::run::{Extent, Stand};
+use crate::scalars::scalar_here;
 use crate::sides::{byte_beside, offset, piece_on};
 use crate::symbols::symbol_at;
 use crate::transitions::Transitions;
-use crate::way::{Way, byte, left, start, step_on};
+use crate::way::{Way, byte, left, next, start, step_on};
 use rc_dfa::ended::{Ended, Met, Reading};
+use rc_dfa::symbols::Symbol;
 use rc_text::cursor::Cursor;
 use rc_text::input::{Input, content_fits};
 use rc_text::types::Anchored;
@@ -124,35 +128,6 @@ fn reach<W: Way, T: Transitions>(table: &T, at: usize, until: usize, request: &R
     look.max(at.saturating_add(1)).min(until)
 }
 
-/// Runs over a piece up to a byte whose cell needs a look. The piece begins at the position
-/// `start`. Returns the place of that byte, and how the search stands there.
-#[inline(always)]
-fn read<W: Way, T: Transitions>(
-    table: &T,
-    cache: &mut T::Cache,
-    request: &Request,
-    piece: &[u8],
-    start: usize,
-    stand: Stand,
-) -> (usize, Stand)
-    ghost outset: { Outset T.Cache }
-    requires at { IsAt (T.view table.now W.BACKWARDS) W.BACKWARDS outset request.now cache.old
-        (start + first_of W.BACKWARDS (length piece.now)) stand }
-    requires begins { IsBounded (not W.BACKWARDS) outset.seen request.now.from }
-    requires bound { IsBounded W.BACKWARDS outset.seen request.now.end }
-    requires piece { piece.now ≡ slice_range outset.seen.content start (start + length piece.now) }
-    requires within { LiesWithin W.BACKWARDS start (length piece.now) request.now.end }
-    requires fits { start + length piece.now ≤ usize.MAX }
-    ensures read { result.0 ≤ length piece.now }
-    ensures at { IsAt (T.view table.now W.BACKWARDS) W.BACKWARDS outset request.now cache.new
-        (start + result.0) result.1 }
-{
-    let (place, there) = table.run::<W>(cache, piece, start, stand.row, request.extent);
-    let row = there.row;
-    let noted = note_of::<W, T>(table, cache, there.noted, stand.noted);
-    (place, Stand { row, noted })
-}
-
 /// Whether the table reads the byte's symbol, and not the byte alone.
 #[inline(always)]
 fn needs_symbol<W: Way, T: Transitions>(table: &T, byte: u8) -> bool
@@ -193,31 +168,29 @@ fn cell_on<W: Way, T: Transitions, C: Cursor>(
     table.next::<W>(cache, row, byte)
 }
 
-/// Reads the byte next to the position, whatever its cell. If it may rest, the search does so after
-/// that byte.
+/// Goes on by the cell to which the byte leads that is read next at the position. If it may rest,
+/// the search does so after that byte.
 #[inline(always)]
-fn step<W: Way, T: Transitions, C: Cursor>(
+fn follow<W: Way, T: Transitions>(
     table: &T,
-    cache: &mut T::Cache,
-    input: &mut Input<C>,
+    cache: &T::Cache,
     request: &Request,
     byte: u8,
     at: usize,
     stand: Stand,
+    cell: Result<usize, Refusal>,
 ) -> Progress
     ghost outset: { Outset T.Cache }
-    requires at { IsAt (T.view table.now W.BACKWARDS) W.BACKWARDS outset request.now cache.old at stand }
-    requires seen { Keeps outset.seen input.old }
-    requires inside { IsInSlice W.BACKWARDS outset.seen at }
+    requires led { HasLed (T.view table.now W.BACKWARDS) W.BACKWARDS outset request.now cache.now at
+        stand cell }
     requires next { IsNext W.BACKWARDS outset.seen request.now.end at byte }
     requires rests { request.now.extent.may_rest ≡ true → W.BACKWARDS ≡ false }
     requires fits { W.BACKWARDS ≡ false → at < usize.MAX }
-    ensures keeps { Keeps input.old input.new }
-    ensures leg { IsLeg (T.view table.now W.BACKWARDS) W.BACKWARDS outset request.now cache.new
+    ensures { IsLeg (T.view table.now W.BACKWARDS) W.BACKWARDS outset request.now cache.now
         (next_of W.BACKWARDS at) result }
 {
     let read = step_on::<W>(at);
-    let cell = match cell_on::<W, T, C>(table, cache, input, stand.row, byte, at) {
+    let cell = match cell {
         Ok(cell) => cell,
         Err(refusal) => {
             let ended = Ended::GaveUp(at, refusal.is_memory());
@@ -248,6 +221,150 @@ fn step<W: Way, T: Transitions, C: Cursor>(
         return Progress::Over(Reading { ended, read });
     }
     Progress::Through(Stand { row, noted })
+}
+
+/// Reads the byte next to the position, whatever its cell.
+#[inline(always)]
+fn step<W: Way, T: Transitions, C: Cursor>(
+    table: &T,
+    cache: &mut T::Cache,
+    input: &mut Input<C>,
+    request: &Request,
+    byte: u8,
+    at: usize,
+    stand: Stand,
+) -> Progress
+    ghost outset: { Outset T.Cache }
+    requires at { IsAt (T.view table.now W.BACKWARDS) W.BACKWARDS outset request.now cache.old at stand }
+    requires seen { Keeps outset.seen input.old }
+    requires inside { IsInSlice W.BACKWARDS outset.seen at }
+    requires next { IsNext W.BACKWARDS outset.seen request.now.end at byte }
+    requires rests { request.now.extent.may_rest ≡ true → W.BACKWARDS ≡ false }
+    requires fits { W.BACKWARDS ≡ false → at < usize.MAX }
+    ensures keeps { Keeps input.old input.new }
+    ensures leg { IsLeg (T.view table.now W.BACKWARDS) W.BACKWARDS outset request.now cache.new
+        (next_of W.BACKWARDS at) result }
+{
+    let cell = cell_on::<W, T, C>(table, cache, input, stand.row, byte, at);
+    follow::<W, T>(table, cache, request, byte, at, stand, cell)
+}
+
+/// Reads the symbol next to the position.
+#[inline(always)]
+fn step_over<W: Way, T: Transitions>(
+    table: &T,
+    cache: &mut T::Cache,
+    request: &Request,
+    symbol: Symbol,
+    at: usize,
+    stand: Stand,
+) -> Progress
+    ghost outset: { Outset T.Cache }
+    requires at { IsAt (T.view table.now W.BACKWARDS) W.BACKWARDS outset request.now cache.old at stand }
+    requires reads { (T.view table.now W.BACKWARDS).alphabet ≡ symbols }
+    requires past { IsPast symbol }
+    requires symbol { (terminator : ℕ) → IsSymbolAt (text_of terminator outset.seen)
+        (offset_of W.BACKWARDS at) (symbol_of symbol) }
+    requires next { IsNext W.BACKWARDS outset.seen request.now.end at symbol.byte }
+    requires rests { request.now.extent.may_rest ≡ true → W.BACKWARDS ≡ false }
+    requires fits { W.BACKWARDS ≡ false → at < usize.MAX }
+    ensures { IsLeg (T.view table.now W.BACKWARDS) W.BACKWARDS outset request.now cache.new
+        (next_of W.BACKWARDS at) result }
+{
+    let cell = table.next_over::<W>(cache, stand.row, symbol);
+    follow::<W, T>(table, cache, request, symbol.byte, at, stand, cell)
+}
+
+/// Reads the symbols that come next at the place, as far as the piece has their scalars whole. The
+/// piece begins at the position `start`. Returns the place after them, and how the search stands
+/// there. `Err` says how the search ended among them.
+#[inline(never)]
+fn read_symbols<W: Way, T: Transitions>(
+    table: &T,
+    cache: &mut T::Cache,
+    request: &Request,
+    piece: &[u8],
+    start: usize,
+    from: usize,
+    begin: Stand,
+) -> Result<(usize, Stand), Reading>
+    ghost outset: { Outset T.Cache }
+    requires at { IsAt (T.view table.now W.BACKWARDS) W.BACKWARDS outset request.now cache.old
+        (start + from) begin }
+    requires reads { (T.view table.now W.BACKWARDS).alphabet ≡ symbols }
+    requires from { from ≤ length piece.now }
+    requires piece { piece.now ≡ slice_range outset.seen.content start (start + length piece.now) }
+    requires inside { (outset.seen.slice.start ≤ start)
+        × (start + length piece.now ≤ slice_end outset.seen) }
+    requires bound { IsBounded W.BACKWARDS outset.seen request.now.end }
+    requires within { LiesWithin W.BACKWARDS start (length piece.now) request.now.end }
+    requires rests { request.now.extent.may_rest ≡ true → W.BACKWARDS ≡ false }
+    requires fits { start + length piece.now ≤ usize.MAX }
+    ensures read { IfOk result (λ there. there.0 ≤ length piece.now) }
+    ensures at { IfOk result (λ there. IsAt (T.view table.now W.BACKWARDS) W.BACKWARDS outset
+        request.now cache.new (start + there.0) there.1) }
+    ensures over { IfErr result (λ reading. HasRun (T.view table.now W.BACKWARDS) W.BACKWARDS outset
+        request.now cache.new reading.read reading.ended) }
+{
+    let mut stand = begin;
+    let mut place = from;
+    let mut last = None;
+    while left::<W>(piece, place) > 0 {
+        let byte = byte::<W>(piece, place);
+        if byte < 128 {
+            return Ok((place, stand));
+        }
+        let here = offset(place, W::BACKWARDS);
+        let Some(scalar) = scalar_here(piece, here, last) else {
+            return Ok((place, stand));
+        };
+        let tagged = scalar.tag(here);
+        let symbol = Symbol { byte, tagged };
+        stand = match step_over::<W, T>(table, cache, request, symbol, start + place, stand) {
+            Progress::Through(on) => on,
+            Progress::Over(reading) => return Err(reading),
+        };
+        place = next::<W>(piece, place);
+        last = Some(scalar);
+    }
+    Ok((place, stand))
+}
+
+/// Runs over a piece up to a byte whose cell needs a look, and reads the symbols that come next. The
+/// piece begins at the position `start`. Returns the place after them, and how the search stands
+/// there. `Err` says how the search ended among them.
+#[inline(always)]
+fn read<W: Way, T: Transitions>(
+    table: &T,
+    cache: &mut T::Cache,
+    request: &Request,
+    piece: &[u8],
+    start: usize,
+    stand: Stand,
+) -> Result<(usize, Stand), Reading>
+    ghost outset: { Outset T.Cache }
+    requires at { IsAt (T.view table.now W.BACKWARDS) W.BACKWARDS outset request.now cache.old
+        (start + first_of W.BACKWARDS (length piece.now)) stand }
+    requires begins { IsBounded (not W.BACKWARDS) outset.seen request.now.from }
+    requires bound { IsBounded W.BACKWARDS outset.seen request.now.end }
+    requires piece { piece.now ≡ slice_range outset.seen.content start (start + length piece.now) }
+    requires within { LiesWithin W.BACKWARDS start (length piece.now) request.now.end }
+    requires rests { request.now.extent.may_rest ≡ true → W.BACKWARDS ≡ false }
+    requires fits { start + length piece.now ≤ usize.MAX }
+    ensures read { IfOk result (λ there. there.0 ≤ length piece.now) }
+    ensures at { IfOk result (λ there. IsAt (T.view table.now W.BACKWARDS) W.BACKWARDS outset
+        request.now cache.new (start + there.0) there.1) }
+    ensures over { IfErr result (λ reading. HasRun (T.view table.now W.BACKWARDS) W.BACKWARDS outset
+        request.now cache.new reading.read reading.ended) }
+{
+    let (place, there) = table.run::<W>(cache, piece, start, stand.row, request.extent);
+    let row = there.row;
+    let noted = note_of::<W, T>(table, cache, there.noted, stand.noted);
+    let stand = Stand { row, noted };
+    if left::<W>(piece, place) > 0 && needs_symbol::<W, T>(table, byte::<W>(piece, place)) {
+        return read_symbols::<W, T>(table, cache, request, piece, start, place, stand);
+    }
+    Ok((place, stand))
 }
 
 /// Runs over the chunks from where the search begins up to the position `until`.
@@ -282,7 +399,10 @@ pub(crate) fn cross<W: Way, T: Transitions, C: Cursor>(
         let stop = reach::<W, T>(table, at, until, request);
         let piece = piece_on::<W, C>(input, at, stop);
         let start = start::<W>(piece, at);
-        let (place, next) = read::<W, T>(table, cache, request, piece, start, stand);
+        let (place, next) = match read::<W, T>(table, cache, request, piece, start, stand) {
+            Ok(there) => there,
+            Err(reading) => return Progress::Over(reading),
+        };
         stand = next;
         at = start + place;
         if left::<W>(piece, place) > 0 {

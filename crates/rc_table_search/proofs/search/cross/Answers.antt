@@ -5,7 +5,7 @@ use Rattle.rc_table_search.proofs.SpanLemmas.{between, first_here, inside_here, 
 use Rattle.rc_table_search.specs.Searches.{IsAt}
 use Rattle.rc_table_search.proofs.SearchLemmas.{rests_here}
 use Rattle.rc_table_search.proofs.search.cross.Goals as goal
-use Rattle.rc_table_search.proofs.search.cross.Goals.{After-piece_on-piece, After-reach-stop, After-read-place, After-start-start}
+use Rattle.rc_table_search.proofs.search.cross.Goals.{After-piece_on-piece, After-reach-stop, After-start-start}
 
 -- where the content ends
 long : (g : _) (c : After-reach-stop g) → length c.loop-at.input.content ≡ length g.outset.seen.content
@@ -61,20 +61,20 @@ fits g c =
     let le = piece_fits g.W.Way.BACKWARDS (length c.piece_on-piece.result.now) c.loop-at.at c.args.request.now.end 18446744073709551615 few.0 few.1 at end in
     omega (arith, le, c.start-start.ensures)
 
-pub read-place-requires : goal.read-place-requires
-read-place-requires g c κs within_κs =
-    let d = (goal.at.read-place-requires g c).After-start-start in
+pub read-requires : goal.read-requires
+read-requires g c κs within_κs =
+    let d = (goal.at.read-requires g c).After-start-start in
     let v = g.T.Transitions.view c.args.table.now g.W.Way.BACKWARDS in
     let few = left g d in
     let first = first_here g.W.Way.BACKWARDS (length c.piece_on-piece.result.now) c.loop-at.at c.args.request.now.end few.0 few.1 in
     let from = ap (λ n. n + first_of g.W.Way.BACKWARDS (length c.piece_on-piece.result.now)) c.start-start.ensures ∙ first.0 in
     let here = subst (λ i. IsAt v g.W.Way.BACKWARDS g.outset c.args.request.now c.loop-at.cache i c.loop-at.stand) (sym from) c.loop-at.invariant.here in
-    (search rules, (search rules, (search rules, (here, (c.requires.1.1.1.1.1.1.0, (c.requires.1.1.1.1.1.1.1.0, (bytes g d, (within g d, fits g d))))))))
+    (search rules, (search rules, (search rules, (here, (c.requires.1.1.1.1.1.1.0, (c.requires.1.1.1.1.1.1.1.0, (bytes g d, (within g d, (c.requires.1.1.1.1.1.1.1.1.1.1.1.1, fits g d)))))))))
 
 pub overflow_add-at : goal.overflow_add-at
 overflow_add-at g c =
     let le = fits g (goal.at.overflow_add-at g c).After-start-start in
-    omega (arith, le, c.read-place.ensures.read)
+    omega (arith, le, c.in-Ok.ensures.read)
 
 -- the slice has the byte that is read next
 inside : (g : _) (c : After-start-start g) (place : ℕ) → place ≤ length c.piece_on-piece.result.now →
@@ -94,10 +94,10 @@ step-requires g c κs within_κs =
     let d = (goal.at.step-requires g c).After-start-start in
     let given = c.requires.1.1.1.1.1.1.1 in
     let piece = c.piece_on-piece.result.now in
-    let some : 0 < left_of g.W.Way.BACKWARDS (length piece) c.read-place.result.0 = omega (arith, c.if-left-gt0.true, c.left.ensures) in
-    let ahead = next_here g.W.Way.BACKWARDS g.outset.seen c.args.request.now.end c.start-start.result c.read-place.result.0 piece given.0 (bytes g d) (within g d)
-    c.read-place.ensures.read some in
-    let next = subst (IsNext g.W.Way.BACKWARDS g.outset.seen c.args.request.now.end (c.start-start.result + c.read-place.result.0)) (sym c.byte-byte.ensures) ahead in
+    let some : 0 < left_of g.W.Way.BACKWARDS (length piece) c.in-Ok.there.0 = omega (arith, c.if-left-gt0.true, c.left.ensures) in
+    let ahead = next_here g.W.Way.BACKWARDS g.outset.seen c.args.request.now.end c.start-start.result c.in-Ok.there.0 piece given.0 (bytes g d) (within g d)
+    c.in-Ok.ensures.read some in
+    let next = subst (IsNext g.W.Way.BACKWARDS g.outset.seen c.args.request.now.end (c.start-start.result + c.in-Ok.there.0)) (sym c.byte-byte.ensures) ahead in
     let among = given.1.1.1.0.1 in
     let long = given.1.1.1.1.0 in (
       search rules,
@@ -108,17 +108,17 @@ step-requires g c κs within_κs =
           (
             search rules,
             (
-              c.read-place.ensures.at,
+              c.in-Ok.ensures.at,
               (
                 kept_then g.outset.seen c.loop-at.input c.piece_on-piece.follows.lender-at-none
                     (kept_then g.outset.seen c.args.input.now c.loop-at.input c.requires.1.1.1.1.1.0 c.loop-at.invariant.keeps) c.piece_on-piece.follows.holds-at-none,
                 (
-                  inside g d c.read-place.result.0 c.read-place.ensures.read some,
+                  inside g d c.in-Ok.there.0 c.in-Ok.ensures.read some,
                   (
                     next,
                     (
                       given.1.1.1.1.1,
-                      λ forwards. let left = subst (λ b. 0 < span b (c.start-start.result + c.read-place.result.0) c.args.request.now.end) forwards ahead.left in omega (arith, left, among, long),
+                      λ forwards. let left = subst (λ b. 0 < span b (c.start-start.result + c.in-Ok.there.0) c.args.request.now.end) forwards ahead.left in omega (arith, left, among, long),
                     ),
                   ),
                 ),
@@ -134,9 +134,9 @@ returns-then-is_idle-clause-leg g c =
     let d = (goal.at.returns-then-is_idle-clause-leg g c).After-start-start in
     let backwards = g.W.Way.BACKWARDS in
     let few = left g d in
-    let place = c.read-place.result.0 in
-    let on = (read_here backwards (length c.piece_on-piece.result.now) c.loop-at.at c.args.request.now.end place few.0 few.1 c.read-place.ensures.read).1 in
+    let place = c.in-Ok.there.0 in
+    let on = (read_here backwards (length c.piece_on-piece.result.now) c.loop-at.at c.args.request.now.end place few.0 few.1 c.in-Ok.ensures.read).1 in
     let within = subst (λ n. IsOn backwards (n + place) c.args.request.now.end) (sym c.start-start.ensures) on in
     rests_here _ (g.T.Transitions.view c.args.table.now backwards) (g.met.T.Transitions.lawful c.args.table.now backwards) backwards g.outset c.args.request.now
-    c.read-place.new.cache (c.start-start.result + place) c.read-place.result.1 c.read-place.ensures.at within (c.requires.1.1.1.1.1.1.1.1.1.1.1.1 c.if-request.true)
+    c.read.new.cache (c.start-start.result + place) c.in-Ok.there.1 c.in-Ok.ensures.at within (c.requires.1.1.1.1.1.1.1.1.1.1.1.1 c.if-request.true)
     c.if-request.true (c.is_none.ensures ∙ ap not c.if-is_none.true) (c.is_idle.ensures c.if-is_idle.true)

@@ -1,83 +1,25 @@
-use Rattle.std.proofs.Common.{◌∙◌, not, sym, subst, ap}
-use Rattle.rc_dfa.specs.declared.ended.Ended.TheVariants.{Idle}
-use Rattle.rc_table_search.specs.Walks.{next_of}
-use Rattle.rc_table_search.specs.Ways.{IsOn, offset_of, span}
-use Rattle.rc_table_search.specs.Searches.{IsAt, HasRun}
-use Rattle.rc_table_search.proofs.SpanLemmas.{left_on}
-use Rattle.rc_table_search.proofs.WayLemmas.{some_before}
-use Rattle.rc_table_search.proofs.SearchLemmas.{few_spent, over_refused, step_dies, step_early, step_goes, step_quits, step_rests}
+use Rattle.std.proofs.Common.{rules}
 use Rattle.rc_table_search.proofs.search.step.Goals as goal
-use Rattle.rc_table_search.proofs.search.step.Goals.{After-step_on-read, Start}
 
-pub step_on-read-requires-clause-low : goal.step_on-read-requires-clause-low
-step_on-read-requires-clause-low g c = λ backwards. some_before g.W.Way.BACKWARDS g.outset.seen.content c.args.at c.args.byte c.requires.1.1.1.1.1.1.1.0.there backwards
-
-within : (g : _) (c : Start g) → IsOn g.W.Way.BACKWARDS c.args.at c.args.request.now.end
-within g c = left_on g.W.Way.BACKWARDS c.args.at c.args.request.now.end c.requires.1.1.1.1.1.1.1.0.left
-
-pub returns-in-Err-clause-leg : goal.returns-in-Err-clause-leg
-returns-in-Err-clause-leg g c =
-    let backwards = g.W.Way.BACKWARDS in
-    let v = g.T.Transitions.view c.args.table.now backwards in
-    let laws = g.met.T.Transitions.lawful c.args.table.now backwards in
-    let here = c.requires.1.1.1.1.0 in
-    let on = within g (goal.at.returns-in-Err-clause-leg g c).Start in
-    over_refused _ v laws backwards g.outset c.args.request.now c.args.cache.now c.cell_on.new.cache (span backwards c.args.request.now.from c.args.at) c.args.at c.args.at
-    c.is_memory.result c.in-Err.ensures.cache here.spends c.in-Err.ensures.spends
-    (subst (λ k. v.GivesUp c.args.cache.now c.cell_on.new.cache 1 k) (sym c.is_memory.ensures) c.in-Err.ensures.refused)
-    (few_spent _ v laws backwards g.outset c.args.request.now c.args.at here.on on) here.on on
-
-pub returns-then-cell-clause-leg : goal.returns-then-cell-clause-leg
-returns-then-cell-clause-leg g c =
-    let backwards = g.W.Way.BACKWARDS in
-    let next = c.requires.1.1.1.1.1.1.1.0 in
-    step_quits _ (g.T.Transitions.view c.args.table.now backwards) (g.met.T.Transitions.lawful c.args.table.now backwards) backwards g.outset c.args.request.now
-    c.args.cache.now c.cell_on.new.cache c.args.at c.args.stand c.args.byte c.in-Ok.cell c.requires.1.1.1.1.0 c.in-Ok.ensures.cache c.in-Ok.ensures.spends c.in-Ok.ensures.cell
-    (within g (goal.at.returns-then-cell-clause-leg g c).Start) c.step_on-read.result c.offset.result
-    (λ e. c.step_on-read.ensures ∙ ap (λ k. next_of k c.args.at) e) c.if-cell.true next.there (c.offset.ensures ∙ ap (λ k. offset_of k c.args.at) c.BACKWARDS.ensures)
-
-pub returns-then-has_died-clause-leg : goal.returns-then-has_died-clause-leg
-returns-then-has_died-clause-leg g c =
-    let backwards = g.W.Way.BACKWARDS in
-    let v = g.T.Transitions.view c.args.table.now backwards in
-    let next = c.requires.1.1.1.1.1.1.1.0 in
-    subst (λ k. HasRun v backwards g.outset c.args.request.now c.cell_on.new.cache k c.told-ended.result) (sym c.step_on-read.ensures)
-    (step_dies _ v (g.met.T.Transitions.lawful c.args.table.now backwards) backwards g.outset c.args.request.now
-    c.args.cache.now c.cell_on.new.cache c.args.at c.args.stand c.args.byte c.in-Ok.cell c.requires.1.1.1.1.0 c.in-Ok.ensures.cache c.in-Ok.ensures.spends c.in-Ok.ensures.cell
-    (within g (goal.at.returns-then-has_died-clause-leg g c).Start) c.if-cell.false c.noted_by-noted.result c.noted_by-noted.ensures next.left c.told-ended.result
-    (sym c.has_died.ensures ∙ c.if-has_died.true) c.told-ended.ensures)
-
-pub returns-then-is_some-clause-leg : goal.returns-then-is_some-clause-leg
-returns-then-is_some-clause-leg g c =
-    let backwards = g.W.Way.BACKWARDS in
-    let v = g.T.Transitions.view c.args.table.now backwards in
-    let next = c.requires.1.1.1.1.1.1.1.0 in
-    subst (λ k. HasRun v backwards g.outset c.args.request.now c.cell_on.new.cache k c.told-ended-then-is_some.result) (sym c.step_on-read.ensures)
-    (step_early _ v (g.met.T.Transitions.lawful c.args.table.now backwards) backwards g.outset c.args.request.now
-    c.args.cache.now c.cell_on.new.cache c.args.at c.args.stand c.args.byte c.in-Ok.cell c.requires.1.1.1.1.0 c.in-Ok.ensures.cache c.in-Ok.ensures.spends c.in-Ok.ensures.cell
-    (within g (goal.at.returns-then-is_some-clause-leg g c).Start) c.if-cell.false c.noted_by-noted.result c.noted_by-noted.ensures next.left c.told-ended-then-is_some.result
-    c.if-extent.true (sym c.is_some.ensures ∙ c.if-is_some.true) c.told-ended-then-is_some.ensures)
-
-pub returns-then-is_idle-clause-leg : goal.returns-then-is_idle-clause-leg
-returns-then-is_idle-clause-leg g c =
-    let backwards = g.W.Way.BACKWARDS in
-    let v = g.T.Transitions.view c.args.table.now backwards in
-    let r = c.requires.1.1.1.1 in
-    subst (λ k. HasRun v backwards g.outset c.args.request.now c.cell_on.new.cache k (Idle k)) (sym c.step_on-read.ensures)
-    (step_rests _ v (g.met.T.Transitions.lawful c.args.table.now backwards) backwards g.outset c.args.request.now
-    c.args.cache.now c.cell_on.new.cache c.args.at c.args.stand c.args.byte c.in-Ok.cell r.0 c.in-Ok.ensures.cache c.in-Ok.ensures.spends c.in-Ok.ensures.cell
-    (within g (goal.at.returns-then-is_idle-clause-leg g c).Start) c.if-cell.false c.noted_by-noted.result c.noted_by-noted.ensures r.1.1.1.0.left
-    (r.1.1.1.1.0 c.if-extent-2.true) c.if-extent-2.true (sym c.has_died.ensures ∙ c.if-has_died.false) (c.is_none.ensures ∙ ap not c.if-is_none.true)
-    (λ m s has. c.is_idle.ensures c.if-is_idle.true m s (subst (λ k. v.HasState c.cell_on.new.cache m k s) (sym c.row_of-row.ensures) has)))
-
-pub returns-clause-leg : goal.returns-clause-leg
-returns-clause-leg g c =
-    let backwards = g.W.Way.BACKWARDS in
-    let v = g.T.Transitions.view c.args.table.now backwards in
-    let next = c.requires.1.1.1.1.1.1.1.0 in
-    subst (λ k. IsAt v backwards g.outset c.args.request.now c.cell_on.new.cache (next_of backwards c.args.at) (record { row = k; noted = c.noted_by-noted.result }))
-    (sym c.row_of-row.ensures)
-    (step_goes _ v (g.met.T.Transitions.lawful c.args.table.now backwards) backwards g.outset c.args.request.now
-    c.args.cache.now c.cell_on.new.cache c.args.at c.args.stand c.args.byte c.in-Ok.cell c.requires.1.1.1.1.0 c.in-Ok.ensures.cache c.in-Ok.ensures.spends c.in-Ok.ensures.cell
-    (within g (goal.at.returns-clause-leg g c).Start) c.if-cell.false c.noted_by-noted.result c.noted_by-noted.ensures next.left
-    (sym c.has_died.ensures ∙ c.if-has_died.false))
+pub follow-requires : goal.follow-requires
+follow-requires g c κs within_κs =
+    let r = c.requires.1.1.1.1 in (
+      search rules,
+      (
+        search rules,
+        (
+          search rules,
+          (
+            record {
+              before = c.args.cache.now;
+              here = r.0;
+              cache = c.cell_on-cell.ensures.cache;
+              spends = c.cell_on-cell.ensures.spends;
+              leads = c.cell_on-cell.ensures.cell;
+              refused = c.cell_on-cell.ensures.refused;
+            },
+            (r.1.1.1.0, (r.1.1.1.1.0, r.1.1.1.1.1)),
+          ),
+        ),
+      ),
+    )
