@@ -6,6 +6,7 @@ use Rattle.rc_text.specs.declared.types.MatchKind.{MatchKind}
 use Rattle.rc_pattern.specs.Re.{Re}
 use Rattle.rc_program.specs.Program.{shown, without_groups}
 use Rattle.rc_program.specs.Sought.{Sought}
+use Rattle.rc_dfa.specs.Machine.{bytes}
 use Rattle.rc_dense_dfa.specs.Halves.{AreHalves}
 use Rattle.rc_dense_dfa.specs.declared.dense.Dense.{Dense}
 use Rattle.rc_dfa_search.specs.Aims.{AreHalvesOf}
@@ -24,6 +25,7 @@ halves_of q kind tables earliest t = record {
   ahead = t.ahead;
   back = t.behind;
   are_of = t.halves;
+  alphabet = bytes;
   machines = t.machines;
   counted = shown_long q.grouped q.patterns;
   few = let few = t.few in let same = shown_long q.grouped q.patterns in omega (arith, few, same);

@@ -6,6 +6,7 @@ use Rattle.rc_pattern.specs.Re.{Re}
 use Rattle.rc_program.specs.Program.{shown}
 use Rattle.rc_program.specs.Sought.{Sought}
 use Rattle.rc_dfa.specs.Automata.{machine_of}
+use Rattle.rc_dfa.specs.Machine.{bytes}
 use Rattle.rc_dfa.specs.declared.automaton.Direction.TheVariants.{Backwards, Forwards}
 use Rattle.rc_lazy_dfa.specs.Caches.{AreHalves}
 use Rattle.rc_lazy_dfa.specs.declared.lazy.Lazy.{Lazy}
@@ -21,6 +22,7 @@ halves_of q kind lazy earliest t = record {
   ahead = machine_of lazy.automaton Forwards;
   back = machine_of lazy.automaton Backwards;
   are_of = (refl, refl);
+  alphabet = bytes;
   machines = t.machines;
   counted = shown_long q.grouped q.patterns;
   few = let few = t.few in let same = shown_long q.grouped q.patterns in omega (arith, few, same);

@@ -193,6 +193,7 @@ module _ (AreOf : Machine → Machine → Type 0) (aim : Aim) (hs : List Re) (te
       let c = free_case AreOf aim hs terminator s of (omega (arith, above, below)) goes.free in
       let in_slice = c.inside in
       record {
+        alphabet = c.alphabet;
         machines = c.machines;
         places = c.places;
         anchoring = refl;

@@ -37,7 +37,7 @@ use Rattle.rc_determinize.specs.Laws.{IsSettingOf}
 use Rattle.rc_determinize.proofs.RunLemmas.{reach_long, walk_reaches}
 use Rattle.rc_determinize.proofs.AnswerLemmas.{last_at}
 use Rattle.rc_determinize.proofs.TextLemmas.{near, last}
-use Rattle.rc_dfa.specs.Machine.{Direction, forwards, backwards, Machine, IsMachine, bytes}
+use Rattle.rc_dfa.specs.Machine.{Alphabet, Direction, forwards, backwards, Machine, IsMachine}
 use Rattle.rc_dfa.specs.Laws.{starts_of}
 use Rattle.rc_dfa.proofs.EntryLemmas.{HoldsOfSome}
 use Rattle.rc_dfa_search.specs.Machines.{entries_from, entries_of, machine_by, IsCase}
@@ -70,8 +70,9 @@ places_by_bytes places q =
     ⊎_elim (λ lt. All-get_or IsBytePlace (bytes_of places) q (choice []) lt (bytes_no_scalars places))
     (λ ge. subst IsBytePlace (sym (past_places (bytes_of places) q ge)) tt) (cases_lt q (length (bytes_of places)))
 
-is_machine : (hs : List Re) (needs : Asked) (terminator : ℕ) (d : Direction) → AreAsked needs (bytes_of (program hs)) → IsMachine (machine_by hs needs terminator d)
-is_machine hs needs terminator d are =
+is_machine : (a : Alphabet) (hs : List Re) (needs : Asked) (terminator : ℕ) (d : Direction) → AreAsked needs (bytes_of (program hs)) →
+    IsMachine (machine_by a hs needs terminator d)
+is_machine a hs needs terminator d are =
     let longer = bytes_longer (program hs) in
     let some = program_some hs in
     record {
@@ -83,11 +84,11 @@ is_machine hs needs terminator d are =
 
 pub ahead_machine : {hs : List Re} {kind : MatchKind} {m n : Machine} {anchored : Anchored} {s : Search} → IsCase hs kind m n anchored s → IsMachine m
 ahead_machine {hs} {kind} {s = s} c =
-    let ms = c.machines in subst (λ x. IsMachine x) (sym ms.ahead) (is_machine hs ms.needs s.text.terminator (forwards kind) ms.are_needs)
+    let ms = c.machines in subst (λ x. IsMachine x) (sym ms.ahead) (is_machine c.alphabet hs ms.needs s.text.terminator (forwards kind) ms.are_needs)
 
 pub back_machine : {hs : List Re} {kind : MatchKind} {m n : Machine} {anchored : Anchored} {s : Search} → IsCase hs kind m n anchored s → IsMachine n
 back_machine {hs} {s = s} c =
-    let ms = c.machines in subst (λ x. IsMachine x) (sym ms.back) (is_machine hs ms.needs s.text.terminator backwards ms.are_needs)
+    let ms = c.machines in subst (λ x. IsMachine x) (sym ms.back) (is_machine c.alphabet hs ms.needs s.text.terminator backwards ms.are_needs)
 
 pub ahead_direction : {hs : List Re} {kind : MatchKind} {m n : Machine} {anchored : Anchored} {s : Search} → IsCase hs kind m n anchored s →
     m.direction ≡ forwards kind
@@ -101,14 +102,18 @@ pub same_setting : {hs : List Re} {kind : MatchKind} {m n : Machine} {anchored :
     m.setting ≡ n.setting
 same_setting c = let ms = c.machines in ap (λ (x : Machine). x.setting) ms.ahead ∙ sym (ap (λ (x : Machine). x.setting) ms.back)
 
--- both machines read bytes
-pub ahead_reads : {hs : List Re} {kind : MatchKind} {m n : Machine} {anchored : Anchored} {s : Search} → IsCase hs kind m n anchored s →
-    m.alphabet ≡ bytes
+-- both machines read the same
+pub ahead_reads : {hs : List Re} {kind : MatchKind} {m n : Machine} {anchored : Anchored} {s : Search} (c : IsCase hs kind m n anchored s) →
+    m.alphabet ≡ c.alphabet
 ahead_reads c = let ms = c.machines in ap (λ (x : Machine). x.alphabet) ms.ahead
 
-pub back_reads : {hs : List Re} {kind : MatchKind} {m n : Machine} {anchored : Anchored} {s : Search} → IsCase hs kind m n anchored s →
-    n.alphabet ≡ bytes
+pub back_reads : {hs : List Re} {kind : MatchKind} {m n : Machine} {anchored : Anchored} {s : Search} (c : IsCase hs kind m n anchored s) →
+    n.alphabet ≡ c.alphabet
 back_reads c = let ms = c.machines in ap (λ (x : Machine). x.alphabet) ms.back
+
+pub same_reading : {hs : List Re} {kind : MatchKind} {m n : Machine} {anchored : Anchored} {s : Search} → IsCase hs kind m n anchored s →
+    m.alphabet ≡ n.alphabet
+same_reading c = ahead_reads c ∙ sym (back_reads c)
 
 pub ahead_entries : {hs : List Re} {kind : MatchKind} {m n : Machine} {anchored : Anchored} {s : Search} → IsCase hs kind m n anchored s →
     m.entries ≡ entries_of hs

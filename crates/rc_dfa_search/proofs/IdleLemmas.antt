@@ -2,7 +2,7 @@
 use Rattle.std.proofs.Common.{◌≡◌, ℕ, ◌+◌, ◌*◌, ◌<◌, ◌≤◌, false, List, [], ◌∷◌, length, Option, Some, None, IsTrue, ⊎_elim, sym, subst, ap, ◌∙◌, refl, arith}
 use Rattle.std.proofs.lemmas.Bool.{cases_lt}
 use Rattle.std.proofs.lemmas.Option.{none-some, same_Some}
-use Rattle.rc_text.specs.Text.{Searched, low, high}
+use Rattle.rc_text.specs.Text.{Keeps, Searched, low, high}
 use Rattle.rc_text.specs.declared.types.Anchored.TheVariants.{No}
 use Rattle.rc_text.specs.declared.types.MatchKind.{MatchKind}
 use Rattle.rc_text.specs.declared.types.MatchKind.TheVariants.{LeftmostFirst as leftmost_first}
@@ -11,11 +11,13 @@ use Rattle.rc_walks.specs.Walks.{Pair, HasNoWalk}
 use Rattle.rc_walks.specs.Tries.{walk_by}
 use Rattle.rc_walks.proofs.TryLemmas.{walk_by_finds}
 use Rattle.rc_program.specs.Text.{Text}
-use Rattle.rc_program.specs.Program.{place_at, ways, is_match_place}
+use Rattle.rc_program.specs.Program.{place_at, program, ways, is_match_place}
 use Rattle.rc_program.specs.Answer.{Search, HasNoWalkFrom, next_of, ends}
 use Rattle.rc_program.specs.Laws.{IsClosed}
 use Rattle.rc_program.proofs.WayLemmas.{same_pair}
 use Rattle.rc_program.proofs.AnswerLemmas.{last_pair, is_bounded}
+use Rattle.rc_needles.specs.Guards.{Guards}
+use Rattle.rc_needles.specs.Needles.{NoneAt, longest}
 use Rattle.rc_utf8.specs.Bytes.{bytes_of}
 use Rattle.rc_utf8.specs.Laws.{by_bytes}
 use Rattle.rc_utf8.proofs.AnswerLemmas.{same_from}
@@ -36,12 +38,13 @@ use Rattle.rc_dfa_search.specs.Aims.{AreHalvesOf, search_for}
 use Rattle.rc_dfa_search.specs.Machines.{IsCase}
 use Rattle.rc_dfa_search.specs.Reaches.{HasRunBelow, NoneBeginBelow}
 use Rattle.rc_dfa_search.specs.Legs.{GoesByNeedles}
-use Rattle.rc_dfa_search.proofs.CaseLemmas.{ahead_direction, ahead_machine, ahead_places, ahead_reads, ahead_terminator, case_closed, only_is}
+use Rattle.rc_dfa_search.proofs.CaseLemmas.{ahead_direction, ahead_machine, ahead_places, ahead_terminator, case_closed, only_is}
 use Rattle.rc_dfa_search.proofs.FirstLemmas.{inside_from}
 use Rattle.rc_dfa_search.proofs.LegLemmas.{free_case}
 use Rattle.rc_dfa_search.proofs.ReachLemmas.{same_case}
 use Rattle.rc_dfa_search.proofs.RestLemmas.{same_none}
-use Rattle.rc_dfa_search.proofs.SettledLemmas.{agrees_less, inside_of}
+use Rattle.rc_dfa_search.proofs.SeenLemmas.{seen_more, seen_past}
+use Rattle.rc_dfa_search.proofs.SettledLemmas.{agrees_less, inside_of, none_until}
 use Rattle.rc_program.proofs.PlaceLemmas.{program_some}
 
 -- A run that rests looked at the bytes before that position.
@@ -96,26 +99,45 @@ module _ (AreOf : Machine → Machine → Type 0) (aim : Aim) (hs : List Re) (te
   abbrev Z : Search
   Z = search_for aim hs terminator s
 
-  pub idle_first : NoneBeginBelow Z (low s) (low s)
+  -- how many bytes of a content are the same in those that may follow
+  abbrev R : ℕ
+  R = seen_to of.ahead.alphabet (high s)
+
+  pub idle_first : NoneBeginBelow Z R (low s)
   idle_first t in2 agrees z above lt = let lo = agrees.lo in absurd (omega (arith, above, lt, lo))
 
-  pub idle_next : (at i q : ℕ) → low s ≤ at → at ≤ high s → at ≤ i → i ≤ high s → NoneBeginBelow Z at at → HasRunBelow of.ahead Z.text Z.hi at false q (legs.Rested i) →
-      NoneBeginBelow Z i i
-  idle_next at i q above below on high none h t in2 agrees z low lt =
+  pub idle_next : (at i q : ℕ) → low s ≤ at → at ≤ high s → at ≤ i → i ≤ high s → NoneBeginBelow Z R at → HasRunBelow of.ahead Z.text Z.hi at false q (legs.Rested i) →
+      NoneBeginBelow Z R i
+  idle_next at i q above below on far none h t in2 agrees z low lt =
       ⊎_elim
-      (λ before. none t in2 (agrees_less Z t at i on agrees) z low before)
+      (λ before. none t in2 agrees z low before)
       (λ after.
       let is : q ≡ i = read_before of.ahead Z.text Z.hi at (idle_at i) q i h refl in
       let run = table_reach_law of.ahead Z t at No false (idle_at i) q (inside_of aim hs terminator s) in2 below h
-      (subst (λ a. AgreesBelow (seen_to a q) Z t) (sym (ahead_reads (free_case AreOf aim hs terminator s of ordered goes.free)))
-      (agrees_less Z t q i (omega (arith, is)) agrees)) in
-      let c = same_case hs aim.kind goes.kind of.ahead of.back No Z (free_case AreOf aim hs terminator s of ordered goes.free) (inside_of aim hs terminator s) goes.all i t in2
-      agrees (omega (arith, above, on)) in
+      (agrees_less Z t (seen_to of.ahead.alphabet q) R (seen_more of.ahead.alphabet q (high s) (omega (arith, is, far))) agrees) in
+      let past = seen_past of.ahead.alphabet (high s) in
+      let c = same_case hs aim.kind goes.kind of.ahead of.back No Z (free_case AreOf aim hs terminator s of ordered goes.free) (inside_of aim hs terminator s) goes.all R t in2
+      agrees (omega (arith, ordered, past)) in
       let lo = agrees.lo in
       none_there hs aim.kind of.ahead of.back t c z (bound t in2 agrees z lt)
       (idle_law.none_before of.ahead t.text t.hi at i false (ahead_machine c) (ahead_direction c ∙ ap forwards preferred) (ahead_terminator c)
       (inside_from c.inside (omega (arith, lo, above))) (leads_on hs aim.kind of.ahead of.back t c) run z after lt))
       (cases_lt z at)
     where
-      bound : (t : Search) → IsInside t → AgreesBelow i Z t → (z : ℕ) → z < i → z ≤ t.hi
-      bound t in2 agrees z lt = let b = same_bound Z t i (inside_of aim hs terminator s) in2 agrees in omega (arith, b, lt, high)
+      bound : (t : Search) → IsInside t → AgreesBelow R Z t → (z : ℕ) → z < i → z ≤ t.hi
+      bound t in2 agrees z lt = let b = same_bound Z t R (inside_of aim hs terminator s) in2 agrees in let past = seen_past of.ahead.alphabet (high s) in
+          omega (arith, b, lt, far, past)
+
+  -- from needle to needle, in code
+  pub needle_next : (needles : List (List ℕ)) → Guards (program hs) terminator needles → (cur : Searched) → Keeps s cur → (len hi at from : ℕ) → len ≡ longest needles →
+      hi ≡ high s → from ≤ hi → ((i : ℕ) → at ≤ i → i < from → NoneAt needles cur.content hi i) → (at < from → from + len ≤ hi + 1) → NoneBeginBelow Z R at →
+      NoneBeginBelow Z R from
+  needle_next needles guards cur keeps len hi at from is_len is_hi inside here near none t in2 agrees z low lt =
+      ⊎_elim
+      (λ before. none t in2 agrees z low before)
+      (λ after.
+      let fit = near (omega (arith, after, lt)) in
+      let past = seen_past of.ahead.alphabet (high s) in
+      none_until aim hs terminator s t in2 R agrees needles guards at from (omega (arith, inside, is_hi)) (omega (arith, fit, is_len, is_hi, past))
+      (λ i a b. subst (λ h. NoneAt needles s.content h i) is_hi (subst (λ bytes. NoneAt needles bytes hi i) keeps.content (here i a b))) z after lt)
+      (cases_lt z at)

@@ -105,7 +105,15 @@ module _ (AreOf : Machine → Machine → Type 0) (aim : Aim) (hs : List Re) (te
 
   -- the halves of a search where not any match is enough
   abbrev pub late_of : AreHalvesOf AreOf Late hs terminator
-  late_of = record { ahead = of.ahead; back = of.back; are_of = of.are_of; machines = of.machines; counted = of.counted; few = of.few }
+  late_of = record {
+    ahead = of.ahead;
+    back = of.back;
+    are_of = of.are_of;
+    alphabet = of.alphabet;
+    machines = of.machines;
+    counted = of.counted;
+    few = of.few;
+  }
 
   nothing_may : answer_by aim.kind S ≡ None → IsAnswerBy aim.kind aim.earliest S None
   nothing_may e = (missing_by aim.kind aim.earliest S).1 e

@@ -69,6 +69,7 @@ met_below hs kind m n anchored s from earliest q e c low high h =
     let later : Search = record s { lo = from } in
     let i = c.inside in
     let case : IsCase hs kind m n anchored later = record {
+      alphabet = c.alphabet;
       machines = c.machines;
       places = c.places;
       anchoring = c.anchoring;

@@ -34,9 +34,10 @@ use Rattle.rc_dfa_search.specs.Laws.{met_from}
 use Rattle.rc_dfa_search.specs.Leftmost.{IsLeftmost, IsRaisedBy}
 use Rattle.rc_dfa_search.specs.Machines.{IsCase}
 use Rattle.rc_dfa_search.specs.Reaches.{BeginsBy, HasMetBelow, IsAnswerBelow, TellsReach}
-use Rattle.rc_dfa_search.proofs.CaseLemmas.{ahead_reads, back_reads}
+use Rattle.rc_dfa_search.proofs.CaseLemmas.{same_reading}
 use Rattle.rc_dfa_search.proofs.LeftmostLemmas.{leftmost_law}
 use Rattle.rc_dfa_search.proofs.SeekLemmas.{void_answer}
+use Rattle.rc_dfa_search.proofs.SeenLemmas.{seen_past}
 use Rattle.rc_dfa_search.proofs.ToldLemmas.{asked_so, case_of}
 
 -- the end of the slice, and the byte there, settle each answer
@@ -72,7 +73,8 @@ module _ (hs : List Re) (kind : MatchKind) (left : IsLeftmost kind) (m n : Machi
         let ordered = c.ordered in
         let lo = agrees.lo in
         record {
-          machines = subst (λ x. Rattle.rc_dfa_search.specs.Machines.AreMachines hs x kind m n) (sym agrees.terminator) c.machines;
+          alphabet = c.alphabet;
+          machines = subst (λ x. Rattle.rc_dfa_search.specs.Machines.AreMachinesOver c.alphabet hs x kind m n) (sym agrees.terminator) c.machines;
           places = agrees.places ∙ c.places;
           anchoring = agrees.anchoring ∙ c.anchoring;
           inside = record { low = in2.lo; high = in2.hi; bounded = in2.slice_end };
@@ -83,64 +85,82 @@ module _ (hs : List Re) (kind : MatchKind) (left : IsLeftmost kind) (m n : Machi
     pub may_end : (e : ℕ) → may_end_at t e ≡ true
     may_end e = rw (agrees.passes_over ∙ all) refl
 
-    ends_too : (o : Option (ℕ × ℕ)) → SearchEndsBelow m s.text s.hi s.lo anchored false (met_last o) r → SearchEnds m t.text t.hi t.lo anchored false (met_last o)
-    ends_too o h =
-        subst (λ x. SearchEnds m t.text t.hi x anchored false (met_last o)) (sym agrees.lo)
-        (table_reach_law m s t s.lo anchored false (met_last o) r inside in2 c.ordered h
-        (subst (λ a. AgreesBelow (seen_to a r) s t) (sym (ahead_reads c)) agrees))
-
     begins_too : IsRaisedBy kind (by_bytes t) t.lo
     begins_too = leftmost_law.begins hs kind m n anchored t same_case
 
-  far_enough : (o : Option (ℕ × ℕ)) → SearchEndsBelow m s.text s.hi s.lo anchored false (met_last o) r → s.lo ≤ r
-  far_enough o h = (run_reach_law.onward m s.text s.hi s.lo anchored false (met_last o) r c.ordered h).0
+-- a run that read so far, in each search that is the same below what decides that
+module _ (hs : List Re) (kind : MatchKind) (left : IsLeftmost kind) (m n : Machine) (anchored : Anchored) (s : Search) (c : IsCase hs kind m n anchored s)
+    (inside : IsInside s) (all : s.passes_over ≡ false) (r : ℕ) where
+  abbrev Seen : ℕ
+  Seen = seen_to m.alphabet r
 
-  pub none_below : SearchEndsBelow m s.text s.hi s.lo anchored false (met_last None) r → IsAnswerBelow kind s r None
+  ends_too : (t : Search) → IsInside t → AgreesBelow Seen s t → (o : Option (ℕ × ℕ)) →
+      SearchEndsBelow m s.text s.hi s.lo anchored false (met_last o) r → SearchEnds m t.text t.hi t.lo anchored false (met_last o)
+  ends_too t in2 agrees o h =
+      subst (λ x. SearchEnds m t.text t.hi x anchored false (met_last o)) (sym agrees.lo)
+      (table_reach_law m s t s.lo anchored false (met_last o) r inside in2 c.ordered h agrees)
+
+  far_enough : (o : Option (ℕ × ℕ)) → SearchEndsBelow m s.text s.hi s.lo anchored false (met_last o) r → s.lo ≤ Seen
+  far_enough o h =
+      let far = (run_reach_law.onward m s.text s.hi s.lo anchored false (met_last o) r c.ordered h).0 in
+      let past = seen_past m.alphabet r in omega (arith, far, past)
+
+  here : (t : Search) → IsInside t → AgreesBelow Seen s t → s.lo ≤ Seen → IsCase hs kind m n anchored t
+  here = same_case hs kind left m n anchored s c inside all Seen
+
+  begins_here : (t : Search) → IsInside t → AgreesBelow Seen s t → s.lo ≤ Seen → IsRaisedBy kind (by_bytes t) t.lo
+  begins_here = begins_too hs kind left m n anchored s c inside all Seen
+
+  ends_here : (t : Search) → IsInside t → AgreesBelow Seen s t → s.lo ≤ Seen → (e : ℕ) → may_end_at t e ≡ true
+  ends_here = may_end hs kind left m n anchored s c inside all Seen
+
+  pub none_below : SearchEndsBelow m s.text s.hi s.lo anchored false (met_last None) r → IsAnswerBelow kind s Seen None
   none_below h t in2 agrees =
       let far = far_enough None h in
-      leftmost_law.none hs kind m n anchored t t.lo left (same_case t in2 agrees far) (begins_too t in2 agrees far) (ends_too t in2 agrees far None h)
+      leftmost_law.none hs kind m n anchored t t.lo left (here t in2 agrees far) (begins_here t in2 agrees far) (ends_too t in2 agrees None h)
 
   -- where the search is anchored, the start is known
   pub some_held : (q e : ℕ) → SearchEndsBelow m s.text s.hi s.lo anchored false (met_last (Some (q, e))) r → anchors anchored ≡ true →
-      IsAnswerBelow kind s r (Some (met_from m q s.lo e))
+      IsAnswerBelow kind s Seen (Some (met_from m q s.lo e))
   some_held q e h so t in2 agrees =
       let far = far_enough (Some (q, e)) h in
-      let k = leftmost_law.at_start hs kind m n anchored t t.lo q e left (same_case t in2 agrees far) (begins_too t in2 agrees far)
-      (ends_too t in2 agrees far (Some (q, e)) h) (may_end t in2 agrees far e) so in
+      let k = leftmost_law.at_start hs kind m n anchored t t.lo q e left (here t in2 agrees far) (begins_here t in2 agrees far)
+      (ends_too t in2 agrees (Some (q, e)) h) (ends_here t in2 agrees far e) so in
       subst (λ x. answer_by kind t ≡ Some (met_from m q x e)) agrees.lo k.2
 
 -- where it isn't, it is what a run backwards met
 module _ (hs : List Re) (kind : MatchKind) (left : IsLeftmost kind) (m n : Machine) (s : Search) (c : IsCase hs kind m n No s) (inside : IsInside s)
     (all : s.passes_over ≡ false) (r q e : ℕ) (h : SearchEndsBelow m s.text s.hi s.lo No false (met_last (Some (q, e))) r) where
-  down_too : (o : Option (ℕ × ℕ)) (t : Search) → IsInside t → AgreesBelow r s t → SearchEndsDown n s.text s.lo e No false (met_last o) →
+  down_too : (o : Option (ℕ × ℕ)) (t : Search) → IsInside t → AgreesBelow (seen_to m.alphabet r) s t → SearchEndsDown n s.text s.lo e No false (met_last o) →
       SearchEndsDown n t.text t.lo e No false (met_last o)
   down_too o t in2 agrees d =
       subst (λ x. SearchEndsDown n t.text x e No false (met_last o)) (sym agrees.lo)
       (run_reach_law.down n s.text s.hi s.lo e No false (met_last o) r t.text t.hi (run_reach_law.met_before m s.text s.hi s.lo No false q e r h) d
-      (look_same n.alphabet s t r inside in2 (subst (λ a. AgreesBelow (seen_to a r) s t) (sym (back_reads c)) agrees)))
+      (look_same n.alphabet s t r inside in2 (subst (λ a. AgreesBelow (seen_to a r) s t) (same_reading c) agrees)))
 
-  pub some_free : (x k : ℕ) → SearchEndsDown n s.text s.lo e No false (met_last (Some (x, k))) → IsAnswerBelow kind s r (Some (met_from m q x e))
+  pub some_free : (x k : ℕ) → SearchEndsDown n s.text s.lo e No false (met_last (Some (x, k))) →
+      IsAnswerBelow kind s (seen_to m.alphabet r) (Some (met_from m q x e))
   some_free x k d t in2 agrees =
       let far = far_enough hs kind left m n No s c inside all r (Some (q, e)) h in
-      (leftmost_law.starts hs kind m n t t.lo q e x k left (same_case hs kind left m n No s c inside all r t in2 agrees far)
-      (begins_too hs kind left m n No s c inside all r t in2 agrees far)
-      (ends_too hs kind left m n No s c inside all r t in2 agrees far (Some (q, e)) h) (may_end hs kind left m n No s c inside all r t in2 agrees far e)
+      (leftmost_law.starts hs kind m n t t.lo q e x k left (here hs kind left m n No s c inside all r t in2 agrees far)
+      (begins_here hs kind left m n No s c inside all r t in2 agrees far)
+      (ends_too hs kind left m n No s c inside all r t in2 agrees (Some (q, e)) h) (ends_here hs kind left m n No s c inside all r t in2 agrees far e)
       (down_too (Some (x, k)) t in2 agrees d)).3
 
   free_within : (x k : ℕ) → SearchEndsDown n s.text s.lo e No false (met_last (Some (x, k))) → (s.lo ≤ x) × (x ≤ e) × (e ≤ s.hi)
   free_within x k d =
       let far = far_enough hs kind left m n No s c inside all r (Some (q, e)) h in
-      let o = itself s r in
-      let w = leftmost_law.starts hs kind m n s s.lo q e x k left c (begins_too hs kind left m n No s c inside all r s inside o far)
-      (ends_too hs kind left m n No s c inside all r s inside o far (Some (q, e)) h) (may_end hs kind left m n No s c inside all r s inside o far e) d in
+      let o = itself s (seen_to m.alphabet r) in
+      let w = leftmost_law.starts hs kind m n s s.lo q e x k left c (begins_here hs kind left m n No s c inside all r s inside o far)
+      (ends_too hs kind left m n No s c inside all r s inside o (Some (q, e)) h) (ends_here hs kind left m n No s c inside all r s inside o far e) d in
       (w.0, w.1, w.2)
 
   never_none : ¬ SearchEndsDown n s.text s.lo e No false (met_last None)
   never_none d =
       let far = far_enough hs kind left m n No s c inside all r (Some (q, e)) h in
-      let o = itself s r in
-      leftmost_law.some_start hs kind m n s s.lo q e left c (begins_too hs kind left m n No s c inside all r s inside o far)
-      (ends_too hs kind left m n No s c inside all r s inside o far (Some (q, e)) h) (may_end hs kind left m n No s c inside all r s inside o far e) d
+      let o = itself s (seen_to m.alphabet r) in
+      leftmost_law.some_start hs kind m n s s.lo q e left c (begins_here hs kind left m n No s c inside all r s inside o far)
+      (ends_too hs kind left m n No s c inside all r s inside o (Some (q, e)) h) (ends_here hs kind left m n No s c inside all r s inside o far e) d
 
 -- IN CODE
 
@@ -190,7 +210,8 @@ module _ (AreOf : Machine → Machine → Type 0) (aim : Aim) (tells : TellsReac
         (subst (λ x. HasEndedBelow of.ahead (text_of x i) (high i) (low i) i.anchored false false run.ended run.read)
         (ap (λ (m : Machine). m.setting.terminator) ms.ahead) here))
 
-    pub none_settled : (r : ℕ) → HasMetBelow of.ahead (text_of terminator i) (high i) (low i) i.anchored r None → IsAnswerBelow aim.kind q r None
+    pub none_settled : (r : ℕ) → HasMetBelow of.ahead (text_of terminator i) (high i) (low i) i.anchored r None →
+        IsAnswerBelow aim.kind q (seen_to of.ahead.alphabet r) None
     none_settled r h = none_below hs aim.kind tells.kind of.ahead of.back i.anchored q case inside tells.all r h
 
     module _ (r : ℕ) (met : Met) (h : HasMetBelow of.ahead (text_of terminator i) (high i) (low i) i.anchored r (Some met)) where
@@ -198,11 +219,11 @@ module _ (AreOf : Machine → Machine → Type 0) (aim : Aim) (tells : TellsReac
       met_within : (low i ≤ met.at) × (met.at ≤ high i)
       met_within =
           let far = far_enough hs aim.kind tells.kind of.ahead of.back i.anchored q case inside tells.all r (Some (h.0, met.at)) h.2 in
-          let o = itself q r in
+          let o = itself q (seen_to of.ahead.alphabet r) in
           let w = leftmost_law.ends hs aim.kind of.ahead of.back i.anchored q q.lo h.0 met.at tells.kind case
-          (begins_too hs aim.kind tells.kind of.ahead of.back i.anchored q case inside tells.all r q inside o far)
-          (ends_too hs aim.kind tells.kind of.ahead of.back i.anchored q case inside tells.all r q inside o far (Some (h.0, met.at)) h.2)
-          (may_end hs aim.kind tells.kind of.ahead of.back i.anchored q case inside tells.all r q inside o far met.at) in
+          (begins_here hs aim.kind tells.kind of.ahead of.back i.anchored q case inside tells.all r q inside o far)
+          (ends_too hs aim.kind tells.kind of.ahead of.back i.anchored q case inside tells.all r q inside o (Some (h.0, met.at)) h.2)
+          (ends_here hs aim.kind tells.kind of.ahead of.back i.anchored q case inside tells.all r q inside o far met.at) in
           let a = w.1 in let b = w.2 in (omega (arith, a, b), w.3)
 
       pub end_is : (end : ℕ) → end ≡ min (max met.at (low i)) (high i) → end ≡ met.at
@@ -228,20 +249,20 @@ module _ (AreOf : Machine → Machine → Type 0) (aim : Aim) (tells : TellsReac
               (subst (λ a. SearchEndsDown of.back q.text q.lo met.at a false (met_last None)) no (s.1 so))
 
       pub some_settled : (end least start p : ℕ) → end ≡ met.at → BeginsBy of.back (text_of terminator i) (low i) end i.anchored (Some least) →
-          start ≡ min (max least (low i)) end → p ≡ met.pattern → IsAnswerBelow aim.kind q r (Some (span p start end))
+          start ≡ min (max least (low i)) end → p ≡ met.pattern → IsAnswerBelow aim.kind q (seen_to of.ahead.alphabet r) (Some (span p start end))
       some_settled end least start p is begins clamped same =
           let by_end = subst (λ e. BeginsBy of.back (text_of terminator i) (low i) e i.anchored (Some least)) is begins in
           let all = by_anchor (anchors i.anchored) refl by_end in
           let at : start ≡ least = let w = all.0 in let a = w.0 in let b = w.1 in omega (arith, clamped, is, a, b) in
-          subst (λ o. IsAnswerBelow aim.kind q r (Some o)) (cc (at, is, same, h.1)) all.1
+          subst (λ o. IsAnswerBelow aim.kind q (seen_to of.ahead.alphabet r) (Some o)) (cc (at, is, same, h.1)) all.1
         where
           by_anchor : (b : Bool) → anchors i.anchored ≡ b → BeginsBy of.back (text_of terminator i) (low i) met.at i.anchored (Some least) →
-              ((low i ≤ least) × (least ≤ met.at)) × IsAnswerBelow aim.kind q r (Some (met_from of.ahead h.0 least met.at))
+              ((low i ≤ least) × (least ≤ met.at)) × IsAnswerBelow aim.kind q (seen_to of.ahead.alphabet r) (Some (met_from of.ahead h.0 least met.at))
           by_anchor true so s =
               let low : least ≡ low i = cc (s.0 so) in
               let w = met_within in let a = w.0 in (
                 (omega (arith, low), omega (arith, low, a)),
-                subst (λ x. IsAnswerBelow aim.kind q r (Some (met_from of.ahead h.0 x met.at))) (sym low)
+                subst (λ x. IsAnswerBelow aim.kind q (seen_to of.ahead.alphabet r) (Some (met_from of.ahead h.0 x met.at))) (sym low)
                     (some_held hs aim.kind tells.kind of.ahead of.back i.anchored q case inside tells.all r h.0 met.at h.2 so),
               )
           by_anchor false so s =

@@ -9,10 +9,10 @@ use Rattle.rc_utf8.specs.Bytes.{bytes_of}
 use Rattle.rc_determinize.specs.declared.sides.Asked.{Asked}
 use Rattle.rc_determinize.specs.Sides.{AreAsked}
 use Rattle.rc_determinize.specs.Classes.{AreClasses, is_border}
-use Rattle.rc_dfa.specs.Machine.{forwards, backwards, Machine}
+use Rattle.rc_dfa.specs.Machine.{Alphabet, forwards, backwards, Machine}
 use Rattle.rc_dfa.specs.Samples.{AreClassesBy, AreSamples}
 use Rattle.rc_dfa_search.specs.Classes.{AreClassesOf}
-use Rattle.rc_dfa_search.specs.Machines.{AreMachines, machine_by}
+use Rattle.rc_dfa_search.specs.Machines.{AreMachinesOver, machine_by}
 
 same_bool : (a b : Bool) → (IsTrue a → IsTrue b) → (IsTrue b → IsTrue a) → a ≡ b
 same_bool true true f g = refl
@@ -82,12 +82,13 @@ pub record AreSameMachines (a b c d : Machine) : Type 0 where
   pub ahead : a ≡ c
   pub back : b ≡ d
 
-pub same_machines : (hs : List Re) (terminator : ℕ) (kind : MatchKind) (a b c d : Machine) → AreMachines hs terminator kind a b → AreMachines hs terminator kind c d →
+pub same_machines : (alphabet : Alphabet) (hs : List Re) (terminator : ℕ) (kind : MatchKind) (a b c d : Machine) → AreMachinesOver alphabet hs terminator kind a b →
+    AreMachinesOver alphabet hs terminator kind c d →
     AreSameMachines a b c d
-same_machines hs terminator kind a b c d h k =
+same_machines alphabet hs terminator kind a b c d h k =
     let same = same_needs (bytes_of (program hs)) h.needs k.needs h.are_needs k.are_needs in record {
-      ahead = h.ahead ∙ ap (λ n. machine_by hs n terminator (forwards kind)) same ∙ sym k.ahead;
-      back = h.back ∙ ap (λ n. machine_by hs n terminator backwards) same ∙ sym k.back;
+      ahead = h.ahead ∙ ap (λ n. machine_by alphabet hs n terminator (forwards kind)) same ∙ sym k.ahead;
+      back = h.back ∙ ap (λ n. machine_by alphabet hs n terminator backwards) same ∙ sym k.back;
     }
 
 pub same_classes_of : (t : Bool) (hs : List Re) (terminator : ℕ) (xs ys : List ℕ) → AreClassesOf t hs terminator xs → AreClassesOf t hs terminator ys → xs ≡ ys

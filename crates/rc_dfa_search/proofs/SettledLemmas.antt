@@ -54,13 +54,14 @@ use Rattle.rc_dfa_search.specs.Legs.{GoesByNeedles, HasRun, IsGiven, leg_of}
 use Rattle.rc_dfa_search.specs.Machines.{IsCase}
 use Rattle.rc_dfa_search.specs.Reaches.{GivesBelow, HasRunBelow, IsAnswerBelow, IsGivenBelow, NoneBeginBelow, TellsReach}
 use Rattle.rc_dfa_search.specs.Rests.{GivesToo, HasNoWalkBetween}
-use Rattle.rc_dfa_search.proofs.CaseLemmas.{ahead_reads, back_reads}
+use Rattle.rc_dfa_search.proofs.CaseLemmas.{same_reading}
 use Rattle.rc_dfa_search.proofs.BeginLemmas.{case_here, found_here, may as may_here, none_first as none_first_near}
 use Rattle.rc_dfa_search.proofs.LeftmostLemmas.{leftmost_law}
 use Rattle.rc_dfa_search.proofs.JumpLemmas.{not_early}
 use Rattle.rc_dfa_search.proofs.LegLemmas.{free_case}
 use Rattle.rc_dfa_search.proofs.ReachLemmas.{is_no, itself, none_below, same_case, some_held}
 use Rattle.rc_dfa_search.proofs.RestLemmas.{given_law, rest_law, rests_between}
+use Rattle.rc_dfa_search.proofs.SeenLemmas.{seen_past}
 use Rattle.rc_dfa_search.proofs.ToldLemmas.{kept_text}
 
 -- what agrees below q agrees below r
@@ -96,7 +97,7 @@ longest_at (n ∷ needles) Rattle.std.specs.Prelude.zero w e =
     let same = ap length (same_Some n w e) in omega (arith, same)
 longest_at (n ∷ needles) (Rattle.std.specs.Prelude.suc k) w e = let le = longest_at needles k w e in omega (arith, le)
 
-hit_of : (needle : ℕ) (o : Option Hit) → Some needle ≡ option_map (λ (h : Hit). h.start) o → (h : Hit) × (o ≡ Some h) × (h.start ≡ needle)
+pub hit_of : (needle : ℕ) (o : Option Hit) → Some needle ≡ option_map (λ (h : Hit). h.start) o → (h : Hit) × (o ≡ Some h) × (h.start ≡ needle)
 hit_of needle None e = absurd (none-some needle (sym e))
 hit_of needle (Some h) e = (h, refl, sym (same_Some needle h.start e))
 
@@ -194,6 +195,24 @@ module _ (aim : Aim) (hs : List Re) (terminator : ℕ) (s : Searched) (t : Searc
     -- no walk begins before the start for the first needle
     pub none_begin : IsGuard (program hs) terminator guard → HasNoWalkBetween t at start.from
     none_begin guards z above lt = subst (λ (q : Search). HasNoWalkFrom q z) is_other (none_by guard guards begins none_too z above lt)
+
+  -- no walk begins where no needle does, if each that begins there would end below r
+  pub none_until : (needles : List (List ℕ)) → Guards (program hs) terminator needles → (at stop : ℕ) → stop ≤ high s → stop + longest needles ≤ r + 1 →
+      ((i : ℕ) → at ≤ i → i < stop → NoneAt needles s.content (high s) i) → HasNoWalkBetween t at stop
+  none_until needles guards at stop inside near none z above lt =
+      let so = other_high in
+      let le = within_too z (omega (arith, lt, inside)) (omega (arith, lt, near)) in
+      subst (λ (q : Search). HasNoWalkFrom q z) is_other
+      (guards aim.passes_over other z (omega (arith, so, le))
+      (λ k w is stands.
+      let len = longest_at needles k w is in
+      let bound = same_bound S t r (inside_of aim hs terminator s) in2 agrees in
+      let ends = stands.0 in
+      let fit : z + length w ≤ r = omega (arith, len, lt, near) in
+      none z above lt k w is (
+        omega (arith, bound, ends, so, fit),
+        stands_too t.text.content s.content r same_byte w z (z + length w) fit stands.1,
+      )))
 
   -- a match that begins where the first may
   module _ (goes : GoesByNeedles aim s.anchored) (from : ℕ) (above : low s ≤ from) (none : HasNoWalkBetween t t.lo from) where
@@ -311,7 +330,8 @@ module _ (AreOf : Machine → Machine → Type 0) (aim : Aim) (hs : List Re) (te
   here : IsCase hs aim.kind of.ahead of.back Yes (starting_at from Q)
   here = case_here AreOf aim hs terminator of s goes from above below
 
-  met_here : (e : Ended) (r : ℕ) → HasEndedBelow of.ahead (text_of terminator s) (high s) from Yes false false e r → IfOk (told_of e) (IsMetBelow aim.kind Q from r)
+  met_here : (e : Ended) (r : ℕ) → HasEndedBelow of.ahead (text_of terminator s) (high s) from Yes false false e r →
+      IfOk (told_of e) (IsMetBelow aim.kind Q from (seen_to of.ahead.alphabet r))
   met_here (found_last None) r h = none_below hs aim.kind goes.kind of.ahead of.back Yes (starting_at from Q) here inside_here goes.all r h
   met_here (found_last (Some met)) r h =
       let w = leftmost_law.at_start hs aim.kind of.ahead of.back Yes (starting_at from Q) from h.0 met.at goes.kind here
@@ -320,7 +340,7 @@ module _ (AreOf : Machine → Machine → Type 0) (aim : Aim) (hs : List Re) (te
       (may_here AreOf aim hs terminator of s goes from above below met.at) refl in (
         w.0,
         w.1,
-        subst (λ p. IsAnswerBelow aim.kind (starting_at from Q) r (Some (let f : Found = record { pattern = p; start = from; end = met.at } in f))) h.1
+        subst (λ p. IsAnswerBelow aim.kind (starting_at from Q) (seen_to of.ahead.alphabet r) (Some (let f : Found = record { pattern = p; start = from; end = met.at } in f))) h.1
             (some_held hs aim.kind goes.kind of.ahead of.back Yes (starting_at from Q) here inside_here goes.all r h.0 met.at h.2 refl),
       )
   met_here (Idle i) r h = absurd (true≢false (sym h.0))
@@ -330,7 +350,7 @@ module _ (AreOf : Machine → Machine → Type 0) (aim : Aim) (hs : List Re) (te
   -- in code
   pub here_below : (e : Ended) (r : ℕ) →
       ((m n : Machine) → AreOf m n → IsAsked m Yes → HasEndedBelow m (text_of m.setting.terminator s) (high s) from Yes false false e r) →
-      IfOk (told_of e) (IsMetBelow aim.kind Q from r)
+      IfOk (told_of e) (IsMetBelow aim.kind Q from (seen_to of.ahead.alphabet r))
   here_below e r ends =
       let ms = of.machines in
       met_here e r (subst (λ x. HasEndedBelow of.ahead (text_of x s) (high s) from Yes false false e r) (ap (λ (m : Machine). m.setting.terminator) ms.ahead)
@@ -393,33 +413,30 @@ module _ (AreOf : Machine → Machine → Type 0) (aim : Aim) (hs : List Re) (te
     above_too : (x : ℕ) → low s ≤ x → t.lo ≤ x
     above_too x le = let lo = agrees.lo in omega (arith, lo, le)
 
-    agrees_seen : (q : ℕ) → AgreesBelow q Z t → AgreesBelow (seen_to of.ahead.alphabet q) Z t
-    agrees_seen q h = subst (λ a. AgreesBelow (seen_to a q) Z t) (sym (ahead_reads case)) h
-
-    run_too : (from q : ℕ) (earliest : Bool) → from ≤ high s → q ≤ r → (leg : Leg) → HasRunBelow of.ahead Z.text Z.hi from earliest q leg →
+    run_too : (from q : ℕ) (earliest : Bool) → from ≤ high s → seen_to of.ahead.alphabet q ≤ r → (leg : Leg) → HasRunBelow of.ahead Z.text Z.hi from earliest q leg →
         HasRun of.ahead t.text t.hi from earliest leg
     run_too from q earliest below le (legs.Ended None) h =
-        table_reach_law of.ahead Z t from No earliest (met_last None) q within in2 below h (agrees_seen q (agrees_less Z t q r le agrees))
+        table_reach_law of.ahead Z t from No earliest (met_last None) q within in2 below h (agrees_less Z t (seen_to of.ahead.alphabet q) r le agrees)
     run_too from q earliest below le (legs.Ended (Some met)) h =
-        (h.0, h.1, table_reach_law of.ahead Z t from No earliest (met_last (Some (h.0, met.at))) q within in2 below h.2 (agrees_seen q (agrees_less Z t q r le agrees)))
+        (h.0, h.1, table_reach_law of.ahead Z t from No earliest (met_last (Some (h.0, met.at))) q within in2 below h.2 (agrees_less Z t (seen_to of.ahead.alphabet q) r le agrees))
     run_too from q earliest below le (legs.Rested i) h =
-        table_reach_law of.ahead Z t from No earliest (idle_at i) q within in2 below h (agrees_seen q (agrees_less Z t q r le agrees))
+        table_reach_law of.ahead Z t from No earliest (idle_at i) q within in2 below h (agrees_less Z t (seen_to of.ahead.alphabet q) r le agrees)
 
     jumped_too : (at from : ℕ) → GivesToo aim.kind of.ahead t at t.lo → at ≤ from → from ≤ t.hi → HasNoWalkBetween t at from → GivesToo aim.kind of.ahead t from t.lo
     jumped_too at from carried le high none o g = carried o (rest_law.jumps hs aim.kind of.ahead of.back t at from goes.kind case_too le high none o g)
 
-    rested_too : (from i q : ℕ) (earliest : Bool) → low s ≤ from → from ≤ high s → q ≤ r → GivesToo aim.kind of.ahead t from t.lo →
+    rested_too : (from i q : ℕ) (earliest : Bool) → low s ≤ from → from ≤ high s → seen_to of.ahead.alphabet q ≤ r → GivesToo aim.kind of.ahead t from t.lo →
         HasRunBelow of.ahead Z.text Z.hi from earliest q (legs.Rested i) → GivesToo aim.kind of.ahead t i t.lo
     rested_too from i q earliest above below le carried h o g =
         carried o ((rest_law.rests hs aim.kind of.ahead of.back t from i earliest goes.kind case_too (above_too from above) (run_too from q earliest below le (legs.Rested i) h)).2 o g)
 
-    nothing_too : (from q : ℕ) (earliest : Bool) → low s ≤ from → from ≤ high s → q ≤ r → GivesToo aim.kind of.ahead t from t.lo →
+    nothing_too : (from q : ℕ) (earliest : Bool) → low s ≤ from → from ≤ high s → seen_to of.ahead.alphabet q ≤ r → GivesToo aim.kind of.ahead t from t.lo →
         HasRunBelow of.ahead Z.text Z.hi from earliest q (legs.Ended None) → IsGiven aim.kind of.ahead t None
     nothing_too from q earliest above below le carried h =
         carried None (rest_law.met hs aim.kind of.ahead of.back t from None goes.kind case_too (above_too from above)
         (not_early of.ahead t.text t.hi from earliest (met_last None) refl (run_too from q earliest below le (legs.Ended None) h)))
 
-    given_too : (from q : ℕ) → low s ≤ from → from ≤ high s → q ≤ r → GivesToo aim.kind of.ahead t from t.lo → (met : Met) →
+    given_too : (from q : ℕ) → low s ≤ from → from ≤ high s → seen_to of.ahead.alphabet q ≤ r → GivesToo aim.kind of.ahead t from t.lo → (met : Met) →
         HasRunBelow of.ahead Z.text Z.hi from false q (legs.Ended (Some met)) → IsGiven aim.kind of.ahead t (Some met)
     unfolding run_too
     given_too from q above below le carried met h = (
@@ -451,20 +468,19 @@ module _ (AreOf : Machine → Machine → Type 0) (aim : Aim) (hs : List Re) (te
     pub gives_from : GivesToo aim.kind of.ahead Z start.from Z.lo
     gives_from = after_jump Z within (itself Z r)
 
-    module _ (q : ℕ) (read : q ≤ r) where
+    module _ (q : ℕ) (read : seen_to of.ahead.alphabet q ≤ r) where
       pub rested_below : (earliest : Bool) (i : ℕ) → HasRunBelow of.ahead Z.text Z.hi start.from earliest q (legs.Rested i) → GivesBelow aim.kind of.ahead Z r i
       rested_below earliest i h t in2 agrees =
           rested_too t in2 r agrees (omega (arith, above, low_from, low_needle, high_needle, far)) start.from i q earliest (omega (arith, above, low_from))
           (omega (arith, low_needle, high_needle)) read (after_jump t in2 agrees) h
 
-      pub given_below : (met : Met) → HasRunBelow of.ahead Z.text Z.hi start.from false q (legs.Ended (Some met)) → (met.at < r) × IsGivenBelow aim.kind of.ahead Z r met
-      given_below met h =
-          let before = run_reach_law.met_before of.ahead Z.text Z.hi start.from No false h.0 met.at q h.2 in (
-            omega (arith, before, read),
-            λ t in2 agrees.
-                given_too t in2 r agrees (omega (arith, above, low_from, low_needle, high_needle, far)) start.from q (omega (arith, above, low_from)) (omega (arith, low_needle, high_needle)) read
-                (after_jump t in2 agrees) met h,
-          )
+      pub given_below : (met : Met) → HasRunBelow of.ahead Z.text Z.hi start.from false q (legs.Ended (Some met)) → (met.at < q) × IsGivenBelow aim.kind of.ahead Z r met
+      given_below met h = (
+        run_reach_law.met_before of.ahead Z.text Z.hi start.from No false h.0 met.at q h.2,
+        λ t in2 agrees.
+            given_too t in2 r agrees (omega (arith, above, low_from, low_needle, high_needle, far)) start.from q (omega (arith, above, low_from)) (omega (arith, low_needle, high_needle)) read
+            (after_jump t in2 agrees) met h,
+      )
 
       pub none_given : (earliest : Bool) → HasRunBelow of.ahead Z.text Z.hi start.from earliest q (legs.Ended None) → IsGiven aim.kind of.ahead Z None
       none_given earliest h =
@@ -479,10 +495,10 @@ module _ (AreOf : Machine → Machine → Type 0) (aim : Aim) (hs : List Re) (te
   may : (t : Search) → t.passes_over ≡ false → (e : ℕ) → may_end_at t e ≡ true
   may t all e = rw all refl
 
-  module _ (met : Met) (reach : ℕ) (past : met.at < reach) (given : IsGivenBelow aim.kind of.ahead Z reach met) where
+  module _ (met : Met) (reach : ℕ) (past : met.at < reach) (given : IsGivenBelow aim.kind of.ahead Z (seen_to of.ahead.alphabet reach) met) where
     met_within : (low s ≤ met.at) × (met.at ≤ high s)
     met_within =
-        let g = given Z within (itself Z reach) in
+        let g = given Z within (itself Z (seen_to of.ahead.alphabet reach)) in
         let w = given_law.ends hs aim.kind of.ahead of.back Z Z.lo g.0 met.at goes.kind case (raised Z case) g.2 (may Z goes.all met.at) in
         let a = w.1 in let b = w.2 in (omega (arith, a, b), w.3)
 
@@ -491,20 +507,21 @@ module _ (AreOf : Machine → Machine → Type 0) (aim : Aim) (hs : List Re) (te
 
     pub some_first : SearchEndsDown of.back Z.text (low s) met.at No false (met_last None) → ⊥
     some_first d =
-        let g = given Z within (itself Z reach) in
+        let g = given Z within (itself Z (seen_to of.ahead.alphabet reach)) in
         given_law.some_start hs aim.kind of.ahead of.back Z Z.lo g.0 met.at goes.kind case (raised Z case) g.2 (may Z goes.all met.at) d
 
     pub match_below : (first : Met) → SearchEndsDown of.back Z.text (low s) met.at No false (met_last (Some (first.at, first.pattern))) →
         (pattern start end : ℕ) → pattern ≡ met.pattern → end ≡ met.at → start ≡ min (max first.at (low s)) end →
-        IsAnswerBelow aim.kind Z reach (Some (let f : Found = record { pattern = pattern; start = start; end = end } in f))
+        IsAnswerBelow aim.kind Z (seen_to of.ahead.alphabet reach) (Some (let f : Found = record { pattern = pattern; start = start; end = end } in f))
     match_below first d pattern start end is is_end is_start t in2 agrees =
         let above = met_within.0 in
-        let far : low s ≤ reach = omega (arith, above, past) in
-        let c = case_too t in2 reach agrees far in
+        let on = seen_past of.ahead.alphabet reach in
+        let far : low s ≤ seen_to of.ahead.alphabet reach = omega (arith, above, past, on) in
+        let c = case_too t in2 (seen_to of.ahead.alphabet reach) agrees far in
         let g = given t in2 agrees in
         let back = subst (λ x. SearchEndsDown of.back t.text x met.at No false (met_last (Some (first.at, first.pattern)))) (sym agrees.lo)
         (run_reach_law.down of.back Z.text Z.hi Z.lo met.at No false (met_last (Some (first.at, first.pattern))) reach t.text t.hi past d
-        (look_same of.back.alphabet Z t reach within in2 (subst (λ a. AgreesBelow (seen_to a reach) Z t) (sym (back_reads case)) agrees))) in
+        (look_same of.back.alphabet Z t reach within in2 (subst (λ a. AgreesBelow (seen_to a reach) Z t) (same_reading case) agrees))) in
         let w = given_law.starts hs aim.kind of.ahead of.back t t.lo g.0 met.at first.at first.pattern goes.kind c (raised t c) g.2
         (may t (agrees.passes_over ∙ goes.all) met.at) back in
         let a = w.0 in

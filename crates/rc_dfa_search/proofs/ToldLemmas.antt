@@ -43,6 +43,7 @@ pub case_from : (AreOf : Machine → Machine → Type 0) (aim : Aim) (hs : List 
 case_from AreOf aim hs terminator s of lo above le asks =
     let ms = of.machines in
     record {
+      alphabet = of.alphabet;
       machines = ms;
       places = refl;
       anchoring = refl;

@@ -7,8 +7,8 @@ use Rattle.rc_text.specs.Text.{Searched, low, high}
 use Rattle.rc_program.specs.Program.{program}
 use Rattle.rc_program.specs.Answer.{Search}
 use Rattle.rc_program.specs.Sought.{search_over}
-use Rattle.rc_dfa.specs.Machine.{Machine}
-use Rattle.rc_dfa_search.specs.Machines.{AreMachines}
+use Rattle.rc_dfa.specs.Machine.{Alphabet, Machine}
+use Rattle.rc_dfa_search.specs.Machines.{AreMachinesOver}
 use Rattle.rc_dfa_search.specs.declared.search.Aim.{Aim}
 use Rattle.rc_dfa_search.specs.declared.search.Bounds.{Bounds}
 
@@ -28,13 +28,14 @@ AreBounds s bounds = (bounds.low ≡ low s) × (bounds.high ≡ high s) × (boun
 abbrev pub is_early : Aim → Bool
 is_early aim = aim.earliest && not aim.passes_over
 
--- The halves are those of machines of these patterns, for matches of the kind. `PatternID` has a
--- number for each of them.
+-- The halves are those of machines of these patterns, for matches of the kind, which read bytes or
+-- symbols. `PatternID` has a number for each pattern.
 pub record AreHalvesOf (AreOf : Machine → Machine → Type 0) (aim : Aim) (hs : List Re) (terminator : ℕ) : Type 0 where
   pub ahead : Machine
   pub back : Machine
   pub are_of : AreOf ahead back
-  pub machines : AreMachines hs terminator aim.kind ahead back
+  pub alphabet : Alphabet
+  pub machines : AreMachinesOver alphabet hs terminator aim.kind ahead back
   pub counted : aim.patterns ≡ length hs
   pub few : length hs ≤ most_patterns
 

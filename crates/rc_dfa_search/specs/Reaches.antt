@@ -15,6 +15,7 @@ use Rattle.rc_dfa.specs.Reads.{HasEndedBelow, SearchEndsBelow}
 use Rattle.rc_dfa.specs.Runs.{idle_at, met_last, SearchEndsDown}
 use Rattle.rc_dfa.specs.declared.ended.Ended.TheVariants.{Found as found_last}
 use Rattle.rc_dfa.specs.declared.ended.Met.{Met}
+use Rattle.rc_dfa_reach.specs.RunReach.{seen_to}
 use Rattle.rc_dfa_search.specs.Leftmost.{IsLeftmost}
 use Rattle.rc_dfa_search.specs.Legs.{IsGiven}
 use Rattle.rc_dfa_search.specs.Rests.{GivesToo, HasNoWalkBetween}
@@ -70,7 +71,7 @@ abbrev pub IsEnding : MatchKind → Bool → Machine → Search → Ending → T
 IsEnding kind earliest m s Nowhere = IsGiven kind m s None
 IsEnding kind earliest m s Stuck = Unit {0}
 IsEnding kind earliest m s (Ends from met r) =
-    GivesToo kind m s from s.lo × (earliest ≡ false → (met.at < r) × IsGivenBelow kind m s r met)
+    GivesToo kind m s from s.lo × (earliest ≡ false → (met.at < r) × IsGivenBelow kind m s (seen_to m.alphabet r) met)
 
 -- The run that met a match began within the bounds.
 abbrev pub BeginsWithin : ℕ → ℕ → Ending → Type 0

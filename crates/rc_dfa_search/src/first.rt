@@ -11,6 +11,7 @@ ghost use Rattle.rc_needles.specs.Guards.{Guards};
 ghost use Rattle.rc_needles.specs.Prefilters.{needles_of};
 ghost use Rattle.rc_needles.specs.Tables.{BeginsWithByte, numbered};
 ghost use Rattle.rc_program.specs.Kinds.{answer_by};
+ghost use Rattle.rc_dfa_reach.specs.RunReach.{seen_to};
 ghost use Rattle.rc_dfa_search.specs.Aims.{AreBounds, AreHalvesOf, search_for};
 ghost use Rattle.rc_dfa_search.specs.Legs.{GoesByNeedles};
 ghost use Rattle.rc_dfa_search.specs.Reaches.{IsAnswerBelow, TellsReach};
@@ -199,10 +200,10 @@ pub fn find_settled_near<H: Halves, C: Cursor>(
     ensures cache { H.IsCache halves.now cache.new }
     ensures keeps { Keeps input.old input.new }
     ensures settled { (hs : List Re) (terminator : ℕ)
-        → AreHalvesOf (H.AreOf halves.now) aim hs terminator
+        (of : AreHalvesOf (H.AreOf halves.now) aim hs terminator)
         → Guards (program hs) terminator (needles_of needles.now)
-        → IfOk result (λ o. IsAnswerBelow aim.kind
-        (search_for aim hs terminator input.old) o.reach o.found) }
+        → IfOk result (λ o. IsAnswerBelow aim.kind (search_for aim hs terminator input.old)
+        (seen_to of.ahead.alphabet o.reach) o.found) }
     ensures within { IfOk result (λ o. IfSome o.found (IsWithinBounds input.old)) }
 {
     let from = bounds.low;

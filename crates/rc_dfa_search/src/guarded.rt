@@ -8,6 +8,7 @@ ghost use Rattle.rc_program.specs.Kinds.{IsAnswerBy};
 ghost use Rattle.rc_program.specs.Program.{program};
 ghost use Rattle.rc_needles.specs.Needles.{longest};
 ghost use Rattle.rc_literals.specs.Guard.{IsGuard, guard_needles};
+ghost use Rattle.rc_dfa_reach.specs.RunReach.{seen_to};
 ghost use Rattle.rc_dfa_search.specs.Aims.{AreBounds, AreHalvesOf, search_for};
 ghost use Rattle.rc_dfa_search.specs.Halves.{IsForwardHalf};
 ghost use Rattle.rc_dfa_search.specs.Legs.{GoesByNeedles};
@@ -130,10 +131,10 @@ pub fn find_settled_guarded<H: Halves, C: Cursor>(
     ensures cache { H.IsCache halves.now cache.new }
     ensures keeps { Keeps input.old input.new }
     ensures settled { (hs : List Re) (terminator : ℕ)
-        → AreHalvesOf (H.AreOf halves.now) aim hs terminator
+        (of : AreHalvesOf (H.AreOf halves.now) aim hs terminator)
         → IsGuard (program hs) terminator guard.entry
-        → IfOk result (λ o. IsAnswerBelow aim.kind
-        (search_for aim hs terminator input.old) o.reach o.found) }
+        → IfOk result (λ o. IsAnswerBelow aim.kind (search_for aim hs terminator input.old)
+        (seen_to of.ahead.alphabet o.reach) o.found) }
     ensures within { IfOk result (λ o. IfSome o.found (IsWithinBounds input.old)) }
 {
     content_fits(input);

@@ -3,6 +3,7 @@
 ghost use Rattle.std.specs.Prelude.{◌≡◌, ◌≤◌, ℕ, List, IfOk};
 ghost use Rattle.rc_text.specs.Text.{Keeps, low, high};
 ghost use Rattle.rc_pattern.specs.Re.{Re};
+ghost use Rattle.rc_dfa_reach.specs.RunReach.{seen_to};
 ghost use Rattle.rc_dfa_search.specs.Aims.{AreBounds, AreHalvesOf, search_for};
 ghost use Rattle.rc_dfa_search.specs.Legs.{GoesByNeedles};
 ghost use Rattle.rc_dfa_search.specs.Reaches.{NoneBeginBelow};
@@ -16,12 +17,14 @@ use rc_text::input::{Input, content_fits};
 use rc_text::types::MatchError;
 
 /// Returns a position at which nothing is under way: no match begins before it, in this content and
-/// in each other one that has the same bytes before it. It is where the search begins, or a later
-/// position at which a run forwards rests.
+/// in each other one that has the same bytes up to the bound, or if symbols are read, up to three
+/// bytes after it. It is where the search begins, or a later position at which a run forwards
+/// rests.
 ///
-/// The runs look for it in the later half of what is left, and come closer to the end each time. If
-/// none rests there, they look in more of it. So where no long match is under way, they read the
-/// content about once. An `Err` says why the DFA has no answer.
+/// If no run rests after where the search begins, one run tells so. Else the runs look for the
+/// position in the later half of what is left, and come closer to the end each time. If none rests
+/// there, they look in more of it. So where no long match is under way, they read the content about
+/// once. An `Err` says why the DFA has no answer.
 pub fn last_idle<H: Halves, C: Cursor>(
     halves: &H,
     cache: &mut H::Cache,
@@ -36,13 +39,18 @@ pub fn last_idle<H: Halves, C: Cursor>(
     ensures cache { H.IsCache halves.now cache.new }
     ensures keeps { Keeps input.old input.new }
     ensures idle { (hs : List Re) (terminator : ℕ)
-        → AreHalvesOf (H.AreOf halves.now) aim hs terminator
-        → IfOk result (λ k. NoneBeginBelow (search_for aim hs terminator input.old) k k) }
+        (of : AreHalvesOf (H.AreOf halves.now) aim hs terminator)
+        → IfOk result (NoneBeginBelow (search_for aim hs terminator input.old)
+        (seen_to of.ahead.alphabet (high input.old))) }
     ensures within { IfOk result (λ k. (low input.old ≤ k) × (k ≤ high input.old)) }
 {
     content_fits(input);
     let bound = bounds.high;
-    let mut at = bounds.low;
+    let first = read_leg(halves, cache, input, bounds, false, bounds.low)?;
+    let Leg::Rested(next) = first.leg else {
+        return Ok(bounds.low);
+    };
+    let mut at = next;
     let mut stride = (bound - at + 1) / 2;
     'runs: loop {
         let rest_from = at.saturating_add(stride.saturating_sub(1));

@@ -11,3 +11,4 @@ mod needles;
 pub mod passed;
 pub mod reach;
 pub mod search;
+pub mod undecided;

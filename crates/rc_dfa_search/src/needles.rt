@@ -9,6 +9,7 @@ ghost use Rattle.rc_program.specs.Kinds.{answer_by};
 ghost use Rattle.rc_program.specs.Sought.{text_of};
 ghost use Rattle.rc_needles.specs.Needles.{longest};
 ghost use Rattle.rc_literals.specs.Guard.{IsGuard, guard_needles};
+ghost use Rattle.rc_dfa_reach.specs.RunReach.{seen_to};
 ghost use Rattle.rc_dfa_search.specs.Aims.{AreBounds, AreHalvesOf, search_for};
 ghost use Rattle.rc_dfa_search.specs.Legs.{ComesOn, GoesByNeedles, leg_of};
 ghost use Rattle.rc_dfa_search.specs.Reaches.{BeginsWithin, HasRunBelow, IsAnswerBelow, IsGivenBelow, IsEnding, NoneBeginBelow};
@@ -139,7 +140,7 @@ const FARTHEST: usize = 1024;
 /// from where the last run rested. Where needles stand close, it's twice as many each time: to read
 /// a byte takes less than to begin a run.
 #[inline(always)]
-fn read_on(behind: usize, distance: usize) -> usize {
+pub(crate) fn read_on(behind: usize, distance: usize) -> usize {
     if distance > NEAR {
         return 0;
     }
@@ -229,9 +230,10 @@ pub(crate) fn settle_back<H: Halves, C: Cursor>(
     ensures settled { (hs : List Re) (terminator : ℕ)
         (of : AreHalvesOf (H.AreOf halves.now) aim hs terminator)
         → met.at < reach
-        → IsGivenBelow aim.kind of.ahead (search_for aim hs terminator input.old) reach met
-        → IfOk result (λ o. IsAnswerBelow aim.kind
-        (search_for aim hs terminator input.old) o.reach o.found) }
+        → IsGivenBelow aim.kind of.ahead (search_for aim hs terminator input.old)
+        (seen_to of.ahead.alphabet reach) met
+        → IfOk result (λ o. IsAnswerBelow aim.kind (search_for aim hs terminator input.old)
+        (seen_to of.ahead.alphabet o.reach) o.found) }
     ensures within { IfOk result (λ o. IfSome o.found (IsWithinBounds input.old)) }
 {
     let low = bounds.low;
@@ -267,11 +269,11 @@ pub(crate) fn settle_by_needles<H: Halves, C: Cursor>(
     ensures cache { H.IsCache halves.now cache.new }
     ensures keeps { Keeps input.old input.new }
     ensures settled { (hs : List Re) (terminator : ℕ)
-        → AreHalvesOf (H.AreOf halves.now) aim hs terminator
+        (of : AreHalvesOf (H.AreOf halves.now) aim hs terminator)
         → IsGuard (program hs) terminator guard.entry
         → NoneBeginBelow (search_for aim hs terminator input.old) left.reach left.at
-        → IfOk result (λ o. IsAnswerBelow aim.kind
-        (search_for aim hs terminator input.old) o.reach o.found) }
+        → IfOk result (λ o. IsAnswerBelow aim.kind (search_for aim hs terminator input.old)
+        (seen_to of.ahead.alphabet o.reach) o.found) }
     ensures within { IfOk result (λ o. IfSome o.found (IsWithinBounds input.old)) }
 {
     content_fits(input);

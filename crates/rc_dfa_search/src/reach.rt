@@ -6,6 +6,7 @@ ghost use Rattle.rc_text.specs.Bounds.{IsWithinBounds};
 ghost use Rattle.rc_text.specs.Text.{Keeps, low, high};
 ghost use Rattle.rc_pattern.specs.Re.{Re};
 ghost use Rattle.rc_program.specs.Sought.{text_of};
+ghost use Rattle.rc_dfa_reach.specs.RunReach.{seen_to};
 ghost use Rattle.rc_dfa_search.specs.Aims.{AreBounds, AreHalvesOf, search_for};
 ghost use Rattle.rc_dfa_search.specs.Ends.{Asks};
 ghost use Rattle.rc_dfa_search.specs.Firsts.{starting_at};
@@ -23,7 +24,8 @@ use rc_text::types::{Anchored, Match, MatchError, MatchKind, Span};
 pub struct Settled {
     /// The match.
     pub found: Option<Match>,
-    /// The count of bytes. `usize::MAX` says that the end of the slice may have been looked at.
+    /// The count of bytes up to which a DFA read. If it read symbols, these depend on three bytes
+    /// more. `usize::MAX` says that the end of the slice may have been looked at.
     pub reach: usize,
 }
 
@@ -90,9 +92,11 @@ pub(crate) fn settle_here<H: Halves, C: Cursor>(
     ensures cache { H.IsCache halves.now cache.new }
     ensures keeps { Keeps input.old input.new }
     ensures settled { (aim : Aim) (hs : List Re) (terminator : ℕ)
-        → AreHalvesOf (H.AreOf halves.now) aim hs terminator → GoesByNeedles aim input.old.anchored
+        (of : AreHalvesOf (H.AreOf halves.now) aim hs terminator)
+        → GoesByNeedles aim input.old.anchored
         → IfOk result (λ o. IsAnswerBelow aim.kind
-        (starting_at from (search_for aim hs terminator input.old)) o.reach o.found) }
+        (starting_at from (search_for aim hs terminator input.old))
+        (seen_to of.ahead.alphabet o.reach) o.found) }
     ensures within { IfOk result (λ o. IfSome o.found
         (λ m. (m.start ≡ from) × (m.start ≤ m.end) × (m.end ≤ bound))) }
 {
@@ -134,9 +138,9 @@ pub fn find_settled<H: Halves, C: Cursor>(
     ensures cache { H.IsCache halves.now cache.new }
     ensures keeps { Keeps input.old input.new }
     ensures settled { (hs : List Re) (terminator : ℕ)
-        → AreHalvesOf (H.AreOf halves.now) aim hs terminator
-        → IfOk result (λ o. IsAnswerBelow aim.kind
-        (search_for aim hs terminator input.old) o.reach o.found) }
+        (of : AreHalvesOf (H.AreOf halves.now) aim hs terminator)
+        → IfOk result (λ o. IsAnswerBelow aim.kind (search_for aim hs terminator input.old)
+        (seen_to of.ahead.alphabet o.reach) o.found) }
     ensures past { (hs : List Re) (terminator : ℕ)
         → AreHalvesOf (H.AreOf halves.now) aim hs terminator
         → IfOk result (λ o. IfSome o.found (λ m. m.end ≤ o.reach)) }

@@ -7,6 +7,7 @@ use Rattle.rc_program.specs.Answer.{HasNoWalkFrom}
 use Rattle.rc_program.specs.Kinds.{answer_by}
 use Rattle.rc_needles.specs.Guards.{Guards}
 use Rattle.rc_needles.specs.Prefilters.{needles_of}
+use Rattle.rc_dfa_reach.specs.RunReach.{seen_to}
 use Rattle.rc_dfa_search.specs.Aims.{AreHalvesOf, search_for}
 use Rattle.std.proofs.lemmas.Bool.{cases_lt}
 use Rattle.rc_dfa_search.proofs.ToldLemmas.{kept_low, kept_same, kept_search, kept_then}
@@ -76,7 +77,7 @@ returns-in-Some-found-clause-found g c hs terminator of guards =
     c.requires.bounds.0 c.requires.bounds.1 c.in-Some.from (within g k c.in-Some.from c.in-Some.is).0 (passed g k hs terminator of guards c.in-Some.from c.in-Some.is)
     u kept c.in-Some-found.found
     (subst (λ o. o ≡ answer_by c.args.aim.kind (starting_at c.in-Some.from (search_for c.args.aim hs terminator u))) c.in-Some-found.is
-    (settled_here c.args.aim hs terminator u c.in-Some.from (above_low g k c.in-Some.from c.in-Some.is) c.in_ok-here.here.reach c.in_ok-here.here.found
+    (settled_here c.args.aim hs terminator u c.in-Some.from (above_low g k c.in-Some.from c.in-Some.is) (seen_to of.ahead.alphabet c.in_ok-here.here.reach) c.in_ok-here.here.found
     (c.in_ok-here.ensures.settled c.args.aim hs terminator of goes)))
 
 pub returns-then-not-are_fast-clause-found : goal.returns-then-not-are_fast-clause-found
@@ -127,7 +128,7 @@ runs-preserved g c =
                 (not_begun c.args.aim hs terminator s s (kept_same s) c.requires.goes c.args.bounds.low c.args.bounds.high c.requires.bounds.0 c.requires.bounds.1
                 u kept c.in-Some.from w.2
                 (subst (λ o. o ≡ answer_by c.args.aim.kind (starting_at c.in-Some.from (search_for c.args.aim hs terminator u))) c.in_default-found.is
-                (settled_here c.args.aim hs terminator u c.in-Some.from (above_low g k c.in-Some.from c.in-Some.is) c.in_ok-here.here.reach c.in_ok-here.here.found
+                (settled_here c.args.aim hs terminator u c.in-Some.from (above_low g k c.in-Some.from c.in-Some.is) (seen_to of.ahead.alphabet c.in_ok-here.here.reach) c.in_ok-here.here.found
                 (c.in_ok-here.ensures.settled c.args.aim hs terminator of goes))))
           ];
     }

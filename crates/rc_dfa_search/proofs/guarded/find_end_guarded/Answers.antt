@@ -7,6 +7,7 @@ use Rattle.rc_program.specs.Program.{program}
 use Rattle.rc_literals.specs.Guard.{IsGuard}
 use Rattle.rc_dfa_search.specs.declared.needles.Ending.{Ending}
 use Rattle.rc_dfa_search.specs.declared.needles.Ending.TheVariants.{Ends, Nowhere}
+use Rattle.rc_dfa_reach.specs.RunReach.{seen_to}
 use Rattle.rc_dfa_search.specs.Aims.{AreHalvesOf, search_for}
 use Rattle.rc_dfa_search.specs.Legs.{GoesByNeedles}
 use Rattle.rc_dfa_search.specs.Reaches.{IsEnding}
@@ -40,7 +41,7 @@ returns-in_ok-pattern-in-Ends-clause-found g c hs terminator of guards =
     is_half aim c.get_anchored.result S (Ok (Some c.new.result)) so
     (ap Some c.new.ensures
     ∙ end_so (g.H.Halves.AreOf c.args.halves.now) aim hs terminator of s goes c.args.bounds.low c.args.bounds.high b.0 b.1 b.2
-    c.in-Ends.met (given.1 S (inside_of aim hs terminator s) (itself S c.in-Ends.reach))
+    c.in-Ends.met (given.1 S (inside_of aim hs terminator s) (itself S (seen_to of.ahead.alphabet c.in-Ends.reach)))
     c.min-end.result (c.min-end.ensures ∙ ap (λ x. min x c.args.bounds.high) c.max.ensures)
     c.in_ok-pattern-in-Ends.pattern c.in_ok-pattern-in-Ends.ensures.id)
 

@@ -6,12 +6,14 @@ use Rattle.rc_literals.specs.Guard.{BeginsFor, IsGuard, guard_needles}
 use Rattle.rc_needles.specs.Needles.{find_needle}
 use Rattle.rc_needles.specs.declared.hit.Hit.{Hit}
 use Rattle.std.specs.Option.{option_map}
+use Rattle.rc_dfa_reach.specs.RunReach.{seen_to}
 use Rattle.rc_dfa_search.specs.Aims.{search_for}
 use Rattle.rc_dfa_search.specs.Firsts.{starting_at}
 use Rattle.rc_dfa_search.specs.Legs.{GoesByNeedles}
 use Rattle.rc_dfa_search.specs.Reaches.{IsAnswerBelow, NoneBeginBelow}
 use Rattle.rc_dfa_search.proofs.NeedleLemmas.{none_given, none_left}
 use Rattle.rc_dfa_search.proofs.ReachLemmas.{answer_far}
+use Rattle.rc_dfa_search.proofs.SeenLemmas.{seen_more, seen_past}
 use Rattle.rc_dfa_search.proofs.SettledLemmas.{first_settles_some, goes_free, inside_of, none_first, none_yet}
 use Rattle.rc_dfa_search.proofs.ToldLemmas.{kept_same, kept_search, kept_then}
 use Rattle.rc_dfa_search.proofs.guarded.find_settled_guarded.Given.{Over}
@@ -32,7 +34,8 @@ returns-in_default-next_start-clause-settled g c hs terminator of guards =
     let fits = c.content_fits.ensures in
     let ordered : low s ≤ high s = omega (arith, b) in
     let A = g.H.Halves.AreOf c.args.halves.now in
-    answer_far aim.kind (search_for aim hs terminator s) 18446744073709551615 None (inside_of aim hs terminator s) (omega (arith, fits))
+    let past = seen_past of.ahead.alphabet 18446744073709551615 in
+    answer_far aim.kind (search_for aim hs terminator s) (seen_to of.ahead.alphabet 18446744073709551615) None (inside_of aim hs terminator s) (omega (arith, fits, past))
     (sym (none_given A aim hs terminator of s goes (low s) (high s) refl refl ordered
     (none_left A aim hs terminator of s goes (low s) (high s) refl refl ordered s (kept_same s) (low s) ordered (λ r h. h)
     (λ x above below. c.in_default-next_start.ensures.passed (program hs) terminator aim.passes_over guards x (omega (arith, b, above)) (omega (arith, b, below))))))
@@ -62,10 +65,12 @@ returns-then-is_some-clause-settled g c hs terminator of guards =
     let keeps = c.next_start.ensures.keeps in
     let found = c.in_ok-here.here.found in
     let w = c.in-Some.ensures.within in
+    let past = seen_past of.ahead.alphabet c.max.result in
     let goes = goes_free aim s.anchored c.get_anchored.result c.is_anchored.result c.requires.tells c.get_anchored.ensures c.is_anchored.ensures c.if-is_anchored.false in
-    first_settles_some aim hs terminator s goes c.in-Some.start.from (omega (arith, w, c.requires.bounds)) c.saturating_add-reach.result c.in_ok-here.here.reach c.max.result
-    (omega (arith, c.max.ensures)) (omega (arith, c.max.ensures)) (passed g at.After-saturating_add-reach hs terminator guards) found (sym c.is_some.ensures ∙ c.if-is_some.true)
-    (subst (λ q. IsAnswerBelow aim.kind (starting_at c.in-Some.start.from q) c.in_ok-here.here.reach found) (kept_search aim hs terminator s c.next_start.new.input keeps)
+    first_settles_some aim hs terminator s goes c.in-Some.start.from (omega (arith, w, c.requires.bounds)) c.saturating_add-reach.result
+    (seen_to of.ahead.alphabet c.in_ok-here.here.reach) (seen_to of.ahead.alphabet c.max.result)
+    (omega (arith, c.max.ensures, past)) (seen_more of.ahead.alphabet c.in_ok-here.here.reach c.max.result (omega (arith, c.max.ensures))) (passed g at.After-saturating_add-reach hs terminator guards) found (sym c.is_some.ensures ∙ c.if-is_some.true)
+    (subst (λ q. IsAnswerBelow aim.kind (starting_at c.in-Some.start.from q) (seen_to of.ahead.alphabet c.in_ok-here.here.reach) found) (kept_search aim hs terminator s c.next_start.new.input keeps)
     (c.in_ok-here.ensures.settled aim hs terminator of (subst (GoesByNeedles aim) (sym keeps.anchored) goes)))
 
 pub returns-clause-settled : goal.returns-clause-settled
@@ -75,6 +80,6 @@ returns-clause-settled g c hs terminator of guards =
     let s = c.args.input.now in
     let keeps = kept_then s c.next_start.new.input c.settle_here.new.input c.next_start.ensures.keeps c.settle_here.ensures.keeps in
     let same = kept_search aim hs terminator s c.settle_here.new.input keeps in
-    subst (λ q. IfOk c.settle_by_needles-2.result (λ o. IsAnswerBelow aim.kind q o.reach o.found)) same
+    subst (λ q. IfOk c.settle_by_needles-2.result (λ o. IsAnswerBelow aim.kind q (seen_to of.ahead.alphabet o.reach) o.found)) same
     (c.settle_by_needles-2.ensures.settled hs terminator of guards
     (subst (λ q. NoneBeginBelow q c.saturating_add-reach.result c.in-Some.start.from) (sym same) (passed g k hs terminator guards)))

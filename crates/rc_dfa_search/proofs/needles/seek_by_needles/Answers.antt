@@ -7,6 +7,7 @@ use Rattle.rc_program.specs.Program.{program}
 use Rattle.rc_needles.specs.Needles.{find_needle, longest}
 use Rattle.rc_needles.specs.declared.hit.Hit.{Hit}
 use Rattle.rc_literals.specs.Guard.{BeginsFor, IsGuard, guard_needles}
+use Rattle.rc_dfa_reach.specs.RunReach.{seen_to}
 use Rattle.rc_dfa_search.specs.declared.needles.Leg.{Leg}
 use Rattle.rc_dfa_search.specs.declared.needles.Leg.TheVariants.{Ended, Rested}
 use Rattle.rc_dfa_search.specs.declared.search.Aim.{Aim}
@@ -15,7 +16,8 @@ use Rattle.rc_dfa_search.specs.Legs.{GoesByNeedles}
 use Rattle.rc_dfa_search.specs.Reaches.{GivesBelow, HasRunBelow, NoneBeginBelow}
 use Rattle.rc_dfa_search.proofs.NeedleLemmas.{came_on, none_left}
 use Rattle.rc_dfa_search.proofs.ReachLemmas.{itself}
-use Rattle.rc_dfa_search.proofs.SettledLemmas.{all_below, given_below, gives_from, inside_of, none_given, rested_below}
+use Rattle.rc_dfa_search.proofs.SeenLemmas.{seen_more, seen_past}
+use Rattle.rc_dfa_search.proofs.SettledLemmas.{agrees_less, all_below, given_below, gives_from, inside_of, none_given, rested_below}
 use Rattle.rc_dfa_search.proofs.ToldLemmas.{kept_search, kept_then}
 use Rattle.rc_dfa_search.proofs.needles.seek_by_needles.Given.{Over}
 use Rattle.rc_dfa_search.proofs.needles.seek_by_needles.Goals as goal
@@ -32,8 +34,11 @@ runs-init g c =
       low = omega (arith, above, bound);
       high = below;
       carried = λ aim hs terminator of guards goes none.
-          all_below (g.H.Halves.AreOf c.args.halves.now) aim hs terminator of c.args.input.now goes (omega (arith, above, below, bound)) c.args.left.reach c.args.left.at
-          (omega (arith, above, bound)) (omega (arith, below, bound)) c.requires.far none;
+          let past = seen_past of.ahead.alphabet c.args.left.reach in
+          all_below (g.H.Halves.AreOf c.args.halves.now) aim hs terminator of c.args.input.now goes (omega (arith, above, below, bound))
+          (seen_to of.ahead.alphabet c.args.left.reach) c.args.left.at (omega (arith, above, bound)) (omega (arith, below, bound))
+          (let far = c.requires.far in omega (arith, far, past))
+          (λ t in2 agrees. none t in2 (agrees_less (search_for aim hs terminator c.args.input.now) t c.args.left.reach (seen_to of.ahead.alphabet c.args.left.reach) past agrees));
     }
 
 pub returns-in_default-clause-ending : goal.returns-in_default-clause-ending
@@ -45,7 +50,7 @@ returns-in_default-clause-ending g c aim hs terminator of guards goes none =
     let bound = c.requires.bounds in
     none_left (g.H.Halves.AreOf c.args.halves.now) aim hs terminator of s goes (low s) c.args.left.bounds.high refl c.requires.bounds.1 (omega (arith, above, below))
     c.runs.input i.keeps c.runs.at i.high
-    (i.carried aim hs terminator of guards goes none (search_for aim hs terminator s) (inside_of aim hs terminator s) (itself (search_for aim hs terminator s) c.runs.reach))
+    (i.carried aim hs terminator of guards goes none (search_for aim hs terminator s) (inside_of aim hs terminator s) (itself (search_for aim hs terminator s) (seen_to of.ahead.alphabet c.runs.reach)))
     (c.in_default.ensures.passed (program hs) terminator aim.passes_over guards)
 
 module _ (g : Over) (c : After-max-reach g) where
@@ -67,12 +72,6 @@ module _ (g : Over) (c : After-max-reach g) where
   high_needle : c.in-Some.start.needle < high c.args.input.now
   high_needle = let w = c.in-Some.ensures.within in let lt = w.2 in omega (arith, lt, c.requires.bounds.1)
 
-  more : c.runs.reach ≤ c.max-reach.result
-  more = omega (arith, c.max.ensures, c.max-reach.ensures)
-
-  read : c.in_ok-came.came.read ≤ c.max-reach.result
-  read = omega (arith, c.max-reach.ensures)
-
   far : min (c.in-Some.start.needle + longest (guard_needles c.args.guard)) (high c.args.input.now + 1) ≤ c.max-reach.result
   far =
       let fits = c.content_fits.ensures in
@@ -84,7 +83,19 @@ module _ (g : Over) (c : After-max-reach g) where
   module _ (aim : Aim) (hs : List Re) (terminator : ℕ) (of : AreHalvesOf (g.H.Halves.AreOf c.args.halves.now) aim hs terminator)
       (guards : IsGuard (program hs) terminator c.args.guard) (goes : GoesByNeedles aim c.args.input.now.anchored)
       (none : NoneBeginBelow (search_for aim hs terminator c.args.input.now) c.args.left.reach c.args.left.at) where
-    carried : GivesBelow aim.kind of.ahead (search_for aim hs terminator c.args.input.now) c.runs.reach c.runs.at
+    abbrev seen : ℕ → ℕ
+    seen = seen_to of.ahead.alphabet
+
+    more : seen c.runs.reach ≤ seen c.max-reach.result
+    more = seen_more of.ahead.alphabet c.runs.reach c.max-reach.result (omega (arith, c.max.ensures, c.max-reach.ensures))
+
+    read : seen c.in_ok-came.came.read ≤ seen c.max-reach.result
+    read = seen_more of.ahead.alphabet c.in_ok-came.came.read c.max-reach.result (omega (arith, c.max-reach.ensures))
+
+    sought : min (c.in-Some.start.needle + longest (guard_needles c.args.guard)) (high c.args.input.now + 1) ≤ seen c.max-reach.result
+    sought = let near = far in let past = seen_past of.ahead.alphabet c.max-reach.result in omega (arith, near, past)
+
+    carried : GivesBelow aim.kind of.ahead (search_for aim hs terminator c.args.input.now) (seen c.runs.reach) c.runs.at
     carried = c.runs.invariant.carried aim hs terminator of guards goes none
 
     leg : (l : Leg) → c.in_ok-came.came.leg ≡ l →
@@ -100,14 +111,17 @@ returns-in-Ended-clause-ending g c aim hs terminator of guards goes none =
     let k = (goal.at.returns-in-Ended-clause-ending g c).After-max-reach in
     let w = c.in-Some.ensures.within in (
       gives_from (g.H.Halves.AreOf c.args.halves.now) aim hs terminator of c.args.input.now goes (ordered g k) c.args.guard guards c.runs.at c.in-Some.start (first g k) (begins g k)
-          c.runs.invariant.low w.0 w.1 (high_needle g k) c.runs.reach c.max-reach.result (more g k) (far g k) (carried g k aim hs terminator of guards goes none),
+          c.runs.invariant.low w.0 w.1 (high_needle g k) (seen_to of.ahead.alphabet c.runs.reach) (seen_to of.ahead.alphabet c.max-reach.result)
+          (more g k aim hs terminator of guards goes none) (sought g k aim hs terminator of guards goes none) (carried g k aim hs terminator of guards goes none),
       λ late.
-          given_below (g.H.Halves.AreOf c.args.halves.now) aim hs terminator of c.args.input.now goes (ordered g k) c.args.guard guards c.runs.at c.in-Some.start (first g k)
-          (begins g k) c.runs.invariant.low w.0 w.1 (high_needle g k) c.runs.reach c.max-reach.result (more g k) (far g k) (carried g k aim hs terminator of guards goes none)
-          c.in_ok-came.came.read (read g k) c.in-Some-ended.met
+          let told = given_below (g.H.Halves.AreOf c.args.halves.now) aim hs terminator of c.args.input.now goes (ordered g k) c.args.guard guards c.runs.at c.in-Some.start (first g k)
+          (begins g k) c.runs.invariant.low w.0 w.1 (high_needle g k) (seen_to of.ahead.alphabet c.runs.reach) (seen_to of.ahead.alphabet c.max-reach.result)
+          (more g k aim hs terminator of guards goes none) (sought g k aim hs terminator of guards goes none) (carried g k aim hs terminator of guards goes none)
+          c.in_ok-came.came.read (read g k aim hs terminator of guards goes none) c.in-Some-ended.met
           (subst (λ b. HasRunBelow of.ahead (search_for aim hs terminator c.args.input.now).text (high c.args.input.now) c.in-Some.start.from b c.in_ok-came.came.read
           (Ended (Some c.in-Some-ended.met))) late
-          (leg g k aim hs terminator of guards goes none (Ended (Some c.in-Some-ended.met)) (c.in-Ended.is ∙ ap Ended c.in-Some-ended.is))),
+          (leg g k aim hs terminator of guards goes none (Ended (Some c.in-Some-ended.met)) (c.in-Ended.is ∙ ap Ended c.in-Some-ended.is))) in
+          let before = told.0 in (omega (arith, before, c.max-reach.ensures), told.1),
     )
 
 pub returns-in_default-ended-clause-ending : goal.returns-in_default-ended-clause-ending
@@ -115,8 +129,9 @@ returns-in_default-ended-clause-ending g c aim hs terminator of guards goes none
     let k = (goal.at.returns-in_default-ended-clause-ending g c).After-max-reach in
     let w = c.in-Some.ensures.within in
     none_given (g.H.Halves.AreOf c.args.halves.now) aim hs terminator of c.args.input.now goes (ordered g k) c.args.guard guards c.runs.at c.in-Some.start (first g k) (begins g k)
-    c.runs.invariant.low w.0 w.1 (high_needle g k) c.runs.reach c.max-reach.result (more g k) (far g k) (carried g k aim hs terminator of guards goes none)
-    c.in_ok-came.came.read (read g k) c.args.earliest
+    c.runs.invariant.low w.0 w.1 (high_needle g k) (seen_to of.ahead.alphabet c.runs.reach) (seen_to of.ahead.alphabet c.max-reach.result)
+    (more g k aim hs terminator of guards goes none) (sought g k aim hs terminator of guards goes none) (carried g k aim hs terminator of guards goes none)
+    c.in_ok-came.came.read (read g k aim hs terminator of guards goes none) c.args.earliest
     (leg g k aim hs terminator of guards goes none (Ended None) (c.in-Ended.is ∙ ap Ended c.in_default-ended.is))
 
 pub runs-preserved : goal.runs-preserved
@@ -135,7 +150,8 @@ runs-preserved g c =
       high = on.1;
       carried = λ aim hs terminator of guards goes none.
           rested_below (g.H.Halves.AreOf c.args.halves.now) aim hs terminator of c.args.input.now goes (ordered g k) c.args.guard guards c.runs.at c.in-Some.start (first g k) (begins g k)
-          c.runs.invariant.low w.0 w.1 (high_needle g k) c.runs.reach c.max-reach.result (more g k) (far g k) (carried g k aim hs terminator of guards goes none)
-          c.in_ok-came.came.read (read g k) c.args.earliest c.in-Rested.i
+          c.runs.invariant.low w.0 w.1 (high_needle g k) (seen_to of.ahead.alphabet c.runs.reach) (seen_to of.ahead.alphabet c.max-reach.result)
+          (more g k aim hs terminator of guards goes none) (sought g k aim hs terminator of guards goes none) (carried g k aim hs terminator of guards goes none)
+          c.in_ok-came.came.read (read g k aim hs terminator of guards goes none) c.args.earliest c.in-Rested.i
           (leg g k aim hs terminator of guards goes none (Rested c.in-Rested.i) c.in-Rested.is);
     }

@@ -5,6 +5,7 @@ use Rattle.rc_text.specs.declared.types.Anchored.TheVariants.{No}
 use Rattle.rc_pattern.specs.Re.{Re}
 use Rattle.rc_program.specs.Sought.{text_of}
 use Rattle.rc_dfa.specs.declared.ended.Met.{Met}
+use Rattle.rc_dfa_reach.specs.RunReach.{seen_to}
 use Rattle.rc_dfa_search.specs.Aims.{AreHalvesOf, is_early, search_for}
 use Rattle.rc_dfa_search.specs.Ends.{HasMetDown}
 use Rattle.rc_dfa_search.specs.Reaches.{IsAnswerBelow, IsGivenBelow}
@@ -20,7 +21,8 @@ bounded : (g : Over) (c : In_ok-first g) → low c.args.input.now ≤ high c.arg
 bounded g c = omega (arith, c.requires.bounds)
 
 module _ (g : Over) (c : In_ok-first g) (hs : List Re) (terminator : ℕ) (of : AreHalvesOf (g.H.Halves.AreOf c.args.halves.now) c.args.aim hs terminator)
-    (past : c.args.met.at < c.args.reach) (given : IsGivenBelow c.args.aim.kind of.ahead (search_for c.args.aim hs terminator c.args.input.now) c.args.reach c.args.met) where
+    (past : c.args.met.at < c.args.reach) (given : IsGivenBelow c.args.aim.kind of.ahead (search_for c.args.aim hs terminator c.args.input.now)
+    (seen_to of.ahead.alphabet c.args.reach) c.args.met) where
   ends : c.min-end.result ≡ c.args.met.at
   ends =
       end_so (g.H.Halves.AreOf c.args.halves.now) c.args.aim hs terminator of c.args.input.now c.requires.goes (bounded g c) c.args.met c.args.reach past given
@@ -43,7 +45,7 @@ returns-in_default-clause-settled g c hs terminator of past given =
 pub returns-clause-settled : goal.returns-clause-settled
 returns-clause-settled g c hs terminator of past given =
     let k = (goal.at.returns-clause-settled g c).In_ok-first in
-    subst (λ (m : Found). IsAnswerBelow c.args.aim.kind (search_for c.args.aim hs terminator c.args.input.now) c.args.reach (Some m)) (sym c.new.ensures)
+    subst (λ (m : Found). IsAnswerBelow c.args.aim.kind (search_for c.args.aim hs terminator c.args.input.now) (seen_to of.ahead.alphabet c.args.reach) (Some m)) (sym c.new.ensures)
     (match_below (g.H.Halves.AreOf c.args.halves.now) c.args.aim hs terminator of c.args.input.now c.requires.goes (bounded g k) c.args.met c.args.reach past given
     c.in-Some.first (begins g k hs terminator of past given (Some c.in-Some.first) c.in-Some.is) c.in_ok-pattern.pattern c.min-start.result c.min-end.result
     c.in_ok-pattern.ensures.id (ends g k hs terminator of past given) (omega (arith, c.min-start.ensures, c.max-2.ensures, c.requires.bounds)))

@@ -5,10 +5,12 @@ use Rattle.rc_program.specs.Program.{program}
 use Rattle.rc_literals.specs.Guard.{IsGuard}
 use Rattle.rc_dfa_search.specs.declared.needles.Ending.{Ending}
 use Rattle.rc_dfa_search.specs.declared.needles.Ending.TheVariants.{Ends, Nowhere}
+use Rattle.rc_dfa_reach.specs.RunReach.{seen_to}
 use Rattle.rc_dfa_search.specs.Aims.{AreHalvesOf, search_for}
 use Rattle.rc_dfa_search.specs.Reaches.{IsAnswerBelow, IsGivenBelow, IsEnding, NoneBeginBelow}
 use Rattle.rc_dfa_search.proofs.NeedleLemmas.{none_given}
 use Rattle.rc_dfa_search.proofs.ReachLemmas.{answer_far}
+use Rattle.rc_dfa_search.proofs.SeenLemmas.{seen_past}
 use Rattle.rc_dfa_search.proofs.SettledLemmas.{inside_of}
 use Rattle.rc_dfa_search.proofs.ToldLemmas.{kept_search}
 use Rattle.rc_dfa_search.proofs.needles.settle_by_needles.Given.{Over}
@@ -29,9 +31,9 @@ returns-in-Ends-clause-settled g c hs terminator of guards none =
     let aim = c.args.aim in
     let same = kept_search aim hs terminator c.args.input.now c.seek_by_needles.new.input c.seek_by_needles.ensures.keeps in
     let given = (ending g k hs terminator of guards none (Ends c.in-Ends.from c.in-Ends.met c.in-Ends.reach) c.in-Ends.is).1 refl in
-    subst (λ q. IfOk c.settle_back.result (λ o. IsAnswerBelow aim.kind q o.reach o.found)) same
+    subst (λ q. IfOk c.settle_back.result (λ o. IsAnswerBelow aim.kind q (seen_to of.ahead.alphabet o.reach) o.found)) same
     (c.settle_back.ensures.settled hs terminator of given.0
-    (subst (λ q. IsGivenBelow aim.kind of.ahead q c.in-Ends.reach c.in-Ends.met) (sym same) given.1))
+    (subst (λ q. IsGivenBelow aim.kind of.ahead q (seen_to of.ahead.alphabet c.in-Ends.reach) c.in-Ends.met) (sym same) given.1))
 
 pub returns-in-Nowhere-clause-settled : goal.returns-in-Nowhere-clause-settled
 returns-in-Nowhere-clause-settled g c hs terminator of guards none =
@@ -40,6 +42,7 @@ returns-in-Nowhere-clause-settled g c hs terminator of guards none =
     let s = c.args.input.now in
     let fits = c.content_fits.ensures in
     let bounds = c.requires.bounds in
-    answer_far aim.kind (search_for aim hs terminator s) 18446744073709551615 None (inside_of aim hs terminator s) (omega (arith, fits))
+    let past = seen_past of.ahead.alphabet 18446744073709551615 in
+    answer_far aim.kind (search_for aim hs terminator s) (seen_to of.ahead.alphabet 18446744073709551615) None (inside_of aim hs terminator s) (omega (arith, fits, past))
     (sym (none_given (g.H.Halves.AreOf c.args.halves.now) aim hs terminator of s c.requires.goes (low s) (high s) refl refl (omega (arith, bounds))
     (ending g k hs terminator of guards none Nowhere c.in-Nowhere.is)))

@@ -5,10 +5,12 @@ use Rattle.rc_pattern.specs.Re.{Re}
 use Rattle.rc_program.specs.Sought.{text_of}
 use Rattle.rc_program.specs.Text.{Text}
 use Rattle.rc_dfa.specs.declared.ended.Met.{Met}
+use Rattle.rc_dfa_reach.specs.RunReach.{seen_to}
 use Rattle.rc_dfa_search.specs.Aims.{AreHalvesOf, search_for}
 use Rattle.rc_dfa_search.specs.Ends.{Asks}
 use Rattle.rc_dfa_search.specs.Reaches.{BeginsBy, HasMetBelow, IsAnswerBelow}
 use Rattle.rc_dfa_search.proofs.ReachLemmas.{end_is, met_below, met_past, none_settled, some_settled, start_settled, void_below}
+use Rattle.rc_dfa_search.proofs.SeenLemmas.{seen_past}
 use Rattle.rc_dfa_search.proofs.ToldLemmas.{asks_none, asks_so, kept_text}
 use Rattle.rc_dfa_search.proofs.reach.find_settled.Given.{Over}
 use Rattle.rc_dfa_search.proofs.reach.find_settled.Goals as goal
@@ -16,8 +18,8 @@ use Rattle.rc_dfa_search.proofs.reach.find_settled.Goals.{In_ok-met, In_ok-least
 
 pub returns-then-not-asks-clause-settled : goal.returns-then-not-asks-clause-settled
 returns-then-not-asks-clause-settled g c hs terminator of =
-    void_below (g.H.Halves.AreOf c.args.halves.now) c.args.aim c.requires.tells hs terminator of c.args.input.now 18446744073709551615
-    (let fits = c.content_fits.ensures in omega (arith, fits))
+    void_below (g.H.Halves.AreOf c.args.halves.now) c.args.aim c.requires.tells hs terminator of c.args.input.now (seen_to of.ahead.alphabet 18446744073709551615)
+    (let fits = c.content_fits.ensures in let past = seen_past of.ahead.alphabet 18446744073709551615 in omega (arith, fits, past))
     (inr (asks_none c.args.aim.patterns c.args.input.now.anchored c.get_anchored.result c.asks.result c.asks.ensures c.get_anchored.ensures c.if-not-asks.true))
 
 -- the input where the run begins
@@ -88,7 +90,7 @@ returns-clause-settled g c hs terminator of =
     let r = c.run_forwards-reading.result.read in
     let end = end_is AreOf c.args.aim c.requires.tells hs terminator of b (le g k) (asks g k) r met h c.min-end.result (end_here g l) in
     let start = c.min-start.ensures ∙ ap (λ x. min x c.min-end.result) c.max-2.ensures ∙ ap (λ x. min (max c.in-Some-2.least x) c.min-end.result) c.requires.bounds.0 in
-    subst (λ (m : Found). IsAnswerBelow c.args.aim.kind (search_for c.args.aim hs terminator b) r (Some m)) (sym c.new.ensures)
+    subst (λ (m : Found). IsAnswerBelow c.args.aim.kind (search_for c.args.aim hs terminator b) (seen_to of.ahead.alphabet r) (Some m)) (sym c.new.ensures)
     (some_settled AreOf c.args.aim c.requires.tells hs terminator of b (le g k) (asks g k) r met h c.min-end.result c.in-Some-2.least c.min-start.result
     c.in_ok-pattern.pattern end (begins_here g l hs terminator of (Some c.in-Some-2.least) c.in-Some-2.is) start c.in_ok-pattern.ensures.id)
 
