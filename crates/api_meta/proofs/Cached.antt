@@ -38,22 +38,23 @@ module _ (r : Regex) where
   made slots c i = subst (λ ps. IsCacheBy ps (row_width ps slots) plan c) r.fits.placed i
 
   -- a cache that its engines make was made for its patterns and settings,
-  pub made_for : (c : Cache) → IsCacheIn r.engines (slot_len (names_of r.info)) c → is_some c.lazy ≡ is_some r.engines.lazy → IsMade (slot_len (regex_names r)) c
-  made_for c i both =
+  pub made_for : (c : Cache) → IsCacheIn r.engines (slot_len (names_of r.info)) c → is_some c.lazy ≡ is_some r.engines.lazy →
+      is_some c.symbols ≡ is_some r.engines.symbols → IsMade (slot_len (regex_names r)) c
+  made_for c i both more =
       subst (λ n. IsMade n c) (ap slot_len r.fits.named)
-      (made (slot_len (names_of r.info)) c (made_by r.engines (slot_len (names_of r.info)) plan r.planned c both i))
+      (made (slot_len (names_of r.info)) c (made_by r.engines (slot_len (names_of r.info)) plan r.planned r.symbols c both more i))
 
   -- serves its engines with no more slots than it has,
   pub serves_for : (slots : ℕ) (c : Cache) → slots ≤ slot_len (regex_names r) → IsMade (slot_len (regex_names r)) c → IsCacheIn r.engines slots c
   serves_for slots c few i =
       let fewer : row_width places slots ≤ c.pass.columns = omega (arith, few, i.pass.2) in
-      serves_in r.engines slots plan r.planned c (own slots c (record { pass = (i.pass.0, i.pass.1, fewer); lazy = i.lazy }))
+      serves_in r.engines slots plan r.planned r.symbols c (own slots c (record { pass = (i.pass.0, i.pass.1, fewer); lazy = i.lazy; symbols = i.symbols }))
 
   -- and stays so
   pub stays_for : (c d : Cache) → IsMade (slot_len (regex_names r)) c → IsSameCacheIn r.engines c d → IsMade (slot_len (regex_names r)) d
   stays_for c d i s =
       made (slot_len (regex_names r)) d
-      (still_by r.engines (slot_len (regex_names r)) plan r.planned c d (own (slot_len (regex_names r)) c i) s)
+      (still_by r.engines (slot_len (regex_names r)) plan r.planned r.symbols c d (own (slot_len (regex_names r)) c i) s)
 
   -- with the same room for a pass
   pub keeps_room : (c d : Cache) → IsSameCacheIn r.engines c d → d.pass.room ≡ c.pass.room

@@ -16,9 +16,10 @@ ghost use Rattle.rc_program.specs.Program.{program, shown};
 ghost use Rattle.rc_build.specs.Refusals.{IsBuildable, IsRefusal, limit_by, limit_of};
 ghost use Rattle.rc_settings.specs.Thompson.{which_captures_of};
 ghost use Rattle.rc_settings.specs.Which.{is_grouped};
-ghost use Rattle.rc_settings.specs.Settings.{settings_of, unset, overwritten, nfa_size_limit_of, program_settings, line_terminator_of, match_kind_of, dfa_of, hybrid_of, hybrid_cache_capacity_of, byte_classes_of, dfa_size_limit_of, dfa_state_limit_of};
+ghost use Rattle.rc_settings.specs.Settings.{settings_of, unset, overwritten, nfa_size_limit_of, program_settings, line_terminator_of, match_kind_of, dfa_of, hybrid_of, hybrid_cache_capacity_of, byte_classes_of, unicode_words_of, dfa_size_limit_of, dfa_state_limit_of};
 ghost use Rattle.rc_reach.specs.Laws.{greatest_len};
-ghost use Rattle.rc_strategy.specs.Plans.{IsLazyFor};
+ghost use Rattle.rc_dfa.specs.Machine.{symbols};
+ghost use Rattle.rc_strategy.specs.Plans.{IsLazyFor, IsLazyOver};
 ghost use Rattle.api_meta.specs.Plans.{plan_by};
 ghost use Rattle.rc_build.specs.TextRefusals.{AllRead, IsTextRefusal, texts_of};
 ghost use Rattle.api_meta.specs.Views.{builder_settings, builder_syntax, regex_patterns, regex_settings};
@@ -220,6 +221,8 @@ fn engines_of(
         ≡ greatest_len (map meaning hirs.now)) }
     ensures planned { IfOk result (λ engines. IfSome engines.lazy
         (IsLazyFor (plan_by (map meaning hirs.now) (settings_of config.now)))) }
+    ensures symbols { IfOk result (λ engines. IfSome engines.symbols
+        (IsLazyOver symbols (plan_by (map meaning hirs.now) (settings_of config.now)))) }
 {
     let needs = needs_of(alloc, config, hirs)?;
     let words = words_of(alloc, config, hirs)?;
@@ -266,6 +269,7 @@ fn limits_of(config: &Config) -> Limits
     ensures hybrid { result.hybrid ≡ hybrid_of (settings_of config.now) }
     ensures capacity { result.capacity ≡ hybrid_cache_capacity_of (settings_of config.now) }
     ensures classes { result.byte_classes ≡ byte_classes_of (settings_of config.now) }
+    ensures words { result.unicode_words ≡ unicode_words_of (settings_of config.now) }
     ensures states { result.state_limit ≡ dfa_state_limit_of (settings_of config.now) }
     ensures size { result.size_limit ≡ option_map (λ size. size / 4)
         (dfa_size_limit_of (settings_of config.now)) }
@@ -277,5 +281,6 @@ fn limits_of(config: &Config) -> Limits
         byte_classes: config.get_byte_classes(),
         hybrid: config.get_hybrid(),
         capacity: config.get_hybrid_cache_capacity(),
+        unicode_words: config.get_unicode_words(),
     }
 }

@@ -5,7 +5,8 @@ ghost use Rattle.rc_pattern.specs.WellFormed.{IsWellFormed};
 ghost use Rattle.rc_build.specs.Fits.{Fits};
 ghost use Rattle.rc_reach.specs.Laws.{greatest_len};
 ghost use Rattle.rc_pikevm_search.specs.Choices.{guarding};
-ghost use Rattle.rc_strategy.specs.Plans.{IsLazyFor};
+ghost use Rattle.rc_dfa.specs.Machine.{symbols};
+ghost use Rattle.rc_strategy.specs.Plans.{IsLazyFor, IsLazyOver};
 ghost use Rattle.api_meta.specs.Plans.{plan_by};
 ghost use Rattle.api_meta.specs.Reaching.{longest_after};
 ghost use Rattle.rc_pattern.specs.Meaning.{meaning};
@@ -44,6 +45,8 @@ pub struct Regex {
         (map meaning hirs.items) engines.engine info },
     ghost planned: { ∥ IfSome engines.lazy
         (IsLazyFor (plan_by (map meaning hirs.items) (settings_of config))) ∥₁ },
+    ghost symbols: { ∥ IfSome engines.symbols
+        (IsLazyOver symbols (plan_by (map meaning hirs.items) (settings_of config))) ∥₁ },
     ghost measured: { longest ≡ longest_after (Some 0) (map meaning hirs.items) },
     ghost bounded: { engines.spans.greatest ≡ greatest_len (map meaning hirs.items) },
     ghost well_formed: { ∥ All IsWellFormed (map meaning hirs.items) ∥₁ },
@@ -383,6 +386,7 @@ impl Regex {
         ensures made { IfOk result (IsCacheIn self.now.engines
             (slot_len (names_of self.now.info))) }
         ensures both { IfOk result (λ c. is_some c.lazy ≡ is_some self.now.engines.lazy) }
+        ensures symbols { IfOk result (λ c. is_some c.symbols ≡ is_some self.now.engines.symbols) }
     {
         self.engines.create_cache(alloc, self.info.slot_len())
     }

@@ -25,6 +25,7 @@ pub record Settings : Type 0 where
   pub dfa_size_limit : Option (Option ℕ)
   pub dfa_state_limit : Option (Option ℕ)
   pub byte_classes : Option Bool
+  pub unicode_words : Option Bool
   pub backtrack : Option Bool
   pub line_terminator : Option ℕ
 
@@ -43,6 +44,7 @@ settings_of c = record {
   dfa_size_limit = c.dfa_size_limit;
   dfa_state_limit = c.dfa_state_limit;
   byte_classes = c.byte_classes;
+  unicode_words = c.unicode_words;
   backtrack = c.backtrack;
   line_terminator = c.line_terminator;
 }
@@ -63,6 +65,7 @@ unset = record {
   dfa_size_limit = None;
   dfa_state_limit = None;
   byte_classes = None;
+  unicode_words = None;
   backtrack = None;
   line_terminator = None;
 }
@@ -83,6 +86,7 @@ overwritten old new = record {
   dfa_size_limit = option_or new.dfa_size_limit old.dfa_size_limit;
   dfa_state_limit = option_or new.dfa_state_limit old.dfa_state_limit;
   byte_classes = option_or new.byte_classes old.byte_classes;
+  unicode_words = option_or new.unicode_words old.unicode_words;
   backtrack = option_or new.backtrack old.backtrack;
   line_terminator = option_or new.line_terminator old.line_terminator;
 }
@@ -122,6 +126,9 @@ dfa_state_limit_of s = unwrap_or s.dfa_state_limit (Some 30)
 
 abbrev pub byte_classes_of : Settings → Bool
 byte_classes_of s = unwrap_or s.byte_classes true
+
+abbrev pub unicode_words_of : Settings → Bool
+unicode_words_of s = unwrap_or s.unicode_words true
 
 abbrev pub line_terminator_of : Settings → ℕ
 line_terminator_of s = unwrap_or s.line_terminator 10

@@ -1,6 +1,6 @@
 //! Regex settings.
 ghost use Rattle.std.specs.Prelude.{◌≡◌, IfOk, Some, option_map};
-ghost use Rattle.rc_settings.specs.Settings.{settings_of, unset, overwritten, match_kind_of, utf8_empty_of, auto_prefilter_of, prefilter_of, which_captures_of, nfa_size_limit_of, hybrid_cache_capacity_of, hybrid_of, dfa_of, dfa_size_limit_of, dfa_state_limit_of, byte_classes_of, line_terminator_of, program_settings};
+ghost use Rattle.rc_settings.specs.Settings.{settings_of, unset, overwritten, match_kind_of, utf8_empty_of, auto_prefilter_of, prefilter_of, which_captures_of, nfa_size_limit_of, hybrid_cache_capacity_of, hybrid_of, dfa_of, dfa_size_limit_of, dfa_state_limit_of, byte_classes_of, unicode_words_of, line_terminator_of, program_settings};
 ghost use Rattle.rc_settings.specs.Thompson.{settings_of as program_settings_of};
 ghost use Rattle.rc_needles.specs.Prefilters.{needles_of};
 
@@ -26,6 +26,7 @@ pub struct Config {
     dfa_size_limit: Option<Option<usize>>,
     dfa_state_limit: Option<Option<usize>>,
     byte_classes: Option<bool>,
+    unicode_words: Option<bool>,
     backtrack: Option<bool>,
     line_terminator: Option<u8>,
 }
@@ -49,6 +50,7 @@ impl Config {
             dfa_size_limit: None,
             dfa_state_limit: None,
             byte_classes: None,
+            unicode_words: None,
             backtrack: None,
             line_terminator: None,
         }
@@ -167,6 +169,16 @@ impl Config {
         self
     }
 
+    /// Sets whether a search may use a lazy DFA that knows the characters around bytes past ASCII,
+    /// where assertions depend on Unicode words. Its states have the capacity that is set for a lazy
+    /// DFA. No search result depends on it.
+    pub fn unicode_words(mut self, yes: bool) -> Config
+        ensures { settings_of result ≡ record (settings_of self) { unicode_words = Some yes } }
+    {
+        self.unicode_words = Some(yes);
+        self
+    }
+
     /// This setting is kept, and has no effect.
     pub fn backtrack(mut self, yes: bool) -> Config
         ensures { settings_of result ≡ record (settings_of self) { backtrack = Some yes } }
@@ -273,6 +285,14 @@ impl Config {
         self.byte_classes.unwrap_or(true)
     }
 
+    /// Whether a search may use a lazy DFA that knows the characters around bytes past ASCII. The
+    /// default is true.
+    pub fn get_unicode_words(&self) -> bool
+        ensures { result ≡ unicode_words_of (settings_of self.now) }
+    {
+        self.unicode_words.unwrap_or(true)
+    }
+
     /// The byte that ends a line for `^` and `$`. The default is 10.
     pub fn get_line_terminator(&self) -> u8
         ensures { result ≡ line_terminator_of (settings_of self.now) }
@@ -303,6 +323,7 @@ impl Config {
             dfa_size_limit: self.dfa_size_limit,
             dfa_state_limit: self.dfa_state_limit,
             byte_classes: self.byte_classes,
+            unicode_words: self.unicode_words,
             backtrack: self.backtrack,
             line_terminator: self.line_terminator,
         })
@@ -337,6 +358,7 @@ pub fn overwrite(config: &mut Config, new: Config)
     config.dfa_size_limit = new.dfa_size_limit.or(config.dfa_size_limit);
     config.dfa_state_limit = new.dfa_state_limit.or(config.dfa_state_limit);
     config.byte_classes = new.byte_classes.or(config.byte_classes);
+    config.unicode_words = new.unicode_words.or(config.unicode_words);
     config.backtrack = new.backtrack.or(config.backtrack);
     config.line_terminator = new.line_terminator.or(config.line_terminator);
     if let Some(prefilter) = new.prefilter {

@@ -1,7 +1,8 @@
 -- What is replied to a question.
-use Rattle.std.proofs.Common.{◌≡◌, ◌∙◌, ℕ, ◌≤◌, Bool, true, false, true≢false, List, Option, Some, None, Result, Ok, IfOk, IfSome, ap, refl, sym, subst, arith}
+use Rattle.std.proofs.Common.{◌≡◌, ◌∙◌, ℕ, ◌≤◌, Bool, true, false, true≢false, List, Option, Some, None, Result, Ok, Err, IfOk, IfSome, ap, refl, sym, subst, arith}
 use Rattle.std.specs.Prelude.{is_some}
 use Rattle.std.specs.Option.{option_map}
+use Rattle.std.specs.Result.{result_ok}
 use Rattle.std.proofs.lemmas.Option.{none-some}
 use Rattle.std.proofs.lemmas.Result.{IfOk-weaker}
 use Rattle.rc_pattern.specs.Re.{Re}
@@ -29,6 +30,14 @@ use Rattle.rc_strategy.specs.declared.question.Question.{Question}
 use Rattle.rc_strategy.specs.declared.question.Question.TheVariants.{Match, End, Any, Earliest}
 use Rattle.rc_strategy.proofs.EarlyLemmas.{half_may_by, may_by}
 use Rattle.rc_strategy.proofs.TableLemmas.{found_there, tables_tell_any, tables_tell_by, tables_tell_end}
+
+-- what holds of an answer holds of it without the reason why there is none
+pub ok_then : {A E : Type 0} (r : Result A E) (o : Option A) (P : A → Type 0) → o ≡ result_ok r → IfOk r P → IfSome o P
+ok_then {A} {E} r o P is h = subst (λ x. IfSome x P) (sym is) (go r h)
+  where
+    go : (r : Result A E) → IfOk r P → IfSome (result_ok r) P
+    go (Ok x) h = h
+    go (Err e) h = tt
 
 -- the match of the kind is a reply to each
 pub match_replies : (q : Question) (kind : MatchKind) (s : Search) (o : Option Found) → o ≡ answer_by kind s → IsReply q kind s o

@@ -147,6 +147,15 @@ lesser e i o m n x y =
 pub answered : (e : Engine) (i : Searched) (r : ℕ) (o : Option Found) → IsAnswerBelow e.kind (engine_search e i) r o → o ≡ answer_by e.kind (engine_search e i)
 answered e i r o h = sym (h (engine_search e i) (engine_inside e i) (itself (engine_search e i) r))
 
+-- a symbol depends on bytes after its own
+pub seen_far : (e : Engine) (i : Searched) (r q : ℕ) (o : Option Found) → slice_end i + 1 < 2 ^ 64 → q ≡ min (r + 3) (2 ^ 64 - 1) →
+    IsAnswerBelow e.kind (engine_search e i) (r + 3) o → IsAnswerBelow e.kind (engine_search e i) q o
+seen_far e i r q o fits is h =
+    ⊎_elim
+    (λ over. answer_far e.kind (engine_search e i) q o (engine_inside e i) (omega (arith, is, over, fits)) (sym (answered e i (r + 3) o h)))
+    (λ within. let same : r + 3 ≡ q = omega (arith, is, within) in subst (λ n. IsAnswerBelow e.kind (engine_search e i) n o) same h)
+    (cases_lt (2 ^ 64 - 1) (r + 3))
+
 -- GROUPS
 
 settled_more : (e : Engine) (i : Searched) (r q : ℕ) (o : Option Found) → r ≤ q → IsAnswerBelow e.kind (engine_search e i) r o →

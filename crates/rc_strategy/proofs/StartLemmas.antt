@@ -224,4 +224,13 @@ pub same_then : (e : Engines) (c d f : Cache) → IsSameCacheIn e c d → IsSame
 same_then e c d f a b = record {
   pass = pass_then c.pass d.pass f.pass a.pass b.pass;
   lazy = states_then e.lazy c.lazy d.lazy f.lazy a.lazy b.lazy;
+  symbols = states_then e.symbols c.symbols d.symbols f.symbols a.symbols b.symbols;
+}
+
+-- and so does one that then leaves its states as they are
+pub pass_after : (e : Engines) (c d f : Cache) → IsSameCacheIn e c d → IsSameCache d.pass f.pass → f.lazy ≡ d.lazy → f.symbols ≡ d.symbols → IsSameCacheIn e c f
+pass_after e c d f a b same more = record {
+  pass = pass_then c.pass d.pass f.pass a.pass b;
+  lazy = subst (KeepsStates e.lazy c.lazy) (sym same) a.lazy;
+  symbols = subst (KeepsStates e.symbols c.symbols) (sym more) a.symbols;
 }

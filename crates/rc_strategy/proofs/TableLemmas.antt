@@ -20,7 +20,8 @@ use Rattle.rc_program.proofs.ReachLemmas.{longest_law}
 use Rattle.rc_program.specs.Places.{places_of}
 use Rattle.rc_program.specs.Program.{place_at, program, slot}
 use Rattle.rc_program.specs.Sought.{anchoring_of, search_over}
-use Rattle.rc_dfa.specs.Machine.{Machine}
+use Rattle.rc_dfa.specs.Machine.{Alphabet, Machine}
+use Rattle.rc_dfa_reach.specs.RunReach.{seen_to}
 use Rattle.rc_dfa_search.specs.Aims.{AreHalvesOf, search_for}
 use Rattle.rc_dfa_search.specs.Halves.{IsForwardHalf}
 use Rattle.rc_dfa_search.specs.Leftmost.{IsLeftmost}
@@ -35,7 +36,7 @@ use Rattle.rc_strategy.specs.Slots.{NamesGroups}
 use Rattle.rc_strategy.specs.Lengths.{BoundsWalks, is_leftmost}
 use Rattle.rc_strategy.specs.declared.lengths.Lengths.{Lengths}
 use Rattle.rc_strategy.specs.Starts.{unpassed}
-use Rattle.rc_strategy.specs.Tables.{AreHalvesFor, aim_of}
+use Rattle.rc_strategy.specs.Tables.{AreHalvesFor, AreHalvesOver, aim_of}
 use Rattle.rc_strategy.proofs.SettleLemmas.{answers_so, settled_by, settled_prop}
 use Rattle.rc_strategy.proofs.SlotLemmas.{program_names}
 use Rattle.rc_strategy.proofs.SpanLemmas.{ends_at_bound}
@@ -106,7 +107,7 @@ module _ (e : Engine) (patterns : ℕ) {AreOf : Machine → Machine → Type 0} 
   tables_tell_unpassed (Err x) tells = tt
   tables_tell_unpassed (Ok found) tells =
       told (hlevel props) (λ x hs. IsAnswerBy x.kind x.earliest (search_over (program hs) e.program.terminator false s) found)
-      (λ hs same h. tells hs same (record { ahead = h.ahead; back = h.back; are_of = h.are_of; machines = h.machines; counted = h.counted; few = h.few }))
+      (λ hs same h. tells hs same (record { ahead = h.ahead; back = h.back; are_of = h.are_of; alphabet = h.alphabet; machines = h.machines; counted = h.counted; few = h.few }))
       (λ hs same h. h ∙ ap (λ places. answer_by e.kind (search_over places e.program.terminator false s)) (sym same))
 
   -- and a search forwards its end, where it is that of the least start
@@ -122,13 +123,20 @@ module _ (e : Engine) (patterns : ℕ) {AreOf : Machine → Machine → Type 0} 
 
   -- how many bytes settle what a search by them tells
   pub tables_settle : (r : Result Settled MatchError) →
-      ((hs : List Re) → places_of e.program.places.items ≡ program hs → AreHalvesOf AreOf a hs e.program.terminator →
-      IfOk r (λ o. IsAnswerBelow a.kind (search_for a hs e.program.terminator s) o.reach o.found)) →
-      IfOk r (λ o. IsAnswerBelow e.kind (engine_search e s) o.reach o.found)
-  tables_settle (Err x) tells = tt
-  tables_settle (Ok o) tells =
-      told (hlevel props) (λ x hs. IsAnswerBelow x.kind (search_for x hs e.program.terminator s) o.reach o.found) tells
-      (λ hs same h. subst (λ places. IsAnswerBelow e.kind (search_over places e.program.terminator e.program.passes_over s) o.reach o.found) (sym same) h)
+      ((hs : List Re) → places_of e.program.places.items ≡ program hs → (of : AreHalvesOf AreOf a hs e.program.terminator) →
+      IfOk r (λ o. IsAnswerBelow a.kind (search_for a hs e.program.terminator s) (seen_to of.ahead.alphabet o.reach) o.found)) →
+      (alphabet : Alphabet) → ∥ AreHalvesOver alphabet e patterns AreOf ∥₁ →
+      IfOk r (λ o. IsAnswerBelow e.kind (engine_search e s) (seen_to alphabet o.reach) o.found)
+  tables_settle (Err x) tells alphabet read = tt
+  tables_settle (Ok o) tells alphabet read =
+      ∥∥₁_elim read (hlevel props)
+      (λ (f : AreHalvesOver alphabet e patterns AreOf).
+      let h = f.are_halves in
+      let Below : Aim → ℕ → Type 0 = λ x r. IsAnswerBelow x.kind (search_for x h.hs e.program.terminator s) r o.found in
+      let one : (x : Aim) → a ≡ x → (of : AreHalvesOf AreOf x h.hs e.program.terminator) → Below x (seen_to of.ahead.alphabet o.reach) =
+      λ x same. subst (λ y. (of : AreHalvesOf AreOf y h.hs e.program.terminator) → Below y (seen_to of.ahead.alphabet o.reach)) same (tells h.hs h.program) in
+      subst (λ places. IsAnswerBelow e.kind (search_over places e.program.terminator e.program.passes_over s) (seen_to alphabet o.reach) o.found) (sym h.program)
+      (subst (λ b. Below (aim_of e patterns) (seen_to b o.reach)) f.read (one (aim_of e patterns) is h.halves)))
 
   -- one forwards that stops early tells whether there is a match
   pub tables_tell_any : (o : Option HalfFound) →
@@ -137,7 +145,7 @@ module _ (e : Engine) (patterns : ℕ) {AreOf : Machine → Machine → Type 0} 
       is_some o ≡ is_some (answer_by e.kind (engine_search e s))
   tables_tell_any o tells =
       told (hlevel props) (λ x hs. IsForwardHalf x.kind true (search_for x hs e.program.terminator s) o)
-      (λ hs same h. tells hs same (record { ahead = h.ahead; back = h.back; are_of = h.are_of; machines = h.machines; counted = h.counted; few = h.few }))
+      (λ hs same h. tells hs same (record { ahead = h.ahead; back = h.back; are_of = h.are_of; alphabet = h.alphabet; machines = h.machines; counted = h.counted; few = h.few }))
       (λ hs same h. half_there e.kind (search_for (aim_of e patterns) hs e.program.terminator s) o h ∙ ap is_some (same_answer hs same))
 
   -- under the earliest flag a search tells what may be answered
@@ -150,7 +158,7 @@ module _ (e : Engine) (patterns : ℕ) {AreOf : Machine → Machine → Type 0} 
       let early = is_early earliest (engine_search e s) in
       answers_so early e.kind (engine_search e s) found
       (told (settled_prop early e.kind (engine_search e s) found) (λ x hs. IsAnswerBy x.kind earliest (search_for x hs e.program.terminator s) found)
-      (λ hs same h. tells hs same (record { ahead = h.ahead; back = h.back; are_of = h.are_of; machines = h.machines; counted = h.counted; few = h.few }))
+      (λ hs same h. tells hs same (record { ahead = h.ahead; back = h.back; are_of = h.are_of; alphabet = h.alphabet; machines = h.machines; counted = h.counted; few = h.few }))
       (λ hs same h. settled_by early e.kind (engine_search e s) found
       (subst (λ places. IsAnswerBy e.kind earliest (search_over places e.program.terminator e.program.passes_over s) found) (sym same) h)))
 
@@ -178,7 +186,7 @@ module _ (e : Engine) (patterns : ℕ) {AreOf : Machine → Machine → Type 0} 
   tables_tell_greatest_from_end k bound all free ends (Err x) tells = tt
   tables_tell_greatest_from_end k bound all free ends (Ok found) tells =
       told (hlevel props) (λ x hs. IsMatchToEnd x.earliest (search_over (program hs) e.program.terminator false s) found)
-      (λ hs same h. tells hs same (record { ahead = h.ahead; back = h.back; are_of = h.are_of; machines = h.machines; counted = h.counted; few = h.few }))
+      (λ hs same h. tells hs same (record { ahead = h.ahead; back = h.back; are_of = h.are_of; alphabet = h.alphabet; machines = h.machines; counted = h.counted; few = h.few }))
       (λ hs same h.
       let last = ends_at_bound k (program hs) e.program.terminator false s (subst (BoundsWalks k) same bound) ends in
       greatest_to_end (search_over (program hs) e.program.terminator false s) (ap anchoring_of free) last refl found h

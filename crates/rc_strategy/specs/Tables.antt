@@ -4,7 +4,7 @@ use Rattle.std.specs.Prelude.{◌≡◌, ℕ, ◌+◌, ◌*◌, false, List, len
 use Rattle.rc_pattern.specs.Re.{Re}
 use Rattle.rc_program.specs.Places.{places_of}
 use Rattle.rc_program.specs.Program.{program}
-use Rattle.rc_dfa.specs.Machine.{Machine}
+use Rattle.rc_dfa.specs.Machine.{Alphabet, Machine}
 use Rattle.rc_dense_dfa.specs.Halves.{AreHalves, bytes_of}
 use Rattle.rc_dense_dfa.specs.declared.dense.Dense.{Dense}
 use Rattle.rc_lazy_dfa.specs.Caches as lazy
@@ -31,6 +31,11 @@ pub record AreHalvesFor (engine : Engine) (patterns : ℕ) (AreOf : Machine → 
   pub program : places_of engine.program.places.items ≡ program hs
   pub halves : AreHalvesOf AreOf (aim_of engine patterns) hs engine.program.terminator
 
+-- They read this.
+pub record AreHalvesOver (alphabet : Alphabet) (engine : Engine) (patterns : ℕ) (AreOf : Machine → Machine → Type 0) : Type 0 where
+  pub are_halves : AreHalvesFor engine patterns AreOf
+  pub read : are_halves.halves.ahead.alphabet ≡ alphabet
+
 -- If there is a DFA, it has such halves.
 abbrev pub MayBeTablesFor : Engine → ℕ → Option Dense → Type 0
 MayBeTablesFor engine patterns tables = IfSome tables (λ d. AreHalvesFor engine patterns (AreHalves d))
@@ -38,6 +43,13 @@ MayBeTablesFor engine patterns tables = IfSome tables (λ d. AreHalvesFor engine
 -- If there is a lazy DFA, it has such halves.
 abbrev pub MayBeLazyFor : Engine → ℕ → Option Lazy → Type 0
 MayBeLazyFor engine patterns tables = IfSome tables (λ l. AreHalvesFor engine patterns (lazy.AreHalves l))
+
+-- They read this.
+abbrev pub MayBeTablesOver : Alphabet → Engine → ℕ → Option Dense → Type 0
+MayBeTablesOver alphabet engine patterns tables = IfSome tables (λ d. AreHalvesOver alphabet engine patterns (AreHalves d))
+
+abbrev pub MayBeLazyOver : Alphabet → Engine → ℕ → Option Lazy → Type 0
+MayBeLazyOver alphabet engine patterns tables = IfSome tables (λ l. AreHalvesOver alphabet engine patterns (lazy.AreHalves l))
 
 -- How many bytes the DFA takes.
 abbrev pub bytes_of_tables : Option Dense → ℕ

@@ -1,12 +1,13 @@
 //! Meta strategy: the engines of some patterns, and the searches that choose among them.
 ghost use Rattle.rc_text.specs.declared.types.Anchored.TheVariants.{No};
 ghost use Rattle.rc_program.specs.Places.{places_of};
+ghost use Rattle.rc_dfa.specs.Machine.{bytes, symbols as read_symbols};
 ghost use Rattle.rc_strategy.specs.Needed.{NeedsConfine};
 ghost use Rattle.rc_strategy.specs.Routes.{AreLongest, Serves, ServesAll};
 ghost use Rattle.rc_strategy.specs.Slots.{IsOfPatterns, MayBeOnePass, NamesGroups};
 ghost use Rattle.rc_strategy.specs.Lengths.{BoundsWalks};
 ghost use Rattle.rc_strategy.specs.Lookahead.{IsLookahead};
-ghost use Rattle.rc_strategy.specs.Tables.{MayBeLazyFor, MayBeTablesFor};
+ghost use Rattle.rc_strategy.specs.Tables.{MayBeLazyFor, MayBeLazyOver, MayBeTablesFor, MayBeTablesOver};
 ghost use Rattle.rc_strategy.specs.Worded.{AreSpelled};
 
 use crate::cache::Cache;
@@ -55,6 +56,8 @@ pub struct Limits {
     pub capacity: usize,
     /// Whether bytes that no step distinguishes are one class.
     pub byte_classes: bool,
+    /// Whether a lazy DFA over symbols may be built, for assertions that depend on Unicode words.
+    pub unicode_words: bool,
 }
 
 /// The engines of some patterns: the DFA or the lazy DFA, if there is one, and the Pike VM.
@@ -64,6 +67,8 @@ pub struct Engines {
     pub engine: Engine,
     pub(crate) tables: Option<Dense>,
     pub(crate) lazy: Option<Lazy>,
+    /// The lazy DFA over symbols, if some byte may not be read alone. It is asked where these quit.
+    pub(crate) symbols: Option<Lazy>,
     /// The one-pass DFA, if there are groups whose slots it can set.
     pub(crate) onepass: Option<OnePass>,
     pub(crate) patterns: usize,
@@ -84,6 +89,10 @@ pub struct Engines {
     pub(crate) anchored_route: Route,
     ghost fit: { ∥ MayBeTablesFor engine patterns tables ∥₁ },
     ghost lazy_fit: { ∥ MayBeLazyFor engine patterns lazy ∥₁ },
+    ghost symbols_fit: { ∥ MayBeLazyFor engine patterns symbols ∥₁ },
+    ghost read: { ∥ MayBeTablesOver bytes engine patterns tables ∥₁ },
+    ghost lazy_read: { ∥ MayBeLazyOver bytes engine patterns lazy ∥₁ },
+    ghost symbols_read: { ∥ MayBeLazyOver read_symbols engine patterns symbols ∥₁ },
     ghost single: { ∥ MayBeOnePass (places_of engine.program.places.items) onepass ∥₁ },
     ghost numbered: { NamesGroups patterns (places_of engine.program.places.items) },
     ghost programmed: { IsOfPatterns (places_of engine.program.places.items) },
@@ -122,7 +131,8 @@ impl Engines {
     ghost use Rattle.rc_strategy.specs.Early.{IsHalfBy};
     ghost use Rattle.rc_strategy.specs.Needed.{NeedsConfine};
     ghost use Rattle.rc_strategy.specs.Limits.{AreBarred, AreTooHeavy, IsLazyBarred};
-    ghost use Rattle.rc_strategy.specs.Plans.{IsLazyFor, IsShortFor, plan_of};
+    ghost use Rattle.rc_dfa.specs.Machine.{symbols as read_symbols};
+    ghost use Rattle.rc_strategy.specs.Plans.{IsLazyFor, IsLazyOver, IsShortFor, plan_of};
     ghost use Rattle.rc_strategy.specs.Lengths.{BoundsWalks};
     ghost use Rattle.rc_strategy.specs.Questions.{question_by};
     ghost use Rattle.rc_strategy.specs.Tables.{aim_of, bytes_taken};
@@ -133,8 +143,9 @@ impl Engines {
     ///
     /// The DFA is built if `dfa` is set, the byte program has at most `state_limit` places, and its
     /// states weigh at most `size_limit` bytes in each direction. Without it, the lazy DFA is built
-    /// if `hybrid` is set and `capacity` suffices. Neither is built if literals alone decide each
-    /// answer. The one-pass DFA is built if there are groups and the program is one-pass, and its
+    /// if `hybrid` is set and `capacity` suffices. If some byte may not be read alone, and
+    /// `unicode_words` is set too, so is a lazy DFA over symbols. None is built if literals alone
+    /// decide each answer. The one-pass DFA is built if there are groups and the program is one-pass, and its
     /// rows aren't large. `spans` has the lengths and anchors of the patterns' matches. `needs` has
     /// their required literals, by which searches go unless fast prefix literals guard them. `words`
     /// has the literals between two assertions, if the pattern is a list of them; they decide
@@ -165,6 +176,8 @@ impl Engines {
             ⊎ AreTooHeavy engine hs limits) }
         ensures planned { IfOk result (λ engines. IfSome engines.lazy
             (IsLazyFor (plan_of engine hs limits))) }
+        ensures symbols { IfOk result (λ engines. IfSome engines.symbols
+            (IsLazyOver read_symbols (plan_of engine hs limits))) }
         ensures lazy_barred { IfOk result
             (λ engines. IsLazyBarred engine limits engines.tables → engines.lazy ≡ None) }
         ensures lazy_none { IfOk result (λ engines. engines.lazy ≡ None
@@ -182,6 +195,7 @@ impl Engines {
             engine,
             tables: tables.dense,
             lazy: tables.lazy,
+            symbols: tables.symbols,
             onepass,
             patterns,
             spans,
@@ -211,14 +225,21 @@ impl Engines {
     }
 
     /// A cache for searches by these engines, with at most `slots` slots: for the Pike VM, and for
-    /// the lazy DFA if there is one. `Err` means out of memory.
+    /// lazy DFAs if there are some. `Err` means out of memory.
     pub fn create_cache(&self, alloc: Global, slots: usize) -> Result<Cache, AllocError>
         ensures made { IfOk result (IsCacheIn self.now slots) }
         ensures both { IfOk result (λ cache. is_some cache.lazy ≡ is_some self.now.lazy) }
+        ensures symbols { IfOk result (λ cache. is_some cache.symbols ≡ is_some self.now.symbols) }
     {
         let pass = self.engine.create_cache(alloc, slots)?;
+        let symbols = self.symbols_cache(alloc)?;
         let Some(tables) = &self.lazy else {
-            return Ok(Cache { pass, lazy: None });
+            let lazy = None;
+            return Ok(Cache {
+                pass,
+                lazy,
+                symbols,
+            });
         };
         let states = if self.goes_overlapping() {
             tables.create_overlapping_cache(alloc)?
@@ -228,6 +249,7 @@ impl Engines {
         Ok(Cache {
             pass,
             lazy: Some(states),
+            symbols,
         })
     }
 
@@ -410,7 +432,7 @@ impl Engines {
             return None;
         };
         let question = Question::Match;
-        if let Some(found) = self.ask_tables(&mut cache.lazy, input, question, bounds) {
+        if let Some(found) = self.ask_dfas(cache, input, question, bounds) {
             let found = found?;
             let pass = &mut cache.pass;
             self.fill_slots(pass, input, found, slots);

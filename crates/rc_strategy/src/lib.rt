@@ -18,6 +18,7 @@ mod route;
 mod search;
 mod slots;
 mod starts;
+mod symbols;
 mod tables;
 mod unpassed;
 mod which;

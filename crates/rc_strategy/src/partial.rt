@@ -11,7 +11,9 @@ use rc_dfa::halves::Halves;
 use rc_dfa_search::idle::last_idle;
 use rc_dfa_search::reach::tells_reach;
 use rc_dfa_search::search::{Bounds, bounds_of};
+use rc_dfa_search::undecided::last_idle_by_needles;
 use rc_lazy_dfa::lazy;
+use rc_literals::guard::Guard;
 use rc_text::cursor::Cursor;
 use rc_text::input::{Input, low};
 use rc_text::types::{Anchored, MatchError, MatchKind};
@@ -25,7 +27,8 @@ impl Engines {
     ghost use Rattle.rc_dfa_search.specs.Aims.{AreBounds};
     ghost use Rattle.rc_dfa_search.specs.Legs.{GoesByNeedles};
     ghost use Rattle.rc_strategy.specs.Caches.{IsCacheIn, IsCacheOfBoth, IsSameCacheIn, KeepsStates};
-    ghost use Rattle.rc_strategy.specs.Tables.{AreHalvesFor, aim_of};
+    ghost use Rattle.rc_dfa.specs.Machine.{bytes};
+    ghost use Rattle.rc_strategy.specs.Tables.{AreHalvesOver, aim_of};
 
     /// Whether a DFA tells where nothing is under way in a search of this input: it isn't anchored,
     /// is for the preferred match, and passes none over.
@@ -40,8 +43,8 @@ impl Engines {
         }
     }
 
-    /// Returns a position before which no match begins, by a DFA. An `Err` says why it has no
-    /// answer.
+    /// Returns a position before which no match begins, by a DFA. If each match begins with a needle
+    /// that is sought fast, it goes from needle to needle. An `Err` says why it has no answer.
     fn idle_in<H: Halves, C: Cursor>(
         &self,
         halves: &H,
@@ -49,7 +52,7 @@ impl Engines {
         input: &mut Input<C>,
         bounds: Bounds,
     ) -> Result<usize, MatchError>
-        requires own { ∥ AreHalvesFor self.now.engine self.now.patterns (H.AreOf halves.now) ∥₁ }
+        requires own { ∥ AreHalvesOver bytes self.now.engine self.now.patterns (H.AreOf halves.now) ∥₁ }
         requires cache { H.IsCache halves.now cache.old }
         requires goes { GoesByNeedles (aim_of self.now.engine self.now.patterns) input.old.anchored }
         requires preferred { self.now.engine.kind ≡ LeftmostFirst }
@@ -60,6 +63,10 @@ impl Engines {
             (engine_search self.now.engine input.old) (from_place k)) }
         ensures within { IfOk result (λ k. (low input.old ≤ k) × (k ≤ high input.old)) }
     {
+        if let Some(Guard::Begins(needles)) = self.guard() {
+            let longest_len = self.longest.prefix;
+            return last_idle_by_needles(halves, cache, input, needles, longest_len, bounds);
+        }
         last_idle(halves, cache, input, self.aim(), bounds)
     }
 

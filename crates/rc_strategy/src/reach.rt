@@ -25,6 +25,9 @@ use rc_text::cursor::Cursor;
 use rc_text::input::{Input, content_fits};
 use rc_text::types::{Anchored, Match, MatchError, MatchKind, PatternID};
 
+/// How many bytes after its own a symbol depends on, at most.
+const SYMBOL_TAIL: usize = 3;
+
 /// A search that may have looked at the end of the slice and the byte there.
 #[inline(always)]
 pub(crate) fn settled_at_end<C: Cursor>(input: &Input<C>, found: Option<Match>) -> Settled
@@ -68,7 +71,9 @@ impl Engines {
     ghost use Rattle.rc_strategy.specs.Caches.{IsCacheIn, IsCacheOfBoth, IsSameCacheIn, KeepsStates};
     ghost use Rattle.rc_strategy.specs.Lengths.{is_leftmost};
     ghost use Rattle.rc_strategy.specs.Lookahead.{IsNearBy};
-    ghost use Rattle.rc_strategy.specs.Tables.{AreHalvesFor, aim_of};
+    ghost use Rattle.rc_dfa.specs.Machine.{Alphabet};
+    ghost use Rattle.rc_dfa_reach.specs.RunReach.{seen_to};
+    ghost use Rattle.rc_strategy.specs.Tables.{AreHalvesFor, AreHalvesOver, aim_of};
 
     /// Whether a DFA search of this input tells its reach: it goes forwards, and the match is
     /// leftmost.
@@ -102,8 +107,10 @@ impl Engines {
         requires begins { self.now.spans.begins ≡ true }
         ensures cache { H.IsCache halves.now cache.new }
         ensures keeps { Keeps input.old input.new }
-        ensures settled { IfOk result (λ o. IsAnswerBelow self.now.engine.kind
-            (engine_search self.now.engine input.old) o.reach o.found) }
+        ensures settled { (alphabet : Alphabet)
+            → ∥ AreHalvesOver alphabet self.now.engine self.now.patterns (H.AreOf halves.now) ∥₁
+            → IfOk result (λ o. IsAnswerBelow self.now.engine.kind
+            (engine_search self.now.engine input.old) (seen_to alphabet o.reach) o.found) }
         ensures within { IfOk result (λ o. IfSome o.found (IsWithinBounds input.old)) }
     {
         let aim = self.aim();
@@ -135,8 +142,10 @@ impl Engines {
         requires longest { self.now.longest.prefix ≡ longest (needles_of needles.now) }
         ensures cache { H.IsCache halves.now cache.new }
         ensures keeps { Keeps input.old input.new }
-        ensures settled { IfOk result (λ o. IsAnswerBelow self.now.engine.kind
-            (engine_search self.now.engine input.old) o.reach o.found) }
+        ensures settled { (alphabet : Alphabet)
+            → ∥ AreHalvesOver alphabet self.now.engine self.now.patterns (H.AreOf halves.now) ∥₁
+            → IfOk result (λ o. IsAnswerBelow self.now.engine.kind
+            (engine_search self.now.engine input.old) (seen_to alphabet o.reach) o.found) }
         ensures within { IfOk result (λ o. IfSome o.found (IsWithinBounds input.old)) }
     {
         let aim = self.aim();
@@ -165,8 +174,10 @@ impl Engines {
         requires tells { TellsReach (aim_of self.now.engine self.now.patterns) }
         ensures cache { H.IsCache halves.now cache.new }
         ensures keeps { Keeps input.old input.new }
-        ensures settled { IfOk result (λ o. IsAnswerBelow self.now.engine.kind
-            (engine_search self.now.engine input.old) o.reach o.found) }
+        ensures settled { (alphabet : Alphabet)
+            → ∥ AreHalvesOver alphabet self.now.engine self.now.patterns (H.AreOf halves.now) ∥₁
+            → IfOk result (λ o. IsAnswerBelow self.now.engine.kind
+            (engine_search self.now.engine input.old) (seen_to alphabet o.reach) o.found) }
         ensures within { IfOk result (λ o. IfSome o.found (IsWithinBounds input.old)) }
     {
         let aim = self.aim();
@@ -196,8 +207,10 @@ impl Engines {
         requires tells { TellsReach (aim_of self.now.engine self.now.patterns) }
         ensures cache { H.IsCache halves.now cache.new }
         ensures keeps { Keeps input.old input.new }
-        ensures settled { IfOk result (λ o. IsAnswerBelow self.now.engine.kind
-            (engine_search self.now.engine input.old) o.reach o.found) }
+        ensures settled { (alphabet : Alphabet)
+            → ∥ AreHalvesOver alphabet self.now.engine self.now.patterns (H.AreOf halves.now) ∥₁
+            → IfOk result (λ o. IsAnswerBelow self.now.engine.kind
+            (engine_search self.now.engine input.old) (seen_to alphabet o.reach) o.found) }
         ensures within { IfOk result (λ o. IfSome o.found (IsWithinBounds input.old)) }
     {
         match self.route(input) {
@@ -235,26 +248,60 @@ impl Engines {
         }
     }
 
-    /// Returns the match by a DFA, and how many bytes settle it: those at which a search forwards
-    /// looked, if the match is leftmost. Returns None if there is no DFA, or it has no answer.
-    fn settle_by_tables<C: Cursor>(
+    /// Returns the match by the lazy DFA over symbols, if the cache has its states, and how many
+    /// bytes settle it. Returns None if there is none, or it has no answer.
+    fn settle_symbols<C: Cursor>(
         &self,
         cache: &mut Option<lazy::Cache>,
         input: &mut Input<C>,
         bounds: Bounds,
     ) -> Option<Settled>
-        requires made { IsCacheOfBoth self.now.lazy cache.old }
+        requires made { IsCacheOfBoth self.now.symbols cache.old }
+        requires bounds { AreBounds input.old bounds }
+        requires tells { TellsReach (aim_of self.now.engine self.now.patterns) }
+        ensures keeps { Keeps input.old input.new }
+        ensures settled { IfSome result (λ o. IsAnswerBelow self.now.engine.kind
+            (engine_search self.now.engine input.old) o.reach o.found) }
+        ensures within { IfSome result (λ o. IfSome o.found (IsWithinBounds input.old)) }
+        ensures cache { KeepsStates self.now.symbols cache.old cache.new }
+    {
+        content_fits(input);
+        let Some(tables) = &self.symbols else {
+            return None;
+        };
+        let Some(states) = cache else {
+            return None;
+        };
+        let settled = self.settle(tables, states, input, bounds).ok()?;
+        Some(Settled {
+            found: settled.found,
+            reach: settled.reach.saturating_add(SYMBOL_TAIL),
+        })
+    }
+
+    /// Returns the match by a DFA, and how many bytes settle it: those at which a search forwards
+    /// looked, if the match is leftmost. Returns None if there is no DFA, or it has no answer.
+    fn settle_by_tables<C: Cursor>(
+        &self,
+        cache: &mut Cache,
+        input: &mut Input<C>,
+        bounds: Bounds,
+    ) -> Option<Settled>
+        requires made { IsCacheIn self.now 0 cache.old }
         requires bounds { AreBounds input.old bounds }
         ensures keeps { Keeps input.old input.new }
         ensures settled { IfSome result (λ o. IsAnswerBelow self.now.engine.kind
             (engine_search self.now.engine input.old) o.reach o.found) }
         ensures within { IfSome result (λ o. IfSome o.found (IsWithinBounds input.old)) }
-        ensures cache { KeepsStates self.now.lazy cache.old cache.new }
+        ensures cache { IsSameCacheIn self.now cache.old cache.new }
     {
         if self.tells_reach(input) {
-            return self.settle_along(cache, input, bounds);
+            if let Some(settled) = self.settle_along(&mut cache.lazy, input, bounds) {
+                return Some(settled);
+            }
+            return self.settle_symbols(&mut cache.symbols, input, bounds);
         }
-        let found = self.ask_tables(cache, input, Question::Match, bounds)?;
+        let found = self.ask_dfas(cache, input, Question::Match, bounds)?;
         Some(settled_at_end(input, found))
     }
 
@@ -273,7 +320,7 @@ impl Engines {
         let Some(bounds) = self.spans.bounds(input) else {
             return settled_at_end(input, None);
         };
-        if let Some(settled) = self.settle_by_tables(&mut cache.lazy, input, bounds) {
+        if let Some(settled) = self.settle_by_tables(cache, input, bounds) {
             return settled;
         }
         settle_by_pass(&self.engine, &mut cache.pass, input)

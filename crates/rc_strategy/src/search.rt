@@ -20,7 +20,7 @@ use std::alloc::{AllocError, Global};
 
 /// If a lazy DFA's cache would have to be made, the Pike VM searches instead if the bounds are
 /// fewer bytes apart: building states takes longer than a pass over so few bytes.
-const SHORT: usize = 1024;
+pub(crate) const SHORT: usize = 1024;
 
 impl Engines {
     ghost use Rattle.std.specs.Prelude.{◌≡◌, true, IfOk, IfSome, IsTrue};
@@ -192,7 +192,7 @@ impl Engines {
     /// if there is a guard, and the match may be near a slow prefix literal. Returns
     /// None if the DFA has no answer.
     #[inline(never)]
-    fn ask_by_route<H: Halves, C: Cursor>(
+    pub(crate) fn ask_by_route<H: Halves, C: Cursor>(
         &self,
         halves: &H,
         cache: &mut H::Cache,
@@ -286,9 +286,9 @@ impl Engines {
 
     /// Replies to a question. If the lengths and anchors of the patterns rule a match out between
     /// the bounds, nothing is searched. Else literals decide if they alone can, else a DFA. If
-    /// there is no DFA, or it quits or gives up, the Pike VM searches. It allocates nothing but
-    /// states that the lazy DFA reaches for the first time, within the cache's capacity. If that is
-    /// refused, the Pike VM searches.
+    /// there is no DFA, or it quits, the lazy DFA over symbols searches, and else the Pike VM. It
+    /// allocates nothing but states that a lazy DFA reaches for the first time, within the cache's
+    /// capacity. If that is refused, the Pike VM searches.
     pub(crate) fn ask<C: Cursor>(
         &self,
         cache: &mut Cache,
@@ -305,7 +305,7 @@ impl Engines {
         let Some(bounds) = self.spans.bounds(input) else {
             return None;
         };
-        if let Some(found) = self.ask_tables(&mut cache.lazy, input, question, bounds) {
+        if let Some(found) = self.ask_dfas(cache, input, question, bounds) {
             return found;
         }
         ask_pass(&self.engine, &mut cache.pass, input, question)
@@ -346,6 +346,12 @@ impl Engines {
         let mut states = self.states_for(alloc, bounds)?;
         let told = self.ask_tables(&mut states, input, question, bounds);
         drop(states);
+        if let Some(found) = told {
+            return Ok(found);
+        }
+        let mut symbols = self.symbols_for(alloc, bounds)?;
+        let told = self.ask_symbols(&mut symbols, input, question, bounds);
+        drop(symbols);
         if let Some(found) = told {
             return Ok(found);
         }

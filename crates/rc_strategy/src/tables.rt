@@ -5,13 +5,15 @@ ghost use Rattle.rc_pattern.specs.Re.{Re};
 ghost use Rattle.rc_program.specs.Laws.{heaviness};
 ghost use Rattle.rc_program.specs.Places.{places_of};
 ghost use Rattle.rc_program.specs.Program.{program};
-ghost use Rattle.rc_dfa.specs.Automata.{machine_of};
+ghost use Rattle.rc_dfa.specs.Automata.{classes_of, machine_of};
+ghost use Rattle.rc_dfa.specs.Machine.{bytes};
 ghost use Rattle.rc_dfa.specs.declared.automaton.Direction.TheVariants.{Backwards, Forwards};
 ghost use Rattle.rc_lazy_dfa.specs.Caches.{IsLazyOf, least_of};
+ghost use Rattle.rc_dfa_search.specs.Classes.{AreClassesOf};
 ghost use Rattle.rc_dfa_search.specs.Machines.{AreMachines};
 ghost use Rattle.rc_strategy.specs.Limits.{AreOff, AreTooHeavy};
-ghost use Rattle.rc_strategy.specs.Makes.{AreMade};
-ghost use Rattle.rc_strategy.specs.Tables.{MayBeTablesFor};
+ghost use Rattle.rc_strategy.specs.Makes.{AreMade, AreOverSymbols};
+ghost use Rattle.rc_strategy.specs.Tables.{MayBeTablesFor, MayBeTablesOver};
 
 use crate::engines::Limits;
 use rc_dense_dfa::dense::Dense;
@@ -25,11 +27,12 @@ use rc_pikevm_search::engine::Engine;
 use rc_pikevm_search::literals::{Literals, guards_of, literals_of};
 use std::alloc::{AllocError, Global};
 
-/// The DFA, or the lazy DFA, or neither.
+/// The DFA, or the lazy DFA, or neither; and the lazy DFA over symbols, if there is one.
 #[derive(Drop)]
 pub(crate) struct Tables {
     pub(crate) dense: Option<Dense>,
     pub(crate) lazy: Option<Lazy>,
+    pub(crate) symbols: Option<Lazy>,
 }
 
 /// Whether a program of this many places has more than the limit allows.
@@ -83,6 +86,7 @@ fn dense_of(
     requires patterns { patterns ≡ length hs }
     requires light { heaviness (places_of engine.now.program.places.items) ≤ greatest_weight }
     ensures fit { IfOk result (MayBeTablesFor engine.now patterns) }
+    ensures read { IfOk result (MayBeTablesOver bytes engine.now patterns) }
     ensures off { AreOff hs limits → IfOk result (λ tables. tables ≡ None) }
     ensures none { IfOk result (λ tables. tables ≡ None → AreOff hs limits
         ⊎ AreTooHeavy engine.now hs limits) }
@@ -118,6 +122,55 @@ fn lazy_of(automaton: Automaton, limits: Limits) -> Option<Lazy>
     }
 }
 
+/// Builds the determinizer of `patterns` patterns from their engine's program. `Err` means out of
+/// memory.
+fn automaton_for(
+    alloc: Global,
+    engine: &Engine,
+    patterns: usize,
+    limits: Limits,
+) -> Result<Automaton, AllocError>
+    ghost hs: { List Re }
+    requires program { places_of engine.now.program.places.items ≡ program hs }
+    requires patterns { patterns ≡ length hs }
+    requires light { heaviness (places_of engine.now.program.places.items) ≤ greatest_weight }
+    ensures machines { IfOk result (λ automaton. AreMachines hs engine.now.program.terminator
+        engine.now.kind (machine_of automaton Forwards) (machine_of automaton Backwards)) }
+    ensures classes { IfOk result (λ automaton. AreClassesOf limits.byte_classes hs
+        engine.now.program.terminator (classes_of automaton)) }
+{
+    automaton_of(
+        alloc,
+        &engine.program.places,
+        patterns,
+        engine.program.terminator,
+        engine.kind,
+        limits.byte_classes,
+    )
+}
+
+/// Builds the lazy DFA over symbols, if some byte may not be read alone, and the limits allow it.
+/// `Err` means out of memory.
+fn symbols_of(
+    alloc: Global,
+    engine: &Engine,
+    automaton: &Automaton,
+    patterns: usize,
+    limits: Limits,
+) -> Result<Option<Lazy>, AllocError>
+    ghost hs: { List Re }
+    requires program { places_of engine.now.program.places.items ≡ program hs }
+    requires patterns { patterns ≡ length hs }
+    requires light { heaviness (places_of engine.now.program.places.items) ≤ greatest_weight }
+    ensures { IfOk result (AreOverSymbols engine.now patterns hs limits) }
+{
+    if !limits.unicode_words || automaton.may_read(Some(128)) {
+        return Ok(None);
+    }
+    let own = automaton_for(alloc, engine, patterns, limits)?;
+    Ok(lazy_of(own.over_symbols(), limits))
+}
+
 /// Builds the DFA or the lazy DFA of `patterns` patterns from their engine's program, as the limits
 /// allow. If literals alone decide each answer, neither is built. `needed` says that searches go by
 /// required literals. `Err` means out of memory.
@@ -132,33 +185,40 @@ pub(crate) fn tables_of(
     requires program { places_of engine.now.program.places.items ≡ program hs }
     requires patterns { patterns ≡ length hs }
     requires light { heaviness (places_of engine.now.program.places.items) ≤ greatest_weight }
-    ensures { IfOk result (λ tables. AreMade engine.now patterns hs limits
+    ensures made { IfOk result (λ tables. AreMade engine.now patterns hs limits
         tables.dense tables.lazy) }
+    ensures symbols { IfOk result (λ tables. AreOverSymbols engine.now patterns hs limits
+        tables.symbols) }
 {
     if literals_of(&engine.literals, engine.kind).is_some() {
         return Ok(Tables {
             dense: None,
             lazy: None,
+            symbols: None,
         });
     }
     if !limits.dfa && !limits.hybrid {
         return Ok(Tables {
             dense: None,
             lazy: None,
+            symbols: None,
         });
     }
-    let automaton = automaton_of(
-        alloc,
-        &engine.program.places,
-        patterns,
-        engine.program.terminator,
-        engine.kind,
-        limits.byte_classes,
-    )?;
+    let automaton = automaton_for(alloc, engine, patterns, limits)?;
+    let symbols = symbols_of(alloc, engine, &automaton, patterns, limits)?;
     let dense = dense_of(alloc, engine, needed, &automaton, patterns, limits)?;
     if dense.is_some() {
-        return Ok(Tables { dense, lazy: None });
+        let lazy = None;
+        return Ok(Tables {
+            dense,
+            lazy,
+            symbols,
+        });
     }
     let lazy = lazy_of(automaton, limits);
-    Ok(Tables { dense, lazy })
+    Ok(Tables {
+        dense,
+        lazy,
+        symbols,
+    })
 }

@@ -6,6 +6,7 @@ ghost use Rattle.rc_pikevm_search.specs.Engine.{engine_search};
 ghost use Rattle.rc_strategy.specs.Starts.{unpassed};
 ghost use Rattle.rc_strategy.specs.Tables.{AreHalvesFor};
 
+use crate::cache::Cache;
 use crate::engines::Engines;
 use crate::route::TableChoice;
 use rc_dense_dfa::dense::NoCache;
@@ -47,12 +48,12 @@ impl Engines {
     ghost use Rattle.rc_text.specs.Text.{Keeps};
     ghost use Rattle.rc_program.specs.Kinds.{answer_by};
     ghost use Rattle.rc_pikevm_search.specs.Engine.{engine_search};
-    ghost use Rattle.rc_strategy.specs.Caches.{IsCacheOfBoth, KeepsStates};
+    ghost use Rattle.rc_strategy.specs.Caches.{IsCacheIn, IsCacheOfBoth, IsSameCacheIn, KeepsStates};
     ghost use Rattle.rc_strategy.specs.Starts.{unpassed};
 
     /// Returns the match by the DFA, or else by the lazy DFA if the cache has its states, as if
     /// none were passed over. Returns None if there is neither, or it has no answer.
-    pub(crate) fn find_unpassed<C: Cursor>(
+    fn find_by_bytes<C: Cursor>(
         &self,
         cache: &mut Option<lazy::Cache>,
         input: &mut Input<C>,
@@ -75,5 +76,46 @@ impl Engines {
             }
             TableChoice::NoTables => None,
         }
+    }
+
+    /// Returns the match by the lazy DFA over symbols, if the cache has its states, as if none were
+    /// passed over. Returns None if there is none, or it has no answer.
+    fn find_by_symbols<C: Cursor>(
+        &self,
+        cache: &mut Option<lazy::Cache>,
+        input: &mut Input<C>,
+    ) -> Option<Option<Match>>
+        requires made { IsCacheOfBoth self.now.symbols cache.old }
+        ensures keeps { Keeps input.old input.new }
+        ensures found { IfSome result (λ found. found ≡ answer_by self.now.engine.kind
+            (unpassed (engine_search self.now.engine input.old))) }
+        ensures cache { KeepsStates self.now.symbols cache.old cache.new }
+    {
+        let Some(tables) = &self.symbols else {
+            return None;
+        };
+        let Some(states) = cache else {
+            return None;
+        };
+        find_by_tables(self, tables, states, input).ok()
+    }
+
+    /// Returns the match by a DFA, as if none were passed over: by the lazy DFA over symbols if the
+    /// others have no answer. Returns None if none has.
+    pub(crate) fn find_unpassed<C: Cursor>(
+        &self,
+        cache: &mut Cache,
+        input: &mut Input<C>,
+    ) -> Option<Option<Match>>
+        requires made { IsCacheIn self.now 0 cache.old }
+        ensures keeps { Keeps input.old input.new }
+        ensures found { IfSome result (λ found. found ≡ answer_by self.now.engine.kind
+            (unpassed (engine_search self.now.engine input.old))) }
+        ensures cache { IsSameCacheIn self.now cache.old cache.new }
+    {
+        if let Some(found) = self.find_by_bytes(&mut cache.lazy, input) {
+            return Some(found);
+        }
+        self.find_by_symbols(&mut cache.symbols, input)
     }
 }

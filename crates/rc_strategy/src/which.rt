@@ -109,7 +109,7 @@ impl Engines {
         ensures cache { IsSameCacheIn self.now cache.old cache.new }
     {
         if self.engine.program.passes_over {
-            return self.find_unpassed(&mut cache.lazy, input);
+            return self.find_unpassed(cache, input);
         }
         if literals_of(&self.engine.literals, self.engine.kind).is_some() {
             return Some(self.engine.find(&mut cache.pass, input));
@@ -117,7 +117,7 @@ impl Engines {
         let Some(bounds) = self.spans.bounds(input) else {
             return Some(None);
         };
-        self.ask_tables(&mut cache.lazy, input, Question::Match, bounds)
+        self.ask_dfas(cache, input, Question::Match, bounds)
     }
 
     /// Returns from where on a pass finds each walk: none begins earlier. Returns None if there is
@@ -145,7 +145,7 @@ impl Engines {
                 Some(None) => None,
                 None => Some(bounds.low),
             },
-            MatchKind::All => match self.ask_tables(&mut cache.lazy, input, Question::Any, bounds) {
+            MatchKind::All => match self.ask_dfas(cache, input, Question::Any, bounds) {
                 Some(None) => None,
                 _ => Some(bounds.low),
             },

@@ -113,8 +113,8 @@ fn regexes(alloc: Global) -> Result<String, meta::BuildError> {
 const REGEXES: &str =
     "Regex { pattern_len: 2, config: Config { match_kind: None, utf8_empty: None, auto_prefilter: None, \
     prefilter: None, which_captures: None, nfa_size_limit: None, onepass_size_limit: None, hybrid_cache_capacity: None, \
-    hybrid: None, dfa: None, dfa_size_limit: None, dfa_state_limit: None, byte_classes: None, backtrack: None, \
-    line_terminator: None }, .. }
+    hybrid: None, dfa: None, dfa_size_limit: None, dfa_state_limit: None, byte_classes: None, unicode_words: None, \
+    backtrack: None, line_terminator: None }, .. }
 PikeVM { pattern_len: 2, config: Config { match_kind: None, prefilter: None }, thompson: Config { utf8: None, \
     nfa_size_limit: None, which_captures: None, line_terminator: None }, .. }
 Regex { dfa: DFA { pattern_len: 2, config: Config { match_kind: None, prefilter: None }, thompson: Config { utf8: None, \

@@ -13,7 +13,8 @@ use Rattle.rc_settings.specs.Which.{is_grouped}
 use Rattle.rc_reach.specs.Laws.{greatest_len}
 use Rattle.rc_build.specs.Refusals.{IsBuildable, limit_of}
 use Rattle.rc_build.proofs.Runnable.{bounded}
-use Rattle.rc_strategy.specs.Plans.{IsLazyFor}
+use Rattle.rc_dfa.specs.Machine.{symbols}
+use Rattle.rc_strategy.specs.Plans.{IsLazyFor, IsLazyOver}
 use Rattle.api_meta.specs.Plans.{plan_by}
 use Rattle.api_meta.specs.Reaching.{longest_after}
 use Rattle.api_meta.proofs.builder.build.Goals as goal
@@ -45,6 +46,28 @@ engines_of-requires c =
       ),
     )
 
+pub invariant_of-engines-in_err-config : goal.invariant_of-engines-in_err-config
+invariant_of-engines-in_err-config c =
+    let e = c.in_ok-engines.engines in
+    record {
+      fit = e.fit;
+      lazy_fit = e.lazy_fit;
+      symbols_fit = e.symbols_fit;
+      read = e.read;
+      lazy_read = e.lazy_read;
+      symbols_read = e.symbols_read;
+      single = e.single;
+      numbered = e.numbered;
+      programmed = e.programmed;
+      bound = e.bound;
+      needed = e.needed;
+      worded = e.worded;
+      measured = e.measured;
+      looking = e.looking;
+      free = e.free;
+      anchored = e.anchored;
+    }
+
 pub invariant_of-result-clause-well_formed : goal.invariant_of-result-clause-well_formed
 invariant_of-result-clause-well_formed c =
     let b = c.in_ok-built.ensures in ∣ subst (λ xs. All IsWellFormed xs) (sym b.patterns) b.buildable.well_formed ∣₁
@@ -56,6 +79,14 @@ invariant_of-result-clause-planned c =
     ∣ subst (λ xs. IfSome engines.lazy (IsLazyFor (plan_by xs (all_of c.in_ok-config.config)))) same
     (subst (λ s. IfSome engines.lazy (IsLazyFor (plan_by (map meaning c.deref.result.now) s))) (sym c.in_ok-config.ensures)
     c.in_ok-engines.ensures.planned) ∣₁
+
+pub invariant_of-result-clause-symbols : goal.invariant_of-result-clause-symbols
+invariant_of-result-clause-symbols c =
+    let same : map meaning c.deref.result.now ≡ map meaning c.in_ok-built.built.hirs.items = ap (λ xs. map meaning xs) c.deref.ensures.value in
+    let engines = c.in_ok-engines.engines in
+    ∣ subst (λ xs. IfSome engines.symbols (IsLazyOver symbols (plan_by xs (all_of c.in_ok-config.config)))) same
+    (subst (λ s. IfSome engines.symbols (IsLazyOver symbols (plan_by (map meaning c.deref.result.now) s))) (sym c.in_ok-config.ensures)
+    c.in_ok-engines.ensures.symbols) ∣₁
 
 pub invariant_of-result-clause-measured : goal.invariant_of-result-clause-measured
 invariant_of-result-clause-measured c =

@@ -5,7 +5,7 @@ use Rattle.std.proofs.lemmas.List.{length-map}
 use Rattle.std.proofs.lemmas.Result.{IfOk-weaker}
 use Rattle.rc_pattern.specs.Meaning.{meaning}
 use Rattle.rc_pattern.specs.WellFormed.{HasBounds}
-use Rattle.rc_program.specs.Program.{program}
+use Rattle.rc_program.specs.Program.{program, shown}
 use Rattle.rc_program.specs.Text.{Text}
 use Rattle.rc_needles.specs.Prefilters.{needles_of}
 use Rattle.rc_literals.specs.Needs.{Confines, Holds, LeavesOut}
@@ -14,15 +14,18 @@ use Rattle.rc_literals.proofs.ConfineLemmas.{need_law}
 use Rattle.rc_words.specs.Words.{AreBetween, SpellWords, between_in}
 use Rattle.rc_words.specs.declared.words.Words.{Words}
 use Rattle.rc_words.proofs.AnswerLemmas.{word_law}
-use Rattle.rc_settings.specs.Settings.{settings_of, program_settings}
+use Rattle.rc_settings.specs.Settings.{Settings, settings_of, program_settings, byte_classes_of, hybrid_cache_capacity_of, line_terminator_of, match_kind_of}
 use Rattle.rc_settings.specs.Thompson.{which_captures_of}
 use Rattle.rc_settings.specs.Which.{is_grouped}
 use Rattle.rc_program.proofs.GroupLemmas.{length-shown}
 use Rattle.rc_text.specs.declared.types.MatchKind.{MatchKind}
 use Rattle.rc_pattern.specs.Re.{Re}
 use Rattle.rc_reach.specs.Laws.{greatest_len}
-use Rattle.rc_strategy.specs.Plans.{IsLazyFor, LazyPlan, plan_of}
+use Rattle.rc_strategy.specs.Plans.{IsLazyFor, IsLazyOver, LazyPlan, plan_of}
+use Rattle.rc_dfa.specs.Machine.{symbols}
+use Rattle.rc_pikevm_search.specs.declared.engine.Engine.{Engine}
 use Rattle.rc_strategy.specs.declared.engines.Engines.{Engines}
+use Rattle.rc_strategy.specs.declared.engines.Limits.{Limits}
 use Rattle.rc_strategy.specs.declared.lengths.Lengths.{Lengths}
 use Rattle.rc_strategy.proofs.SpanLemmas.{bounds_walks}
 use Rattle.api_meta.specs.Plans.{plan_by}
@@ -54,18 +57,29 @@ returns-clause-bounded g c =
     IfOk-weaker c.new.result (λ (v : Engines). v.spans ≡ c.of.result) (λ (v : Engines). v.spans.greatest ≡ greatest_len (map meaning c.args.hirs.now))
     (λ v e. ap (λ (k : Lengths). k.greatest) e ∙ c.of.ensures.greatest) c.new.ensures.spans
 
-pub returns-clause-planned : goal.returns-clause-planned
-returns-clause-planned g c =
-    let s = settings_of c.args.config.now in
-    let hs = map meaning c.args.hirs.now in
+-- the plan of the engine is that of the patterns under the settings
+same_plan : (e : Engine) (hs kept : List Re) (s : Settings) (l : Limits) → kept ≡ shown (is_grouped (which_captures_of (program_settings s))) hs →
+    e.program.terminator ≡ line_terminator_of s → e.kind ≡ match_kind_of s → l.byte_classes ≡ byte_classes_of s → l.capacity ≡ hybrid_cache_capacity_of s →
+    plan_of e kept l ≡ plan_by hs s
+same_plan e hs kept s l patterns terminator kind classes capacity =
     let plan : List Re → ℕ → MatchKind → Bool → ℕ → LazyPlan =
     λ hs t k b n. record { patterns = hs; terminator = t; kind = k; byte_classes = b; capacity = n } in
-    let e = c.args.engine in
-    let l = c.limits_of.result in
-    let same : plan_of e g.shown_hirs l ≡ plan_by hs s =
-    ap (λ xs. plan xs e.program.terminator e.kind l.byte_classes l.capacity) c.requires.0
-    ∙ ap (λ t. plan (plan_by hs s).patterns t e.kind l.byte_classes l.capacity) c.requires.1.1.1.1.0
-    ∙ ap (λ k. plan (plan_by hs s).patterns (plan_by hs s).terminator k l.byte_classes l.capacity) c.requires.1.1.1.1.1
-    ∙ ap (λ b. plan (plan_by hs s).patterns (plan_by hs s).terminator (plan_by hs s).kind b l.capacity) c.limits_of.ensures.classes
-    ∙ ap (λ n. plan (plan_by hs s).patterns (plan_by hs s).terminator (plan_by hs s).kind (plan_by hs s).byte_classes n) c.limits_of.ensures.capacity in
-    subst (λ p. IfOk c.new.result (λ (v : Engines). IfSome v.lazy (IsLazyFor p))) same c.new.ensures.planned
+    let p = plan_by hs s in
+    ap (λ xs. plan xs e.program.terminator e.kind l.byte_classes l.capacity) patterns
+    ∙ ap (λ t. plan p.patterns t e.kind l.byte_classes l.capacity) terminator
+    ∙ ap (λ k. plan p.patterns p.terminator k l.byte_classes l.capacity) kind
+    ∙ ap (λ b. plan p.patterns p.terminator p.kind b l.capacity) classes ∙ ap (λ n. plan p.patterns p.terminator p.kind p.byte_classes n) capacity
+
+pub returns-clause-planned : goal.returns-clause-planned
+returns-clause-planned g c =
+    subst (λ p. IfOk c.new.result (λ (v : Engines). IfSome v.lazy (IsLazyFor p)))
+    (same_plan c.args.engine (map meaning c.args.hirs.now) g.shown_hirs (settings_of c.args.config.now) c.limits_of.result
+    c.requires.0 c.requires.1.1.1.1.0 c.requires.1.1.1.1.1 c.limits_of.ensures.classes c.limits_of.ensures.capacity)
+    c.new.ensures.planned
+
+pub returns-clause-symbols : goal.returns-clause-symbols
+returns-clause-symbols g c =
+    subst (λ p. IfOk c.new.result (λ (v : Engines). IfSome v.symbols (IsLazyOver symbols p)))
+    (same_plan c.args.engine (map meaning c.args.hirs.now) g.shown_hirs (settings_of c.args.config.now) c.limits_of.result
+    c.requires.0 c.requires.1.1.1.1.0 c.requires.1.1.1.1.1 c.limits_of.ensures.classes c.limits_of.ensures.capacity)
+    c.new.ensures.symbols

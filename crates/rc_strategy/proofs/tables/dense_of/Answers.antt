@@ -1,5 +1,6 @@
 use Rattle.std.proofs.Common.{◌⊎◌, ⊎_elim, inl, inr, ap, sym, subst, ◌∙◌, not, true≢false, length}
 use Rattle.rc_dfa.specs.Automata.{machine_of, samples_of}
+use Rattle.rc_dfa.specs.Machine.{bytes, Machine}
 use Rattle.rc_dfa.specs.declared.automaton.Direction.TheVariants.{Backwards, Forwards}
 use Rattle.rc_dense_dfa.specs.Makes.{IsRefused}
 use Rattle.rc_strategy.proofs.LimitLemmas.{exceeds_from, exceeds_so, tables_by, too_heavy}
@@ -10,11 +11,18 @@ returns-then-exceeds-clause-none g c none =
     inl (inr (exceeds_so c.args.engine.now g.hs c.args.automaton.now c.requires.0 c.args.limits.state_limit c.places_len.result
     (c.places_len.ensures Forwards) (c.exceeds.ensures.0 c.if-exceeds.true)))
 
+pub new-requires : goal.new-requires
+new-requires g c = let of = c.requires.0 in ap (λ (m : Machine). m.alphabet) of.ahead
+
 pub returns-in-Ok-clause-fit : goal.returns-in-Ok-clause-fit
 returns-in-Ok-clause-fit g c =
-    tables_by c.args.engine.now g.hs c.args.automaton.now c.requires.0 c.args.patterns c.in-Ok.tables c.requires.1.0 c.requires.1.1.0
-    c.requires.1.1.1
-    c.in-Ok.ensures.halves
+    (tables_by bytes c.args.engine.now g.hs c.args.automaton.now c.requires.0 c.args.patterns c.in-Ok.tables c.requires.1.0 c.requires.1.1.0
+    c.requires.1.1.1 c.in-Ok.ensures.halves).are_halves
+
+pub returns-in-Ok-clause-read : goal.returns-in-Ok-clause-read
+returns-in-Ok-clause-read g c =
+    tables_by bytes c.args.engine.now g.hs c.args.automaton.now c.requires.0 c.args.patterns c.in-Ok.tables c.requires.1.0 c.requires.1.1.0
+    c.requires.1.1.1 c.in-Ok.ensures.halves
 
 pub returns-in-Ok-clause-off : goal.returns-in-Ok-clause-off
 returns-in-Ok-clause-off g c off =

@@ -6,6 +6,10 @@ invariant_of-self-3 c =
     record {
       fit = engines.fit;
       lazy_fit = engines.lazy_fit;
+      symbols_fit = engines.symbols_fit;
+      read = engines.read;
+      lazy_read = engines.lazy_read;
+      symbols_read = engines.symbols_read;
       single = engines.single;
       numbered = engines.numbered;
       programmed = engines.programmed;

@@ -1,9 +1,8 @@
-use Rattle.std.proofs.Common.{◌≡◌, Option, Result, Ok, Err, IfOk, IfSome, refl, sym, MatchOption, subst}
-use Rattle.std.specs.Result.{result_ok}
+use Rattle.std.proofs.Common.{refl, sym, MatchOption, subst}
 use Rattle.std.proofs.lemmas.Result.{IfOk-weaker}
 use Rattle.rc_pikevm_search.specs.Engine.{engine_search}
 use Rattle.rc_strategy.proofs.KeptLemmas.{whole_found}
-use Rattle.rc_strategy.proofs.QuestionLemmas.{match_replies, tables_may, tables_reply}
+use Rattle.rc_strategy.proofs.QuestionLemmas.{match_replies, ok_then, tables_may, tables_reply}
 use Rattle.std.specs.Bool.{⊤}
 use Rattle.rc_program.specs.Places.{places_of}
 use Rattle.rc_needles.specs.Guards.{Guards}
@@ -12,14 +11,6 @@ use Rattle.rc_literals.specs.Guard.{IsGuard}
 use Rattle.rc_strategy.specs.Questions.{IsReply}
 use Rattle.rc_strategy.specs.declared.question.Question.TheVariants.{Match}
 use Rattle.rc_strategy.proofs.engines.Engines.ask_by_route.Goals as goal
-
--- what holds of an answer holds of it without the reason why there is none
-ok_then : {A E : Type 0} (r : Result A E) (o : Option A) (P : A → Type 0) → o ≡ result_ok r → IfOk r P → IfSome o P
-ok_then {A} {E} r o P is h = subst (λ x. IfSome x P) (sym is) (go r h)
-  where
-    go : (r : Result A E) → IfOk r P → IfSome (result_ok r) P
-    go (Ok x) h = h
-    go (Err e) h = tt
 
 pub ask_from_start-requires-clause-free : goal.ask_from_start-requires-clause-free
 ask_from_start-requires-clause-free g c = (c.route.ensures.from_start c.in-FromStart-default-default.is-0).0

@@ -15,6 +15,7 @@ returns-in_default-clause-reply g c =
 
 pub returns-clause-within : goal.returns-clause-within
 returns-clause-within g c =
-    within_kept c.args.input.now c.ask_tables-told.new.input c.ask_pass-found.result
-    (kept_then c.args.input.now c.bounds.new.input c.ask_tables-told.new.input c.bounds.ensures.keeps c.ask_tables-told.ensures.keeps)
+    within_kept c.args.input.now c.ask_symbols-told.new.input c.ask_pass-found.result
+    (kept_then c.args.input.now c.ask_tables-told.new.input c.ask_symbols-told.new.input
+    (kept_then c.args.input.now c.bounds.new.input c.ask_tables-told.new.input c.bounds.ensures.keeps c.ask_tables-told.ensures.keeps) c.ask_symbols-told.ensures.keeps)
     c.ask_pass-found.ensures.within

@@ -20,8 +20,8 @@ returns-in-Some-None-clause-first g c =
     let e = c.args.self.now.engine in
     none_unpassed e.kind (engine_search e c.args.input.now) (sym c.in-Some-None.field-0-is ∙ c.in-Some-None.ensures.found)
 
-pub returns-in-Some-None-ask_tables-clause-first : goal.returns-in-Some-None-ask_tables-clause-first
-returns-in-Some-None-ask_tables-clause-first g c =
+pub returns-in-Some-None-ask_dfas-clause-first : goal.returns-in-Some-None-ask_dfas-clause-first
+returns-in-Some-None-ask_dfas-clause-first g c =
     let e = c.args.self.now.engine in
     no_span_of_all e.kind (engine_search e c.args.input.now) false c.in-All.is (subst (λ o. is_some o ≡ is_some (answer_by e.kind (engine_search e c.args.input.now)))
-    c.in-Some-None-ask_tables.field-0-is c.in-Some-None-ask_tables.ensures.reply) refl
+    c.in-Some-None-ask_dfas.field-0-is c.in-Some-None-ask_dfas.ensures.reply) refl

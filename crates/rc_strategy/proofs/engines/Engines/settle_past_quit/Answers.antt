@@ -1,6 +1,7 @@
 use Rattle.std.proofs.Common.{IfOk, subst, sym}
 use Rattle.rc_needles.specs.Guards.{Guards}
 use Rattle.rc_needles.specs.Prefilters.{needles_of}
+use Rattle.rc_dfa_reach.specs.RunReach.{seen_to}
 use Rattle.rc_dfa_search.specs.Reaches.{IsAnswerBelow, TellsReach}
 use Rattle.rc_dfa_search.proofs.ToldLemmas.{kept_search}
 use Rattle.rc_strategy.proofs.TableLemmas.{tables_settle}
@@ -17,7 +18,7 @@ returns-in-Err-Quit-clause-settled g c =
     let e = c.args.self.now in
     let p = e.engine.program in
     tables_settle e.engine e.patterns c.args.input.now c.aim-aim.result c.requires.own c.aim-aim.ensures c.find_settled_guarded.result
-    (λ hs same h. subst (λ q. IfOk c.find_settled_guarded.result (λ o. IsAnswerBelow c.aim-aim.result.kind q o.reach o.found))
+    (λ hs same h. subst (λ q. IfOk c.find_settled_guarded.result (λ o. IsAnswerBelow c.aim-aim.result.kind q (seen_to h.ahead.alphabet o.reach) o.found))
     (kept_search c.aim-aim.result hs p.terminator c.args.input.now c.find_settled_near-settled.new.input c.find_settled_near-settled.ensures.keeps)
     (c.find_settled_guarded.ensures.settled hs p.terminator h (subst (λ ps. Guards ps p.terminator (needles_of c.args.needles.now)) same c.requires.guards)))
 

@@ -4,7 +4,7 @@ use Rattle.rc_program.specs.Places.{places_of}
 use Rattle.rc_pikevm_search.specs.Engine.{engine_search}
 use Rattle.rc_pikevm.specs.PatternSpans.{AddsSpelled, AreOfFirst}
 use Rattle.rc_strategy.specs.Starts.{AddsSome}
-use Rattle.rc_strategy.proofs.CacheLemmas.{same_in, still_in}
+use Rattle.rc_strategy.proofs.CacheLemmas.{same_in, states_stay, still_in}
 use Rattle.rc_strategy.proofs.OverlapLemmas.{some_then}
 use Rattle.rc_strategy.proofs.StartLemmas.{same_then}
 use Rattle.rc_strategy.proofs.PatternLemmas.{early_adds, full_adds, kept_search}
@@ -55,7 +55,11 @@ returns-then-mark_overlapping-clause-adds g c =
 
 pub mark_by_passes-requires-clause-made : goal.mark_by_passes-requires-clause-made
 mark_by_passes-requires-clause-made g c =
-    still_in c.args.self.now 0 c.args.cache.now _ c.requires.made (record { pass = refl; lazy = c.mark_overlapping.ensures.cache })
+    still_in c.args.self.now 0 c.args.cache.now _ c.requires.made (record {
+      pass = refl;
+      lazy = c.mark_overlapping.ensures.cache;
+      symbols = states_stay c.args.self.now.symbols c.args.cache.now.symbols c.requires.made.symbols;
+    })
 
 pub returns-clause-adds : goal.returns-clause-adds
 returns-clause-adds g c =
@@ -68,4 +72,8 @@ returns-clause-adds g c =
 
 pub returns-clause-cache : goal.returns-clause-cache
 returns-clause-cache g c =
-    same_then c.args.self.now c.args.cache.now _ _ (record { pass = refl; lazy = c.mark_overlapping.ensures.cache }) c.mark_by_passes.ensures.cache
+    same_then c.args.self.now c.args.cache.now _ _ (record {
+      pass = refl;
+      lazy = c.mark_overlapping.ensures.cache;
+      symbols = states_stay c.args.self.now.symbols c.args.cache.now.symbols c.requires.made.symbols;
+    }) c.mark_by_passes.ensures.cache

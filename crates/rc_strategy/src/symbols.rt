@@ -1,0 +1,117 @@
+//! Search over symbols: bytes past ASCII, each with what is known of its character. Where some byte
+//! may not be read alone, as at assertions that depend on Unicode words, the DFA and the lazy DFA
+//! quit. The lazy DFA over symbols reads on.
+
+use crate::cache::Cache;
+use crate::engines::Engines;
+use crate::question::Question;
+use crate::route::Route;
+use crate::search::SHORT;
+use rc_dfa_search::literals::find_by_guard;
+use rc_dfa_search::search::Bounds;
+use rc_lazy_dfa::lazy;
+use rc_literals::guard::Guard;
+use rc_pikevm_search::literals::guards_of;
+use rc_text::cursor::Cursor;
+use rc_text::input::Input;
+use rc_text::types::Match;
+use std::alloc::{AllocError, Global};
+
+impl Engines {
+    ghost use Rattle.std.specs.Prelude.{◌≡◌, IfOk, IfSome, is_some};
+    ghost use Rattle.rc_text.specs.Bounds.{IsWithinBounds};
+    ghost use Rattle.rc_text.specs.Text.{Keeps};
+    ghost use Rattle.rc_pikevm_search.specs.Engine.{engine_search};
+    ghost use Rattle.rc_dfa_search.specs.Aims.{AreBounds};
+    ghost use Rattle.rc_strategy.specs.Caches.{IsCacheOfBoth, IsSameCacheIn, KeepsStates};
+    ghost use Rattle.rc_strategy.specs.Questions.{IsReply};
+
+    /// A cache for the lazy DFA over symbols, if there is one. `Err` means out of memory.
+    pub(crate) fn symbols_cache(&self, alloc: Global) -> Result<Option<lazy::Cache>, AllocError>
+        ensures made { IfOk result (IsCacheOfBoth self.now.symbols) }
+        ensures both { IfOk result (λ cache. is_some cache ≡ is_some self.now.symbols) }
+    {
+        let Some(tables) = &self.symbols else {
+            return Ok(None);
+        };
+        let states = tables.create_cache(alloc)?;
+        Ok(Some(states))
+    }
+
+    /// A cache for the lazy DFA over symbols, if a search is to use it: the bounds are at least
+    /// `SHORT` bytes apart. `Err` means out of memory.
+    pub(crate) fn symbols_for(
+        &self,
+        alloc: Global,
+        bounds: Bounds,
+    ) -> Result<Option<lazy::Cache>, AllocError>
+        ensures made { IfOk result (IsCacheOfBoth self.now.symbols) }
+    {
+        if bounds.high.saturating_sub(bounds.low) < SHORT {
+            return Ok(None);
+        }
+        self.symbols_cache(alloc)
+    }
+
+    /// Replies by the lazy DFA over symbols, if the cache has its states. For the match it goes from
+    /// one prefix literal to the next, however slow the search for them is: to read on over symbols
+    /// would take longer. Returns None if there is no such DFA, or it has no answer.
+    #[inline(never)]
+    pub(crate) fn ask_symbols<C: Cursor>(
+        &self,
+        cache: &mut Option<lazy::Cache>,
+        input: &mut Input<C>,
+        question: Question,
+        bounds: Bounds,
+    ) -> Option<Option<Match>>
+        requires made { IsCacheOfBoth self.now.symbols cache.old }
+        requires bounds { AreBounds input.old bounds }
+        ensures keeps { Keeps input.old input.new }
+        ensures reply { IfSome result (IsReply question self.now.engine.kind
+            (engine_search self.now.engine input.old)) }
+        ensures within { IfSome result (λ found. IfSome found (IsWithinBounds input.old)) }
+        ensures cache { KeepsStates self.now.symbols cache.old cache.new }
+    {
+        let Some(tables) = &self.symbols else {
+            return None;
+        };
+        let Some(states) = cache else {
+            return None;
+        };
+        let needles = guards_of(&self.engine.literals);
+        if let (Route::Unguarded, Question::Match, Some(needles)) = (
+            self.route(input),
+            question,
+            needles,
+        ) {
+            let guard = Guard::Begins(needles);
+            return find_by_guard(tables, states, input, self.aim(), guard, bounds).ok();
+        }
+        self.ask_by_route(tables, states, input, question, bounds)
+    }
+
+    /// Replies as `ask_tables` does, or else by the lazy DFA over symbols. Returns None if there is
+    /// no DFA, or none has an answer.
+    #[inline(always)]
+    pub(crate) fn ask_dfas<C: Cursor>(
+        &self,
+        cache: &mut Cache,
+        input: &mut Input<C>,
+        question: Question,
+        bounds: Bounds,
+    ) -> Option<Option<Match>>
+        requires made { IsCacheOfBoth self.now.lazy cache.old.lazy }
+        requires symbols { IsCacheOfBoth self.now.symbols cache.old.symbols }
+        requires bounds { AreBounds input.old bounds }
+        ensures keeps { Keeps input.old input.new }
+        ensures reply { IfSome result (IsReply question self.now.engine.kind
+            (engine_search self.now.engine input.old)) }
+        ensures within { IfSome result (λ found. IfSome found (IsWithinBounds input.old)) }
+        ensures cache { IsSameCacheIn self.now cache.old cache.new }
+    {
+        if let Some(found) = self.ask_tables(&mut cache.lazy, input, question, bounds) {
+            return Some(found);
+        }
+        self.ask_symbols(&mut cache.symbols, input, question, bounds)
+    }
+}
