@@ -1,6 +1,7 @@
 //! Slices: the matches of a stream of chunks, and those of a text that is searched in slices.
 
 use crate::BenchError;
+use rc_pieces::spans::seek;
 use regex_cursor::cursor::ChunkCursor;
 use regex_cursor::engines::meta::{Finder, Regex};
 use regex_cursor::types::Match;
@@ -64,9 +65,7 @@ pub fn count_steps(alloc: Global, regex: &Regex, chunks: &[&[u8]]) -> Result<usi
         };
         count = count.saturating_add(1);
         at = found.end().max(at.saturating_add(1));
-        if let Ok(there) = ChunkCursor::at(chunks, at) {
-            text = there;
-        }
+        seek(&mut text, at);
     }
     Ok(count)
 }

@@ -152,13 +152,16 @@ impl<F: PartialFinder> StepperOf<F> {
     }
 }
 
-/// Whether the content has the byte at this position. It goes to the chunk with that byte, or to the
-/// last one.
+/// Whether the content has the byte at this position. If the cursor doesn't know the total, it goes
+/// to the chunk with that byte, or to the last one.
 fn has_byte<C: Cursor>(cursor: &mut C, at: usize) -> bool
     ensures content { C.content cursor.new ≡ C.content cursor.old }
     ensures has { IsTrue result ↔ at < length (C.content cursor.old) }
-    ensures fits { length (C.content cursor.old) + 1 < 2 ^ 64 }
+    ensures below { IsTrue result → at < usize.MAX }
 {
+    if let Some(total) = cursor.total_bytes() {
+        return at < total;
+    }
     seek(cursor, at);
     at - cursor.offset() < cursor.chunk().len()
 }

@@ -10,8 +10,8 @@ search_opening-requires-clause-before g c =
     let end = c.slice_end-end.ensures in
     let order = c.self.invariant in
     let inside = c.if-not-has_byte.ensures.has.0 refl in
-    let fits = c.has_byte.ensures.fits in
-    omega (arith, a, b, end, order, inside, fits)
+    let below = c.if-not-has_byte.ensures.below refl in
+    omega (arith, a, b, end, order, below)
 
 pub invariant_of-self-in-From : goal.invariant_of-self-in-From
 invariant_of-self-in-From g c = c.in-From.ensures.onward.1
@@ -33,6 +33,6 @@ returns-in-From-clause-sliced g c =
     let end = c.slice_end-end.ensures in
     let order = c.self.invariant in
     let inside = c.if-not-has_byte.ensures.has.0 refl in
-    let fits = c.has_byte.ensures.fits in
+    let below = c.if-not-has_byte.ensures.below refl in
     let low = c.in-From.ensures.onward.0 in
-    record { position = omega (arith, end, inside, fits); inside = inside; onward = omega (arith, a, low); within = c.in-From.ensures.onward.1 }
+    record { position = omega (arith, end, below); inside = inside; onward = omega (arith, a, low); within = c.in-From.ensures.onward.1 }
