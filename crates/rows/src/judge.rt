@@ -130,16 +130,14 @@ fn want_found(asker: &mut Asker, engines: &Engines, row: &mut Row, list: List)
     row.spans = spans.list;
 }
 
-/// The engines answer the row as the least parse says, and over every cutting of its text. Streams
-/// give all its matches.
+/// The engines answer the row as the least parse says, over every cutting of its text, and as
+/// streams.
 fn over_all_cuttings(asker: &mut Asker, engines: &mut Engines, row: &Row)
     requires { length row.now.patterns.items ≤ most_patterns }
 {
     parses::agree(asker, engines, row);
     over_each_cutting(asker, engines, row);
-    if matches!(row.want, Want::All) {
-        streams::all(asker, engines, row);
-    }
+    streams::all(asker, engines, row);
 }
 
 /// The engines answer the row over each cutting of its text: anew at each move, and as a list of

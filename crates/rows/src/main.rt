@@ -7,6 +7,7 @@ mod calls;
 mod cursors;
 mod engines;
 mod faults;
+mod grouped;
 mod inputs;
 mod judge;
 mod parses;

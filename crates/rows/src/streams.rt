@@ -4,27 +4,38 @@ ghost use Rattle.std.specs.Prelude.{◌<◌};
 
 use crate::calls::{Placed, Spans};
 use crate::engines::Engines;
-use crate::row::Row;
+use crate::row::{Row, Want};
 use crate::slots::Asker;
-use crate::steps;
+use crate::{grouped, steps};
 use api_meta::finder::Finder;
 use api_meta::regex::Regex;
 use rc_text::types::Anchored;
 use stream_search::error::FeedError;
 use stream_search::stream::StreamSearcher;
 
-/// Streams of the text give the row's matches, by each regex, where it is searched whole: in chunks
-/// of one byte, and of three.
+/// Streams of the text tell what the row wants, all matches or the groups of the first, by each
+/// regex, where it is searched whole.
 pub fn all(asker: &mut Asker, engines: &Engines, row: &Row) {
     if row.slice.is_some() || row.span.is_some() || row.anchored != Anchored::No {
         return;
     }
     let regexes = &engines.regexes;
     for regex in [&regexes.plain, &regexes.unfiltered, &regexes.tabled] {
-        stream(asker, regex, row, 1);
-        stream(asker, regex, row, 3);
-        steps::first(asker, regex, row);
+        match row.want {
+            Want::All => matches(asker, regex, row),
+            Want::Groups => grouped::by_regex(asker, regex, row),
+            _ => {}
+        }
     }
+}
+
+/// Streams give the row's matches, in chunks of one byte and of three, and with their groups. Steps
+/// give the first.
+fn matches(asker: &mut Asker, regex: &Regex, row: &Row) {
+    stream(asker, regex, row, 1);
+    stream(asker, regex, row, 3);
+    steps::first(asker, regex, row);
+    grouped::by_regex(asker, regex, row);
 }
 
 /// A stream of chunks of so many bytes gives the row's matches.
