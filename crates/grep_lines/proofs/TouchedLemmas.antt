@@ -15,17 +15,27 @@ stays place s rest spans is h = is ∙ sym (cond-true (nat_lt place (behind s)) 
 pub passed : (place : ℕ) (s : Span) (rest spans : List Span) → spans ≡ s ∷ rest → nat_lt place (behind s) ≡ false → left_at place spans ≡ left_at place rest
 passed place s rest spans is h = ap (left_at place) is ∙ cond-false (nat_lt place (behind s)) (s ∷ rest) (left_at place rest) h
 
--- spans that end before a line touch neither it nor a later one
-pub left_touch : (place p : ℕ) (line : List ℕ) (spans : List Span) → place ≤ p → is_touched (left_at place spans) p line ≡ is_touched spans p line
-left_touch place p line [] le = refl
-left_touch place p line (s ∷ rest) le = by (left_touch place p line rest le) (nat_lt place (behind s)) refl
+-- spans that end before a line don't touch it
+pub left_touch : (place : ℕ) (line : List ℕ) (spans : List Span) → is_touched (left_at place spans) place line ≡ is_touched spans place line
+left_touch place line [] = refl
+left_touch place line (s ∷ rest) = by (left_touch place line rest) (nat_lt place (behind s)) refl
   where
-    by : is_touched (left_at place rest) p line ≡ is_touched rest p line → (b : Bool) → nat_lt place (behind s) ≡ b →
-        is_touched (cond b (s ∷ rest) (left_at place rest)) p line ≡ (touches p line s || is_touched rest p line)
+    by : is_touched (left_at place rest) place line ≡ is_touched rest place line → (b : Bool) → nat_lt place (behind s) ≡ b →
+        is_touched (cond b (s ∷ rest) (left_at place rest)) place line ≡ (touches place line s || is_touched rest place line)
+    by same true h = refl
+    by same false h = same ∙ sym (ap (λ b. b || is_touched rest place line) (and_right (nat_lt s.start (place + length line + 1)) (nat_lt place (behind s)) h))
+
+-- spans that end before a place end before a later one
+pub left_again : (place p : ℕ) (spans : List Span) → place ≤ p → left_at p (left_at place spans) ≡ left_at p spans
+left_again place p [] le = refl
+left_again place p (s ∷ rest) le = by (left_again place p rest le) (nat_lt place (behind s)) refl
+  where
+    by : left_at p (left_at place rest) ≡ left_at p rest → (b : Bool) → nat_lt place (behind s) ≡ b →
+        left_at p (cond b (s ∷ rest) (left_at place rest)) ≡ cond (nat_lt p (behind s)) (s ∷ rest) (left_at p rest)
     by same true h = refl
     by same false h =
         let past : behind s ≤ p = omega (arith, ltb-false place (behind s) h, le) in
-        same ∙ sym (ap (λ b. b || is_touched rest p line) (and_right (nat_lt s.start (p + length line + 1)) (nat_lt p (behind s)) (le-ltb p (behind s) past)))
+        same ∙ sym (cond-false (nat_lt p (behind s)) (s ∷ rest) (left_at p rest) (le-ltb p (behind s) past))
 
 -- the first of them doesn't end before it
 pub left_first : (place : ℕ) (spans : List Span) → IfSome (slice_get (left_at place spans) 0) (λ s. place < behind s)

@@ -5,15 +5,33 @@ ghost use Rattle.grep_lines.specs.Pages.{AreLinesBefore, ends_line};
 
 use memchr::memrchr;
 
+/// The number of bytes that are counted together. So many have a count that fits into a byte.
+const FEW: usize = 224;
+
+/// The number of terminators in a few bytes. Vectors count in bytes, 16 at once.
+fn count_few(bytes: &[u8], terminator: u8) -> u8
+    requires { length bytes.now ≤ 224 }
+    ensures { result ≡ length (filter (ends_line terminator) bytes.now) }
+{
+    let mut count: u8 = 0;
+    for byte in bytes {
+        if *byte == terminator {
+            count += 1;
+        }
+    }
+    count
+}
+
 /// The number of terminators.
 fn count_terminators(bytes: &[u8], terminator: u8) -> u64
     ensures { result ≡ length (filter (ends_line terminator) bytes.now) }
 {
     let mut count: u64 = 0;
-    for byte in bytes {
-        if *byte == terminator {
-            count += 1;
-        }
+    let mut left = bytes;
+    while !left.is_empty() {
+        let (few, rest) = left.split_at(left.len().min(FEW));
+        count += count_few(few, terminator) as u64;
+        left = rest;
     }
     count
 }

@@ -107,10 +107,7 @@ fn selects_more(
     most: u64,
 ) -> bool
     requires fits { place + length line.now < 2 ^ 128 }
-    requires left { IfSome (slice_get spans.now 0) (λ s. place < behind s) }
-    requires ordered { are_from 0 spans.now ≡ true }
-    requires same { is_touched spans.now place line.now
-        ≡ is_touched touched.now.spans.now place line.now }
+    requires left { spans.now ≡ left_at place touched.now.spans.now }
     ensures { result ≡ (picks_touched touched.now.is_inverted touched.now.spans.now place line.now
         && nat_lt 0 (most - count)) }
 {

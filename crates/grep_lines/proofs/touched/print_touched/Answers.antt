@@ -1,8 +1,7 @@
-use Rattle.std.specs.Prelude.{slice_get}
-use Rattle.std.proofs.Common.{◌<◌, ℕ, false, true, ◌≡◌, ◌+◌, ◌-◌, ◌&&◌, ◌∙◌, List, IfSome, ap, arith, cond, length, nat_lt, refl, subst, sym}
+use Rattle.std.proofs.Common.{ℕ, false, true, ◌≡◌, ◌+◌, ◌-◌, ◌&&◌, ◌∙◌, List, IfSome, ap, arith, cond, length, nat_lt, refl, subst, sym}
 use Rattle.grep_lines.specs.Selected.{TakesLine}
-use Rattle.grep_lines.specs.Touched.{are_from, behind, is_touched, picks_touched}
-use Rattle.grep_lines.proofs.TouchedLemmas.{left_first, left_ordered, left_touch}
+use Rattle.grep_lines.specs.Touched.{left_at, picks_touched}
+use Rattle.grep_lines.proofs.TouchedLemmas.{left_again}
 use Rattle.grep_lines.proofs.StandsLemmas.{begun, few_more, stands_first, stands_next, told_at_end, told_enough}
 use Rattle.grep_lines.proofs.touched.print_touched.Goals as goal
 use Rattle.grep_lines.proofs.touched.print_touched.Goals.{then-is_selected, else-is_selected}
@@ -18,8 +17,7 @@ loop-read-init g c =
       size = omega (arith, new.next, ap length new.kept);
       few = omega arith;
       near = omega arith;
-      ordered = c.args.touched.now.ordered;
-      left = λ p line le. refl;
+      left = λ p le. refl;
       stands =
           stands_first c.args.terminator c.args.extent (picks_touched c.args.touched.now.is_inverted c.args.touched.now.spans.now) (g.P.LinePrinter.printed c.args.printer.now)
           c.new-progress.result (g.R.Read.remaining c.args.reader.now) new.kept new.next new.place new.left new.behind;
@@ -66,18 +64,7 @@ pub selects_more-is_selected-requires-clause-fits : goal.selects_more-is_selecte
 selects_more-is_selected-requires-clause-fits g c = omega (arith, c.loop-read.invariant.near, c.loop-read.invariant.size)
 
 pub selects_more-is_selected-requires-clause-left : goal.selects_more-is_selected-requires-clause-left
-selects_more-is_selected-requires-clause-left g c =
-    subst (λ spans. IfSome (slice_get spans 0) (λ s. c.loop-read.place < behind s)) (sym c.spans_from-spans.ensures) (left_first c.loop-read.place c.loop-read.spans.now)
-
-pub selects_more-is_selected-requires-clause-ordered : goal.selects_more-is_selected-requires-clause-ordered
-selects_more-is_selected-requires-clause-ordered g c =
-    ap (are_from 0) c.spans_from-spans.ensures ∙ left_ordered c.loop-read.place 0 c.loop-read.spans.now c.loop-read.invariant.ordered
-
-pub selects_more-is_selected-requires-clause-same : goal.selects_more-is_selected-requires-clause-same
-selects_more-is_selected-requires-clause-same g c =
-    ap (λ spans. is_touched spans c.loop-read.place c.deref.result.now) c.spans_from-spans.ensures
-    ∙ left_touch c.loop-read.place c.loop-read.place c.deref.result.now c.loop-read.spans.now (omega arith)
-    ∙ c.loop-read.invariant.left c.loop-read.place c.deref.result.now (omega arith)
+selects_more-is_selected-requires-clause-left g c = c.spans_from-spans.ensures ∙ c.loop-read.invariant.left c.loop-read.place (omega arith)
 
 -- a line more was read
 pub loop-read-preserved : goal.loop-read-preserved
@@ -111,9 +98,7 @@ loop-read-preserved g c =
       size = omega (arith, ensured.next, inv.size);
       few = few_more e.most count more (picks place line) b inv.few is passes;
       near = omega (arith, inv.near, c.len.ensures, c.len.type_inv);
-      ordered = ap (are_from 0) c.spans_from-spans.ensures ∙ left_ordered place 0 c.loop-read.spans.now inv.ordered;
-      left = λ p l le.
-          ap (λ spans. is_touched spans p l) c.spans_from-spans.ensures ∙ left_touch place p l c.loop-read.spans.now (omega (arith, le)) ∙ inv.left p l (omega (arith, le));
+      left = λ p le. ap (left_at p) c.spans_from-spans.ensures ∙ left_again place p c.loop-read.spans.now (omega (arith, le)) ∙ inv.left p (omega (arith, le));
       stands =
           stands_next c.args.terminator e picks (g.P.LinePrinter.printed c.args.printer.now) c.loop-read.progress c.take.new.self
           (g.P.LinePrinter.printed c.loop-read.printer) (g.P.LinePrinter.printed c.take.new.printer) count more place _ line

@@ -1,6 +1,6 @@
-use Rattle.std.proofs.Common.{ℕ, List, ◌≡◌, ◌*◌, ◌+◌, ◌≤◌, length, true, IfSome}
+use Rattle.std.proofs.Common.{ℕ, ◌≡◌, ◌*◌, ◌+◌, ◌≤◌, length, IfSome}
 use Rattle.grep_lines.specs.Ahead.{IsPlaced, IsSound, Stands}
-use Rattle.grep_lines.specs.Touched.{are_from, is_touched, picks_touched}
+use Rattle.grep_lines.specs.Touched.{left_at, picks_touched}
 use Rattle.grep_lines.proofs.touched.print_touched.Given as goal
 
 -- the lines so far were read, and printed as far as they can be told; spans that end before the next line were passed over
@@ -12,8 +12,7 @@ invariant-loop-read g l = record {
   size : l.progress.next + length l.progress.kept.items ≡ l._read + 1;
   few : l.count ≤ l.extent.most;
   near : l.place ≤ l._read * 18446744073709551616;
-  ordered : are_from 0 l.spans ≡ true;
-  left : (p : ℕ) (line : List ℕ) → l.place ≤ p → is_touched l.spans p line ≡ is_touched l.touched.spans.now p line;
+  left : (p : ℕ) → l.place ≤ p → left_at p l.spans ≡ left_at p l.touched.spans.now;
   stands :
       IfSome (g.R.Read.remaining l.initial.reader)
       (Stands l.fn.terminator l.extent (picks_touched l.touched.is_inverted l.touched.spans.now) l.progress (g.P.LinePrinter.printed l.initial.printer)
