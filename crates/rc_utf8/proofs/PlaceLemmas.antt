@@ -146,7 +146,7 @@ begins_there r (u ∷ us) (suc level) d h = begins_there r us level d (omega (ar
 
 -- one more of the group
 pub group_more : (r : Range) (level i : ℕ) (xs : List code_sequence.Sequence) (x : code_sequence.Sequence) → i < length xs → x ≡ get_or xs i x →
-    begins_with r (drop level (map byte_range x.ranges.items)) ≡ true → AllBegin r (take i (all_left_at level (sequences_of xs))) →
+    begins_with r (drop level (map byte_range x.ranges)) ≡ true → AllBegin r (take i (all_left_at level (sequences_of xs))) →
     AllBegin r (take (i + 1) (all_left_at level (sequences_of xs)))
 group_more r level i xs x h is begins each =
     let e : suc i ≡ i + 1 = omega arith in subst (λ n. AllBegin r (take n (all_left_at level (sequences_of xs)))) e (from i xs h is each)
@@ -154,13 +154,13 @@ group_more r level i xs x h is begins each =
     from : (i : ℕ) (xs : List code_sequence.Sequence) → i < length xs → x ≡ get_or xs i x → AllBegin r (take i (all_left_at level (sequences_of xs))) →
         AllBegin r (take (suc i) (all_left_at level (sequences_of xs)))
     from i [] h is each = absurd (omega (arith, h))
-    from zero (y ∷ xs) h is each = (subst (λ z. begins_with r (drop level (map byte_range z.ranges.items)) ≡ true) is begins, tt)
+    from zero (y ∷ xs) h is each = (subst (λ z. begins_with r (drop level (map byte_range z.ranges)) ≡ true) is begins, tt)
     from (suc i) (y ∷ xs) h is each = (each.0, from i xs (omega (arith, h)) is each.1)
 
 pub group_ends : (r : Range) (level i : ℕ) (xs : List code_sequence.Sequence) (x : code_sequence.Sequence) → i < length xs → x ≡ get_or xs i x →
-    begins_with r (drop level (map byte_range x.ranges.items)) ≡ false → IsNext r (drop i (all_left_at level (sequences_of xs)))
+    begins_with r (drop level (map byte_range x.ranges)) ≡ false → IsNext r (drop i (all_left_at level (sequences_of xs)))
 group_ends r level i [] x h is begins = absurd (omega (arith, h))
-group_ends r level zero (y ∷ xs) x h is begins = subst (λ z. begins_with r (drop level (map byte_range z.ranges.items)) ≡ false) is begins
+group_ends r level zero (y ∷ xs) x h is begins = subst (λ z. begins_with r (drop level (map byte_range z.ranges)) ≡ false) is begins
 group_ends r level (suc i) (y ∷ xs) x h is begins = group_ends r level i xs x (omega (arith, h)) is begins
 
 -- TAILS
@@ -194,13 +194,13 @@ last_left (u ∷ v ∷ us) zero r h is = absurd (omega (arith, h))
 last_left (u ∷ us) (suc level) r h is = last_left us level r (omega (arith, h)) is
 
 pub tree_end : (level : ℕ) (xs : List code_sequence.Sequence) (x : code_sequence.Sequence) (r : ClassBytesRange) → 0 < length xs → x ≡ get_or xs 0 x →
-    length x.ranges.items ≡ level + 1 → r ≡ get_or x.ranges.items level r →
+    length x.ranges ≡ level + 1 → r ≡ get_or x.ranges level r →
     tree_of (all_left_at level (sequences_of xs)) ≡ ends r.start r.end x.rest (tree_of (all_left_at level (sequences_of (drop 1 xs))))
 tree_end level [] x r some is h at = absurd (omega (arith, some))
 tree_end level (y ∷ ys) x r some is h at =
     let left = tree_of (all_left_at level (sequences_of ys)) in
-    ap (λ z. put (drop level (map byte_range z.ranges.items)) z.rest left) (sym is)
-    ∙ ap (λ us. put us x.rest left) (last_left x.ranges.items level r h at)
+    ap (λ z. put (drop level (map byte_range z.ranges)) z.rest left) (sym is)
+    ∙ ap (λ us. put us x.rest left) (last_left x.ranges level r h at)
 
 first_begins : (us : List ClassBytesRange) (level : ℕ) (r : ClassBytesRange) → level + 1 < length us → r ≡ get_or us level r →
     begins_with (byte_range r) (drop level (map byte_range us)) ≡ true
@@ -211,21 +211,21 @@ first_begins us level r h at =
 
 -- the group has a sequence
 pub group_some : (level n : ℕ) (xs : List code_sequence.Sequence) (x : code_sequence.Sequence) (r : ClassBytesRange) → 0 < length xs → x ≡ get_or xs 0 x →
-    level + 1 < length x.ranges.items → r ≡ get_or x.ranges.items level r →
+    level + 1 < length x.ranges → r ≡ get_or x.ranges level r →
     IsNext (byte_range r) (drop n (all_left_at level (sequences_of xs))) → 0 < n
 group_some level n [] x r some is h at next = absurd (omega (arith, some))
 group_some level zero (y ∷ ys) x r some is h at next =
-    absurd (true≢false (sym (first_begins x.ranges.items level r h at)
-    ∙ ap (λ (z : code_sequence.Sequence). begins_with (byte_range r) (drop level (map byte_range z.ranges.items))) is ∙ next))
+    absurd (true≢false (sym (first_begins x.ranges level r h at)
+    ∙ ap (λ (z : code_sequence.Sequence). begins_with (byte_range r) (drop level (map byte_range z.ranges))) is ∙ next))
 group_some level (suc n) (y ∷ ys) x r some is h at next = omega arith
 
 -- the first sequence has more ranges than so many
 pub head_deep : (level count : ℕ) (xs : List code_sequence.Sequence) (x : code_sequence.Sequence) → AllByRecursion (IsDeep level count) (sequences_of xs) →
-    0 < length xs → x ≡ get_or xs 0 x → (level < length x.ranges.items) × (length x.ranges.items ≤ 4)
+    0 < length xs → x ≡ get_or xs 0 x → (level < length x.ranges) × (length x.ranges ≤ 4)
 head_deep level count [] x each some is = absurd (omega (arith, some))
 head_deep level count (y ∷ ys) x each some is =
-    subst (λ (z : code_sequence.Sequence). (level < length z.ranges.items) × (length z.ranges.items ≤ 4)) (sym is)
-    (let l = length-map y.ranges.items byte_range in let a = each.0.ranges in let b = each.0.few in (omega (arith, a, l), omega (arith, b, l)))
+    subst (λ (z : code_sequence.Sequence). (level < length z.ranges) × (length z.ranges ≤ 4)) (sym is)
+    (let l = length-map y.ranges byte_range in let a = each.0.ranges in let b = each.0.few in (omega (arith, a, l), omega (arith, b, l)))
 
 behind_left : (level : ℕ) (ss : List Sequence) → map behind_first (all_left_at level ss) ≡ all_left_at (level + 1) ss
 behind_left level [] = refl
@@ -248,7 +248,7 @@ pub group_deep : (level count n : ℕ) (r : Range) (xs : List code_sequence.Sequ
 group_deep level count zero r xs each begin = tt
 group_deep level count (suc n) r [] each begin = tt
 group_deep level count (suc n) r (x ∷ xs) each begin = (
-  record { ranges = begins_length r (map byte_range x.ranges.items) level begin.0; few = each.0.few; rest = each.0.rest },
+  record { ranges = begins_length r (map byte_range x.ranges) level begin.0; few = each.0.few; rest = each.0.rest },
   group_deep level count n r xs each.1 begin.1,
 )
 

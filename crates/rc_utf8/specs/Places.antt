@@ -32,7 +32,7 @@ places_of = map place_of
 
 -- The sequence that one in code is.
 abbrev pub sequence_of : code_sequence.Sequence → Sequence
-sequence_of s = (map byte_range s.ranges.items, s.rest)
+sequence_of s = (map byte_range s.ranges, s.rest)
 
 abbrev pub sequences_of : List code_sequence.Sequence → List Sequence
 sequences_of = map sequence_of

@@ -9,21 +9,24 @@ ghost use Rattle.rc_program.specs.Places.{place_of as source_of, places_of as so
 ghost use Rattle.rc_utf8.specs.Bytes.{block, byte_place, bytes_of};
 ghost use Rattle.rc_utf8.specs.Places.{places_of};
 
+mod ranges;
 mod sequence;
 mod tree;
 
 use crate::place::BytePlace;
 use rc_pattern::hir::ClassUnicodeRange;
 use rc_program::place::Place;
-use sequence::class_sequences;
+use sequence::{Sequence, put_sequences};
 use std::alloc::{AllocError, Global};
 use tree::{Exits, add_tails, add_tree, append, longest};
 
-/// Appends a place of scalars as a branch, and its block. `Err` means out of memory.
+/// Appends a place of scalars as a branch, and its block. `list` is scratch memory. `Err` means out
+/// of memory.
 fn add_scalars(
     alloc: Global,
     places: &mut Vec<BytePlace>,
     blocks: &mut Vec<BytePlace>,
+    list: &mut Vec<Sequence>,
     first: usize,
     ranges: &[ClassUnicodeRange],
     next: usize,
@@ -38,23 +41,25 @@ fn add_scalars(
         ≡ places_of blocks.old.items ++ block (first + vec_len blocks.old)
         (scalar (map char_range ranges.now) next)) }
 {
-    let sequences = class_sequences(alloc, ranges)?;
+    put_sequences(list, ranges)?;
+    let sequences = list.as_slice();
     let exits = Exits {
-        count: longest(&sequences),
+        count: longest(sequences),
         tail: first + blocks.len(),
         next,
     };
     add_tails(alloc, blocks, exits)?;
-    let ways = add_tree(alloc, blocks, first, exits, &sequences, 0)?;
+    let ways = add_tree(alloc, blocks, first, exits, sequences, 0)?;
     append(places, BytePlace::Branch(ways))
 }
 
-/// Appends a place, and its block if it has one. `blocks` begin at place number `first`. `Err`
-/// means out of memory.
+/// Appends a place, and its block if it has one. `blocks` begin at place number `first`. `list` is
+/// scratch memory. `Err` means out of memory.
 fn add_place(
     alloc: Global,
     places: &mut Vec<BytePlace>,
     blocks: &mut Vec<BytePlace>,
+    list: &mut Vec<Sequence>,
     first: usize,
     place: &Place,
 ) -> Result<(), AllocError>
@@ -76,7 +81,9 @@ fn add_place(
             let ranges = ranges.clone()?;
             append(places, BytePlace::Bytes(ranges, *next))
         }
-        Place::Scalar(ranges, next) => { add_scalars(alloc, places, blocks, first, ranges, *next) }
+        Place::Scalar(ranges, next) => {
+            add_scalars(alloc, places, blocks, list, first, ranges, *next)
+        }
         Place::Guard(look, next) => append(places, BytePlace::Guard(*look, *next)),
         Place::Slot(slot, next) => append(places, BytePlace::Slot(*slot, *next)),
         Place::Accept(pattern) => append(places, BytePlace::Accept(*pattern)),
@@ -95,8 +102,16 @@ pub fn byte_program(alloc: Global, program: &[Place]) -> Result<Vec<BytePlace>, 
 {
     let mut places = Vec::new(alloc);
     let mut blocks = Vec::new(alloc);
+    let mut list = Vec::new(alloc);
     for i in 0..program.len() {
-        add_place(alloc, &mut places, &mut blocks, program.len(), &program[i])?;
+        add_place(
+            alloc,
+            &mut places,
+            &mut blocks,
+            &mut list,
+            program.len(),
+            &program[i],
+        )?;
     }
     places.append(&mut blocks)?;
     Ok(places)

@@ -101,7 +101,7 @@ fn begins_with(sequence: &Sequence, level: usize, range: ClassBytesRange) -> boo
     if sequence.ranges.len() <= level + 1 {
         return false;
     }
-    let here = sequence.ranges[level];
+    let here = sequence.ranges.get(level);
     here.start == range.start && here.end == range.end
 }
 
@@ -149,7 +149,7 @@ fn add_group(
         + vec_len blocks.new) ways.old.items ways.new.items blocks.old.items blocks.new.items) }
 {
     let sequence = &sequences[0];
-    let range = sequence.ranges[level];
+    let range = sequence.ranges.get(level);
     if sequence.ranges.len() == level + 1 {
         let next = rest_of(exits, sequence.rest);
         add_way(ways, range, next)?;

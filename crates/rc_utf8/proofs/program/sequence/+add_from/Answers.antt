@@ -1,4 +1,4 @@
-use Rattle.std.proofs.Common.{◌∙◌, ◌++◌, ap, map, get_or}
+use Rattle.std.proofs.Common.{◌∙◌, ◌++◌, ap, map, get_or, refl}
 use Rattle.rc_pattern.specs.Meaning.{byte_range}
 use Rattle.rc_utf8.specs.Places.{sequences_of}
 use Rattle.rc_program.proofs.ResultLemmas.{IfOk_to}
@@ -11,5 +11,5 @@ returns t c =
     let rs = map byte_range c.args.ranges.now in
     IfOk_to c.add_above.result _ _ c.add_above.ensures
     (λ h. two_added rs old (sequences_of c.add_from.new.list.items) _ _ _ _
-    (c.in_ok-add_from.ensures ∙ ap (λ ss. old ++ ss) (after_longer rs c.deref.result.now c.in_ok-longer.longer.items (get_or c.args.low.now 0 0) _ c.deref.ensures.value c.in_ok-longer.ensures))
+    (c.in_ok-add_from.ensures ∙ ap (λ ss. old ++ ss) (after_longer rs c.extended-longer.result c.extended-longer.result (get_or c.args.low.now 0 0) _ refl c.extended-longer.ensures.longer))
     h (from_split c.args.low.now c.args.last c.in-len1-up.len_at_least c.if-reach_all_from.ensures))

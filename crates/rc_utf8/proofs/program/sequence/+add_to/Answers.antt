@@ -1,4 +1,4 @@
-use Rattle.std.proofs.Common.{◌∙◌, ◌++◌, ap, map, get_or}
+use Rattle.std.proofs.Common.{◌∙◌, ◌++◌, ap, map, get_or, refl}
 use Rattle.rc_pattern.specs.Meaning.{byte_range}
 use Rattle.rc_utf8.specs.Places.{sequences_of}
 use Rattle.rc_program.proofs.ResultLemmas.{IfOk_to}
@@ -11,5 +11,5 @@ returns t c =
     let rs = map byte_range c.args.ranges.now in
     IfOk_to c.add_to.result _ _ c.add_to.ensures
     (λ h. two_added rs (sequences_of c.args.list.now.items) mid _ _ _ _ c.in_ok-add_below.ensures
-    (h ∙ ap (λ ss. mid ++ ss) (after_longer rs c.deref.result.now c.in_ok-longer.longer.items (get_or c.args.high.now 0 0) _ c.deref.ensures.value c.in_ok-longer.ensures))
+    (h ∙ ap (λ ss. mid ++ ss) (after_longer rs c.extended-longer.result c.extended-longer.result (get_or c.args.high.now 0 0) _ refl c.extended-longer.ensures.longer))
     (to_split c.args.high.now c.in-len1-up.len_at_least c.if-all_are.ensures))

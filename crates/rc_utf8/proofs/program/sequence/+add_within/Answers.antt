@@ -1,4 +1,4 @@
-use Rattle.std.proofs.Common.{◌∙◌, ◌++◌, ap, sym, map, get_or}
+use Rattle.std.proofs.Common.{◌∙◌, ◌++◌, ap, sym, map, get_or, refl}
 use Rattle.rc_pattern.specs.Meaning.{byte_range}
 use Rattle.rc_utf8.specs.Bytes.{after}
 use Rattle.rc_utf8.specs.Places.{sequences_of}
@@ -12,6 +12,6 @@ returns t c =
     let rs = map byte_range c.args.ranges.now in
     IfOk_to c.add_within.result _ _ c.add_within.ensures
     (λ h. h
-    ∙ ap (λ ss. old ++ ss) (after_longer rs c.deref.result.now c.in_ok-longer.longer.items (get_or c.args.low.now 0 0) _ c.deref.ensures.value c.in_ok-longer.ensures)
+    ∙ ap (λ ss. old ++ ss) (after_longer rs c.extended-longer.result c.extended-longer.result (get_or c.args.low.now 0 0) _ refl c.extended-longer.ensures.longer)
     ∙ ap (λ ss. old ++ after rs ss) (sym (within_split c.args.low.now c.args.high.now c.in-len1-up.len_at_least c.in-len1-up-high.len_at_least
     c.if-is_empty.ensures c.if-first-last.false c.if-are_any.ensures)))

@@ -1,4 +1,4 @@
-use Rattle.std.proofs.Common.{◌∙◌, ◌++◌, ap, map}
+use Rattle.std.proofs.Common.{◌∙◌, ◌++◌, ap, map, refl}
 use Rattle.rc_pattern.specs.Meaning.{byte_range}
 use Rattle.rc_utf8.specs.Bytes.{from_bytes, after}
 use Rattle.rc_utf8.specs.Places.{sequences_of}
@@ -14,5 +14,5 @@ returns c =
     IfOk_to c.add_to.result _ _ c.add_to.ensures
     (λ h. two_added rs old mid _ _ _ _
     (c.in_ok-add_from.ensures ∙ ap (λ n. old ++ after rs (from_bytes c.args.low.now n)) c.saturating_sub.ensures)
-    (h ∙ ap (λ ss. mid ++ ss) (after_longer rs c.deref.result.now c.in_ok-longer.longer.items c.args.last _ c.deref.ensures.value c.in_ok-longer.ensures))
+    (h ∙ ap (λ ss. mid ++ ss) (after_longer rs c.extended-longer.result c.extended-longer.result c.args.last _ refl c.extended-longer.ensures.longer))
     (both_split _ c.args.low.now c.args.last c.args.high.now c.if-reach_all_to.ensures))

@@ -1,6 +1,6 @@
 use Rattle.rc_utf8.specs.Places.{sequences_of}
 use Rattle.rc_utf8.proofs.SequenceLemmas.{class_more}
-use Rattle.rc_utf8.proofs.program.sequence.class_sequences.Goals as goal
+use Rattle.rc_utf8.proofs.program.sequence.put_sequences.Goals as goal
 
 pub loop-i-preserved : goal.loop-i-preserved
 loop-i-preserved c =
