@@ -83,8 +83,9 @@ impl Sift {
         match needle.get(at) {
             Some(byte) => self.add(*byte, bits),
             None => {
-                for byte in 0..256usize {
-                    self.add(byte as u8, bits);
+                for half in 0..16usize {
+                    self.low[half] |= bits;
+                    self.high[half] |= bits;
                 }
             }
         }
@@ -103,8 +104,8 @@ impl Sift {
             → bit_at (buckets self.now byte) k ≡ 1 }
     {
         let mut bits = 255;
-        for byte in 0..256usize {
-            bits &= self.taken(byte as u8);
+        for half in 0..16usize {
+            bits &= self.low[half] & self.high[half];
         }
         bits
     }
@@ -395,9 +396,10 @@ fn filled(needles: &[Vec<u8>]) -> Teddy {
 
 /// Returns the bit of a needle's bucket.
 fn bucket_of(needles: &[Vec<u8>], needle: &[u8]) -> u8 {
+    let own = beginning(needle);
     let mut rank: usize = 0;
     for other in needles {
-        if beginning(other.as_slice()) < beginning(needle) {
+        if beginning(other.as_slice()) < own {
             rank = rank.saturating_add(1);
         }
     }
@@ -405,11 +407,15 @@ fn bucket_of(needles: &[Vec<u8>], needle: &[u8]) -> u8 {
     1 << (bucket % BUCKETS)
 }
 
-/// Returns the first three bytes, by which needles are ordered.
-fn beginning(needle: &[u8]) -> [u8; 3] {
-    let mut bytes = [0; 3];
-    for (i, byte) in needle.iter().take(3).enumerate() {
-        bytes[i] = *byte;
+/// Returns the first three bytes as a number, by which needles are ordered.
+fn beginning(needle: &[u8]) -> u32 {
+    let mut number = 0;
+    for at in 0..3usize {
+        let byte = match needle.get(at) {
+            Some(byte) => *byte,
+            None => 0,
+        };
+        number = number << 8 | u32::from(byte);
     }
-    bytes
+    number
 }
