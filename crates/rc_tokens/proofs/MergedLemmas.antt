@@ -252,3 +252,9 @@ merged_sorted u xs ys before p s =
 
     order : Rising 0 (pairs ys)
     order = rising 0 ys (λ k d l. omega arith) s
+
+-- one range, or none, is in order
+pub canonical_few : (u : Bool) (xs : List CodeRange) → length xs ≤ 1 → canonical u (pairs xs) ≡ pairs xs
+canonical_few u [] h = refl
+canonical_few u (x ∷ []) h = refl
+canonical_few u (x ∷ y ∷ xs) h = absurd (omega (arith, h))

@@ -74,7 +74,7 @@ fn sorted(alloc: Global, ranges: &[CodeRange]) -> Result<Vec<CodeRange>, AllocEr
 fn merged(alloc: Global, unicode: bool, ranges: &[CodeRange]) -> Result<Vec<CodeRange>, AllocError>
     ensures { IfOk result (λ v. pairs v.items ≡ merged unicode (pairs ranges.now)) }
 {
-    let mut all = Vec::new(alloc);
+    let mut all = Vec::with_capacity(alloc, ranges.len())?;
     if ranges.is_empty() {
         return Ok(all);
     }
@@ -94,7 +94,7 @@ fn merged(alloc: Global, unicode: bool, ranges: &[CodeRange]) -> Result<Vec<Code
 
 /// The ranges, sorted and then joined in one pass. The definition inserts them one by one, which
 /// has the same result for ranges of codes.
-#[tactic(auto, using(crate::proofs::MergedLemmas::merged_sorted))]
+#[tactic(auto, using(crate::proofs::MergedLemmas::merged_sorted, crate::proofs::MergedLemmas::canonical_few))]
 fn canonical(
     alloc: Global,
     unicode: bool,
@@ -103,6 +103,9 @@ fn canonical(
     requires { AreCodes unicode (pairs ranges.now) }
     ensures { IfOk result (λ v. pairs v.items ≡ canonical unicode (pairs ranges.now)) }
 {
+    if ranges.len() <= 1 {
+        return Vec::from_slice(alloc, ranges);
+    }
     let in_order = sorted(alloc, ranges)?;
     merged(alloc, unicode, &in_order)
 }
