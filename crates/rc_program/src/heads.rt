@@ -206,9 +206,7 @@ fn join_set(flags: &mut [bool], set: &[bool])
     ensures { AreJoined 256 (λ b. slice_index_or set.now b false) flags.old flags.new }
 {
     for byte in 0..flags.len().min(set.len()) {
-        if set[byte] {
-            flags[byte] = true;
-        }
+        flags[byte] |= set[byte];
     }
 }
 
