@@ -58,7 +58,7 @@ fn stays(classes: &[u8], cells: &[usize], row: usize, byte: usize) -> bool
     *cell < DEAD && row_of(*cell) == row
 }
 
-/// Returns the exits of a row.
+/// Returns the exits of a row. It reads no further than to the byte by which they are many.
 fn exits_from(classes: &[u8], cells: &[usize], row: usize) -> Exits
     requires { row < met }
     ensures { AreExitsOf dead classes.now cells.now row result }
@@ -67,6 +67,9 @@ fn exits_from(classes: &[u8], cells: &[usize], row: usize) -> Exits
     for byte in 0..256usize {
         if !stays(classes, cells, row, byte) {
             exits = with(exits, byte as u8);
+            if !are_few(exits) {
+                return Exits::Many;
+            }
         }
     }
     exits

@@ -143,9 +143,11 @@ fn leap_of(classes: &[u8], cells: &[usize], row: usize) -> Option<Leap>
 {
     let alone = leaving(classes, cells, row, row);
     let other = likely(classes, cells, row);
-    let both = leaving(classes, cells, row, other);
-    if both < alone && both <= LEAVING {
-        return Some(among(classes, cells, row, other));
+    if other != row {
+        let both = leaving(classes, cells, row, other);
+        if both < alone && both <= LEAVING {
+            return Some(among(classes, cells, row, other));
+        }
     }
     if alone <= LEAVING {
         return Some(among(classes, cells, row, row));
