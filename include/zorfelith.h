@@ -1,7 +1,8 @@
 /* Zorfelith for C: regex search over text in chunks.
  *
- * A text is an array of chunks, each a pointer and a length. Nothing of it is copied, and nothing of it is kept between two calls. The
- * answers are those of the whole text, wherever it is cut, also inside a character. All places and lengths are in bytes of the whole text.
+ * A text is an array of chunks, each a pointer and a length. Nothing of it is copied, and nothing of it is kept between two calls, but where
+ * the chunks of a prepared text lie. The answers are those of the whole text, wherever it is cut, also inside a character. All places and
+ * lengths are in bytes of the whole text.
  *
  * What a caller owes:
  *   - Each pointer is valid for its length, aligned, and not null, also where the length is 0 (zf_bytes_of sees to that). What a call
@@ -11,16 +12,19 @@
  *     neither read nor written but by the calls.
  *   - A handle is used by one thread at a time. Different handles may be used by different threads at once, also where zf_share made one from
  *     the other. A handle may go to another thread, after what orders the two: a lock, or a thread's start or end.
- *   - The text that zf_live_edit is given is that of the list, edited as the call says.
+ *   - The text that zf_live_edit or zf_text_live_edit is given is that of the list, edited as the call says.
+ *   - The bytes of the chunks of a prepared text stay where they are and as they are, until an edit takes the chunk out of it, or it is freed.
+ *     A struct zf_text is handled as a handle is: it begins as bytes that are 0, isn't copied, and is used by one thread at a time.
  *   - No call is made from a signal handler.
  *   - 256 KiB of stack are left. zf_compile needs most of them if a pattern is nested 250 levels deep; docs/STACK.md has figures.
  * There is nothing else to owe: each call tests its handle, its range, its UTF-8 and its capacities, and answers a status.
  *
  * Who owns what: a full handle owns memory, which malloc gave and zf_free or the next zf_compile gives back. Handles of the same patterns, by
- * zf_share, own what is compiled together, and the last one gives it back. All else is the caller's.
- * Only zf_compile, zf_share, zf_explain, zf_replace, zf_replace_one, zf_live_new, zf_live_edit, zf_stream_new, zf_stream_feed and zf_step_new
- * take memory, but for searches of some patterns, whose cache may grow up to a limit, which the settings may set; where that is refused they
- * go on without it, and answer the same.
+ * zf_share, own what is compiled together, and the last one gives it back. A prepared text owns memory for its list of chunks, which
+ * zf_text_free or the next zf_text_new gives back. All else is the caller's.
+ * Only zf_compile, zf_share, zf_explain, zf_replace, zf_replace_one, zf_live_new, zf_live_edit, zf_stream_new, zf_stream_feed, zf_step_new,
+ * zf_text_new, zf_text_edit, zf_text_live_new and zf_text_live_edit take memory, but for searches of some patterns, whose cache may grow up to
+ * a limit, which the settings may set; where that is refused they go on without it, and answer the same.
  */
 #ifndef ZORFELITH_H
 #define ZORFELITH_H
@@ -33,14 +37,15 @@ extern "C" {
 #endif
 
 /* Statuses. After any but ZF_DONE and ZF_FOUND nothing was written but what the call says: what was lent to it is as it was. ZF_EMPTY is
- * returned exactly if the handle is empty. A full handle stays full, whatever the status is, but for zf_compile, zf_free and the second of zf_share. Each other status
+ * returned exactly if the handle is empty, or the prepared text. A full one stays full, whatever the status is, but for zf_compile, zf_free,
+ * the second of zf_share, zf_text_new and zf_text_free. Each other status
  * is returned exactly if it applies; if two do, the call says which, and ZF_OUTSIDE comes before ZF_TOO_LONG. */
 enum {
     ZF_DONE = 0,      /* It is done. Of a search: there is no match; of zf_find_partial: none is final. */
     ZF_FOUND = 1,     /* There is a match; of zf_find_partial: a final one. */
-    ZF_EMPTY = 2,     /* The handle is empty. */
+    ZF_EMPTY = 2,     /* The handle is empty, or the prepared text. */
     ZF_TOO_LONG = 3,  /* The chunks hold SIZE_MAX bytes, or more. */
-    ZF_OUTSIDE = 4,   /* The range begins behind its end, or behind the text's; or an edit lies outside of a list's text. */
+    ZF_OUTSIDE = 4,   /* The range begins behind its end, or behind the text's; or an edit lies outside of a list's text or a prepared one. */
     ZF_ABSENT = 5,    /* There is no such pattern or group, or it has no name. */
     ZF_SHORT = 6,     /* The place for a name or another text is too short. */
     ZF_NOT_UTF8 = 7,  /* The bytes of a pattern, a name, a text to escape or a template aren't UTF-8. */
@@ -87,6 +92,19 @@ static inline struct zf_bytes zf_bytes_of(const void *bytes, size_t len) {
 struct zf_handle {
     uint8_t full;
     void *held;
+};
+
+/* A prepared text: its chunks, with the places where they begin. All of it is the library's. */
+struct zf_text {
+    uint8_t full;
+    void *held;
+};
+
+/* Where a prepared text is searched. */
+struct zf_bounds {
+    size_t start;
+    size_t end;       /* SIZE_MAX, ZF_NONE: to the text's end */
+    uint8_t anchored; /* not 0: the match begins at `start` */
 };
 
 /* Kinds of match. */
@@ -433,6 +451,48 @@ uint32_t zf_step_position(struct zf_handle *handle, size_t *position);
 
 /* Frees the search. ZF_DONE, also if there was none; or ZF_EMPTY. */
 uint32_t zf_step_free(struct zf_handle *handle);
+
+/* Prepared texts. A call that is given chunks counts the bytes of all of them, which takes long where there are many. A prepared text keeps where
+ * its chunks lie, and where each begins in the text: a search goes to its start in steps that grow with the logarithm of the number of chunks,
+ * and then reads what it searches. It is no handle's own: any handle may search it. No byte of the chunks is copied. */
+
+/* Makes the text of these chunks, and frees what was there. It goes over all of them. ZF_DONE; or ZF_TOO_LONG, ZF_MEMORY: then it is empty. */
+uint32_t zf_text_new(struct zf_text *text, const struct zf_bytes *chunks, size_t chunk_count);
+
+/* Replaces the chunks from the index `start` on and before the index `end`, counted from 0 on, by others: by none to remove them; from `start` to
+ * `start` to insert before that one, or at the end. It takes time for the chunks that it replaces and puts in, and for those between its place
+ * and that of the edit before. An iteration is moved as at zf_next, by zf_restart, and a list is kept by zf_text_live_edit.
+ *
+ * ZF_DONE; or ZF_OUTSIDE: `start` is above `end`, or `end` above the number of chunks; ZF_TOO_LONG: the text would have SIZE_MAX bytes or more;
+ * ZF_MEMORY. Then the text is as it was. ZF_OUTSIDE comes before ZF_TOO_LONG. ZF_EMPTY. */
+uint32_t zf_text_edit(struct zf_text *text, size_t start, size_t end, const struct zf_bytes *chunks, size_t chunk_count);
+
+/* Frees the text, and leaves it empty. An empty one stays empty. */
+void zf_text_free(struct zf_text *text);
+
+/* The match of zf_find in the text from bounds->start to bounds->end; with bounds->anchored on, that of zf_match_at. Statuses and `found` as
+ * there, but never ZF_TOO_LONG. The iteration and the text stay as they were. */
+uint32_t zf_text_find(struct zf_handle *handle, struct zf_text *text, const struct zf_bounds *bounds, struct zf_match *found);
+
+/* The match of zf_find with its groups, as zf_find_groups writes both. Statuses as zf_text_find. The iteration and the text stay as they were. */
+uint32_t zf_text_find_groups(struct zf_handle *handle, struct zf_text *text, size_t start, size_t end, struct zf_match *found,
+                             struct zf_group *groups, size_t group_count);
+
+/* Fills `batch` with the next matches of the text up to `end`, as zf_next does, by the handle's iteration. Statuses and `progress` as there, but
+ * never ZF_TOO_LONG. The text stays as it was. */
+uint32_t zf_text_next(struct zf_handle *handle, struct zf_text *text, size_t end, struct zf_match *batch, size_t batch_len,
+                      struct zf_progress *progress);
+
+/* What the text tells of a search from `start` on, where more bytes may follow it, as zf_find_partial. Statuses and what is written as there, but
+ * never ZF_TOO_LONG. The iteration and the text stay as they were. */
+uint32_t zf_text_find_partial(struct zf_handle *handle, struct zf_text *text, size_t start, struct zf_match *found, size_t *from);
+
+/* Makes the handle's live list of the whole text, as zf_live_new. ZF_DONE; ZF_EMPTY; or ZF_MEMORY, and there is no list. */
+uint32_t zf_text_live_new(struct zf_handle *handle, struct zf_text *text);
+
+/* Keeps the list under an edit, as zf_live_edit: `start`, `end` and `inserted` count bytes, and the text was edited before, by zf_text_edit.
+ * Statuses, `change`, and what the caller owes, as there, but never ZF_TOO_LONG. The text stays as it was. */
+uint32_t zf_text_live_edit(struct zf_handle *handle, size_t start, size_t end, size_t inserted, struct zf_text *text, struct zf_change *change);
 
 /* How many patterns there are. ZF_DONE or ZF_EMPTY. */
 uint32_t zf_pattern_count(struct zf_handle *handle, size_t *count);

@@ -125,7 +125,7 @@ class error : public std::runtime_error {
   private:
     static std::string words(const zf_refused &refused) {
         switch (refused.status) {
-        case ZF_EMPTY: return "the regex was moved from";
+        case ZF_EMPTY: return "the regex or the text was moved from";
         case ZF_TOO_LONG: return "the text is too long";
         case ZF_OUTSIDE: return "the range is outside of the text";
         case ZF_NOT_UTF8: return "pattern " + std::to_string(refused.pattern) + " isn't UTF-8";
@@ -207,6 +207,45 @@ inline std::string escape(std::string_view text) {
 
 // The version of the library, as ZF_VERSION is that of the header.
 inline std::uint32_t version() noexcept { return zf_version(); }
+
+// A prepared text: its chunks with the places where they begin, edited in place. A search of it counts no chunks, and any regex may search it.
+// It keeps where the chunks lie: their bytes stay there and don't change until an edit takes them out, or it is gone. It is used by one thread
+// at a time. One that was moved from is empty.
+class prepared {
+  public:
+    explicit prepared(text chunks) { told(zf_text_new(&text_, first(chunks), chunks.size())); }
+
+    prepared(prepared &&other) noexcept : text_(std::exchange(other.text_, zf_text{0, nullptr})) {}
+    prepared &operator=(prepared &&other) noexcept {
+        if (this != &other) {
+            zf_text_free(&text_);
+            text_ = std::exchange(other.text_, zf_text{0, nullptr});
+        }
+        return *this;
+    }
+    prepared(const prepared &) = delete;
+    prepared &operator=(const prepared &) = delete;
+    ~prepared() { zf_text_free(&text_); }
+
+    // Replaces the chunks from the index `start` on and before the index `end` by others. If that is refused, all is as it was.
+    void edit(std::size_t start, std::size_t end, text others) { told(zf_text_edit(&text_, start, end, first(others), others.size())); }
+
+  private:
+    friend class regex;
+
+    static void told(std::uint32_t status) {
+        if (status != ZF_DONE)
+            throw error(status);
+    }
+
+    // Where the chunks begin, which is never null.
+    static const zf_bytes *first(text in) noexcept {
+        static const zf_bytes none{zf_none, 0};
+        return in.empty() ? &none : in.data();
+    }
+
+    zf_text text_{0, nullptr};
+};
 
 class matches;
 
@@ -334,6 +373,43 @@ class regex {
             return std::nullopt;
         groups.resize(group_count(found.pattern));
         return captures(found, std::move(groups));
+    }
+
+    // The same of a prepared text.
+    std::optional<match> find(prepared &in, range within = {}) { return find_within(in, zf_bounds{within.start, within.end, 0}); }
+    std::optional<match> match_at(prepared &in, range within = {}) { return find_within(in, zf_bounds{within.start, within.end, 1}); }
+    std::optional<captures> find_groups(prepared &in, range within = {}) {
+        match found{};
+        std::vector<zf_group> groups(most_groups());
+        if (!told(zf_text_find_groups(&handle_, &in.text_, within.start, within.end, &found, groups.data(), groups.size())))
+            return std::nullopt;
+        groups.resize(group_count(found.pattern));
+        return captures(found, std::move(groups));
+    }
+
+    std::optional<match> find_partial(prepared &in, std::size_t start, std::size_t &from) {
+        match found{};
+        if (!told(zf_text_find_partial(&handle_, &in.text_, start, &found, &from)))
+            return std::nullopt;
+        return found;
+    }
+
+    // The live list of a prepared text, and that list under an edit of bytes, which `edit` made before.
+    void live_new(prepared &in) { told(zf_text_live_new(&handle_, &in.text_)); }
+    change live_edit(range replaced, std::size_t inserted, prepared &now) {
+        change made{};
+        told(zf_text_live_edit(&handle_, replaced.start, replaced.end, inserted, &now.text_, &made));
+        return made;
+    }
+
+    // The matches of a prepared text in the range, from left to right, at most so many.
+    std::vector<match> find_all(prepared &in, range within = {}, std::size_t most = 1024) {
+        std::vector<match> batch(most > 0 ? most : 1);
+        zf_progress progress{0, within.start};
+        told(zf_restart(&handle_, within.start, 0));
+        told(zf_text_next(&handle_, &in.text_, within.end, batch.data(), most, &progress));
+        batch.resize(progress.count);
+        return batch;
     }
 
     // The groups of a match that a search of the same text gave.
@@ -528,6 +604,13 @@ class regex {
 
     regex() noexcept = default;
 
+    std::optional<match> find_within(prepared &in, const zf_bounds &bounds) {
+        match found{};
+        if (!told(zf_text_find(&handle_, &in.text_, &bounds, &found)))
+            return std::nullopt;
+        return found;
+    }
+
     std::uint32_t replace_into(std::string &out, text in, const chunk &by, zf_replaced &told_of) {
         return zf_replace(&handle_, first(in), in.size(), by.bytes, by.len, bytes(out), out.size(), &told_of);
     }
@@ -545,11 +628,7 @@ class regex {
         return status == ZF_FOUND;
     }
 
-    // Where the chunks begin, which is never null.
-    static const zf_bytes *first(text in) noexcept {
-        static const zf_bytes none{zf_none, 0};
-        return in.empty() ? &none : in.data();
-    }
+    static const zf_bytes *first(text in) noexcept { return prepared::first(in); }
 
     static std::uint8_t *bytes(std::string &name) noexcept { return reinterpret_cast<std::uint8_t *>(name.data()); }
 

@@ -192,6 +192,114 @@ static void call_replace_one(struct zf_handle *handle) {
     wanted("behind the text", zf_replace_one(handle, text, 2, 99, (const uint8_t *)"x", 1, place, 8, &one), ZF_OUTSIDE);
 }
 
+static void call_text_new(struct zf_handle *handle) {
+    const struct zf_bounds all = {0, ZF_NONE, 0};
+    struct zf_text kept = {0};
+    struct zf_match found;
+    wanted("a text", zf_text_new(&kept, text, 2), ZF_DONE);
+    wanted("in place of it", zf_text_new(&kept, short_text, 1), ZF_DONE);
+    wanted("no match", zf_text_find(handle, &kept, &all, &found), ZF_DONE);
+    zf_text_free(&kept);
+    wanted("an empty text", zf_text_find(handle, &kept, &all, &found), ZF_EMPTY);
+}
+
+static void call_text_edit(struct zf_handle *handle) {
+    const struct zf_bounds all = {0, ZF_NONE, 0};
+    struct zf_text kept = {0};
+    struct zf_match found;
+    wanted("an empty text", zf_text_edit(&kept, 0, 0, text, 2), ZF_EMPTY);
+    wanted("a text", zf_text_new(&kept, short_text, 1), ZF_DONE);
+    wanted("behind the end", zf_text_edit(&kept, 1, 0, text, 2), ZF_OUTSIDE);
+    wanted("behind the chunks", zf_text_edit(&kept, 0, 2, text, 2), ZF_OUTSIDE);
+    for (size_t i = 0; i < 9; i++)
+        wanted("chunks before the last", zf_text_edit(&kept, 2 * i, 2 * i, text, 2), ZF_DONE);
+    wanted("fewer chunks", zf_text_edit(&kept, 1, 16, text, 1), ZF_DONE);
+    wanted("a match", zf_text_find(handle, &kept, &all, &found), ZF_FOUND);
+    zf_text_free(&kept);
+}
+
+static void call_text_free(struct zf_handle *handle) {
+    struct zf_text kept = {0};
+    (void)handle;
+    zf_text_free(&kept);
+    wanted("a text", zf_text_new(&kept, text, 2), ZF_DONE);
+    zf_text_free(&kept);
+    zf_text_free(&kept);
+}
+
+static void call_text_find(struct zf_handle *handle) {
+    const struct zf_bounds all = {0, ZF_NONE, 0}, there = {2, ZF_NONE, 1}, later = {3, ZF_NONE, 1}, behind = {3, 2, 0}, outside = {10, ZF_NONE, 0};
+    struct zf_handle none = {0};
+    struct zf_text kept = {0};
+    struct zf_match found;
+    wanted("a text", zf_text_new(&kept, text, 2), ZF_DONE);
+    wanted("an empty handle", zf_text_find(&none, &kept, &all, &found), ZF_EMPTY);
+    wanted("a match", zf_text_find(handle, &kept, &all, &found), ZF_FOUND);
+    wanted("a match there", zf_text_find(handle, &kept, &there, &found), ZF_FOUND);
+    wanted("none there", zf_text_find(handle, &kept, &later, &found), ZF_DONE);
+    wanted("behind the end", zf_text_find(handle, &kept, &behind, &found), ZF_OUTSIDE);
+    wanted("behind the text", zf_text_find(handle, &kept, &outside, &found), ZF_OUTSIDE);
+    zf_text_free(&kept);
+}
+
+static void call_text_find_groups(struct zf_handle *handle) {
+    struct zf_text kept = {0};
+    struct zf_match found;
+    struct zf_group groups[2];
+    wanted("a text", zf_text_new(&kept, text, 2), ZF_DONE);
+    wanted("groups", zf_text_find_groups(handle, &kept, 0, ZF_NONE, &found, groups, 2), ZF_FOUND);
+    wanted("no match", zf_text_find_groups(handle, &kept, 0, 4, &found, groups, 2), ZF_DONE);
+    wanted("behind the end", zf_text_find_groups(handle, &kept, 3, 2, &found, groups, 2), ZF_OUTSIDE);
+    zf_text_free(&kept);
+}
+
+static void call_text_find_partial(struct zf_handle *handle) {
+    struct zf_text kept = {0};
+    struct zf_match found;
+    size_t from = 0;
+    wanted("a text", zf_text_new(&kept, text, 2), ZF_DONE);
+    wanted("a final match", zf_text_find_partial(handle, &kept, 0, &found, &from), ZF_FOUND);
+    wanted("none yet", zf_text_find_partial(handle, &kept, 9, &found, &from), ZF_DONE);
+    wanted("behind the text", zf_text_find_partial(handle, &kept, 10, &found, &from), ZF_OUTSIDE);
+    zf_text_free(&kept);
+}
+
+static void call_text_live_new(struct zf_handle *handle) {
+    struct zf_text kept = {0};
+    size_t len = 0;
+    wanted("an empty text", zf_text_live_new(handle, &kept), ZF_EMPTY);
+    wanted("a text", zf_text_new(&kept, text, 2), ZF_DONE);
+    wanted("a list", zf_text_live_new(handle, &kept), ZF_DONE);
+    wanted("another one", zf_text_live_new(handle, &kept), ZF_DONE);
+    wanted("its length", zf_live_len(handle, &len), ZF_DONE);
+    wanted("two matches", (uint32_t)len, 2);
+    zf_text_free(&kept);
+}
+
+static void call_text_live_edit(struct zf_handle *handle) {
+    struct zf_text kept = {0};
+    struct zf_change change;
+    wanted("a text", zf_text_new(&kept, text, 2), ZF_DONE);
+    wanted("no list", zf_text_live_edit(handle, 0, 0, 1, &kept, &change), ZF_NO_LIST);
+    wanted("a list", zf_text_live_new(handle, &kept), ZF_DONE);
+    wanted("a byte before the text", zf_text_edit(&kept, 0, 0, short_text, 1), ZF_DONE);
+    wanted("outside of the text", zf_text_live_edit(handle, 2, 1, 1, &kept, &change), ZF_OUTSIDE);
+    wanted("another length", zf_text_live_edit(handle, 0, 0, 2, &kept, &change), ZF_MISFIT);
+    wanted("the list under it", zf_text_live_edit(handle, 0, 0, 1, &kept, &change), ZF_DONE);
+    zf_text_free(&kept);
+}
+
+static void call_text_next(struct zf_handle *handle) {
+    struct zf_text kept = {0};
+    struct zf_match batch[1];
+    struct zf_progress progress;
+    wanted("a text", zf_text_new(&kept, text, 2), ZF_DONE);
+    for (size_t i = 0; i < 3; i++)
+        wanted("a batch", zf_text_next(handle, &kept, ZF_NONE, batch, 1, &progress), ZF_DONE);
+    wanted("behind the end", zf_text_next(handle, &kept, 1, batch, 1, &progress), ZF_OUTSIDE);
+    zf_text_free(&kept);
+}
+
 static void call_replace(struct zf_handle *handle) {
     struct zf_replaced replaced;
     uint8_t place[8];
@@ -440,6 +548,15 @@ static const struct {
     {"zf_step_resume", call_step_resume},
     {"zf_step_position", call_step_position},
     {"zf_step_free", call_step_free},
+    {"zf_text_new", call_text_new},
+    {"zf_text_edit", call_text_edit},
+    {"zf_text_free", call_text_free},
+    {"zf_text_find", call_text_find},
+    {"zf_text_find_groups", call_text_find_groups},
+    {"zf_text_next", call_text_next},
+    {"zf_text_find_partial", call_text_find_partial},
+    {"zf_text_live_new", call_text_live_new},
+    {"zf_text_live_edit", call_text_live_edit},
 };
 
 int main(int argc, char **argv) {

@@ -1,10 +1,10 @@
 -- How a batch is filled: one match after another is taken from the list of those that are left.
-use Rattle.std.proofs.Common.{◌≡◌, ◌∙◌, ◌+◌, ◌<◌, ◌≤◌, ℕ, List, [], ◌∷◌, ◌++◌, All, IfSome, MatchOption, Option, Some, None, ap, refl, arith, length, map, set, subst, sym, take, append_assoc}
+use Rattle.std.proofs.Common.{◌≡◌, ◌∙◌, ◌+◌, ◌<◌, ◌≤◌, ℕ, Bool, true, false, if◌then◌else◌, List, [], ◌∷◌, ◌++◌, All, IfSome, MatchOption, Option, Some, None, ap, refl, arith, length, map, set, subst, sym, take, append_assoc}
 use Rattle.std.proofs.lemmas.List.{map-append, take_more_set}
 use Rattle.rc_text.specs.Found.{Found}
 use Rattle.rc_text.specs.Text.{Searched, Keeps}
 use Rattle.rc_text.specs.declared.types.Span.{Span}
-use Rattle.rc_text.specs.declared.types.Anchored.TheVariants.{Yes}
+use Rattle.rc_text.specs.declared.types.Anchored.TheVariants.{No, Yes}
 use Rattle.rc_text.specs.declared.types.MatchKind.{MatchKind}
 use Rattle.rc_program.specs.Kinds.{answer_by, answer_by_from, matches_by_kind}
 use Rattle.rc_program.specs.Matches.{begin_of, end_of, from_on, next_match, unless_again}
@@ -13,7 +13,9 @@ use Rattle.rc_program.specs.Sought.{Sought, passes_over, search_for}
 use Rattle.rc_pikevm_search.specs.Moved.{IsMoved}
 use Rattle.rc_pikevm_search.proofs.Steps.{search_kept, search_moved, step_none, step_some}
 use Rattle.searcher.specs.Places.{IsFilled, found_at}
-use Rattle.searcher.specs.Ranges.{at_start, in_range}
+use Rattle.searcher.specs.Flags.{is_on}
+use Rattle.searcher.specs.Ranges.{anchoring, at_start, in_bounds, in_range}
+use Rattle.searcher.specs.declared.answers.Bounds.{Bounds}
 use Rattle.searcher.specs.declared.answers.MatchAt.{MatchAt}
 
 -- an input in a range is searched as the text in that range
@@ -28,6 +30,24 @@ same_anchored q text start end i j k e =
     search_kept (program (shown q.grouped q.patterns)) q.terminator (passes_over q) (at_start text start end) j
     (subst (λ x. Keeps (at_start text start end) x) (sym e)
     (record { content = k.content; span = k.span; slice = k.slice; anchored = refl; earliest = k.earliest }))
+
+-- an input in a range that is anchored by a flag is searched as the text within those bounds
+pub same_bounds : (q : Sought) (text : List ℕ) (b : Bounds) (i j : Searched) → Keeps (in_range text b.start b.end) i →
+    j ≡ record i { anchored = anchoring b.anchored } → search_for q j ≡ search_for q (in_bounds text b)
+same_bounds q text b i j k e =
+    search_kept (program (shown q.grouped q.patterns)) q.terminator (passes_over q) (in_bounds text b) j
+    (subst (λ x. Keeps (in_bounds text b) x) (sym e)
+    (record { content = k.content; span = k.span; slice = k.slice; anchored = refl; earliest = k.earliest }))
+
+-- within bounds there is the match in the range, or the one at its start
+pub bounds_are : (kind : MatchKind) (q : Sought) (text : List ℕ) (b : Bounds) → answer_by kind (search_for q (in_bounds text b)) ≡
+    (if is_on b.anchored then answer_by kind (search_for q (at_start text b.start b.end)) else answer_by kind (search_for q (in_range text b.start b.end)))
+bounds_are kind q text b = by_flag (is_on b.anchored)
+  where
+    by_flag : (x : Bool) → answer_by kind (search_for q (record (in_range text b.start b.end) { anchored = if x then Yes else No })) ≡
+        (if x then answer_by kind (search_for q (at_start text b.start b.end)) else answer_by kind (search_for q (in_range text b.start b.end)))
+    by_flag true = refl
+    by_flag false = refl
 
 moved : (q : Sought) (i j : Searched) → IsMoved i j → search_for q j ≡ from_on (search_for q i) j.span.start
 moved q = search_moved (program (shown q.grouped q.patterns)) q.terminator (passes_over q)

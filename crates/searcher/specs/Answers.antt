@@ -1,5 +1,5 @@
 -- What a searcher is made of, and what it answers.
-use Rattle.std.specs.Prelude.{◌≡◌, ℕ, ◌<◌, ◌≤◌, List, length, Option, Some, None, IsSome}
+use Rattle.std.specs.Prelude.{◌≡◌, ℕ, ◌<◌, ◌≤◌, List, length, if◌then◌else◌, Option, Some, None, IsSome}
 use Rattle.std.specs.Borrow.{Bor}
 use Rattle.rc_text.specs.Limits.{most_patterns}
 use Rattle.rc_text.specs.Found.{Found}
@@ -14,9 +14,10 @@ use Rattle.api_meta.specs.Views.{regex_kind, regex_patterns, regex_settings, sou
 use Rattle.api_meta.specs.declared.partial.Partial.{Partial}
 use Rattle.api_meta.specs.declared.partial.Partial.TheVariants.{Final, From}
 use Rattle.api_meta.specs.declared.regex.Regex.{Regex}
-use Rattle.searcher.specs.Flags.{kind_of, search_settings, size_limit_in, syntax_settings}
+use Rattle.searcher.specs.Flags.{is_on, kind_of, search_settings, size_limit_in, syntax_settings}
 use Rattle.searcher.specs.Ranges.{AreTexts, IsBroken, at_start, in_range}
 use Rattle.searcher.specs.Searching.{Searching}
+use Rattle.searcher.specs.declared.answers.Bounds.{Bounds}
 use Rattle.searcher.specs.declared.answers.Refusal.{Refusal}
 use Rattle.searcher.specs.declared.answers.Refusal.TheVariants.{Build, Memory, NoKind, NotUtf8, TooMany}
 use Rattle.searcher.specs.declared.settings.Settings.{Settings}
@@ -36,6 +37,10 @@ search_at r text start end = search_for (sought r) (at_start text start end)
 -- the match that it finds
 abbrev pub answer_at : Regex → List ℕ → ℕ → ℕ → Option Found
 answer_at r text start end = answer_by (regex_kind r) (search_at r text start end)
+
+-- the match in a text within bounds
+abbrev pub answer_over : Regex → List ℕ → Bounds → Option Found
+answer_over r text b = if is_on b.anchored then answer_at r text b.start b.end else answer_in r text b.start b.end
 
 -- the matches of the text in a range
 abbrev pub matches_in : Regex → List ℕ → ℕ → ℕ → List Found

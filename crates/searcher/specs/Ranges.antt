@@ -1,9 +1,12 @@
 -- What is searched of a text, and what can't be.
-use Rattle.std.specs.Prelude.{ℕ, ◌+◌, ◌<◌, ◌≤◌, ◌^◌, List, false, IsUtf8, length, min}
+use Rattle.std.specs.Prelude.{ℕ, ◌+◌, ◌<◌, ◌≤◌, ◌^◌, List, false, if◌then◌else◌, IsUtf8, length, min}
 use Rattle.std.specs.Borrow.{Bor}
 use Rattle.rc_text.specs.Joined.{IsTooLong, chunk_at, joined}
 use Rattle.rc_text.specs.Text.{Searched}
+use Rattle.rc_text.specs.declared.types.Anchored.{Anchored}
 use Rattle.rc_text.specs.declared.types.Anchored.TheVariants.{No, Yes}
+use Rattle.searcher.specs.Flags.{is_on}
+use Rattle.searcher.specs.declared.answers.Bounds.{Bounds}
 use Rattle.searcher.specs.declared.answers.Fault.{Fault}
 use Rattle.searcher.specs.declared.answers.Fault.TheVariants.{Outside, TooLong}
 use Rattle.searcher.specs.declared.answers.Refusal.{Refusal}
@@ -25,6 +28,14 @@ in_range text start end = record {
 -- the same, where a match has to begin at `start`
 abbrev pub at_start : List ℕ → ℕ → ℕ → Searched
 at_start text start end = record (in_range text start end) { anchored = Yes }
+
+-- how a search with this flag is anchored
+abbrev pub anchoring : ℕ → Anchored
+anchoring flag = if is_on flag then Yes else No
+
+-- the text within bounds
+abbrev pub in_bounds : List ℕ → Bounds → Searched
+in_bounds text b = record (in_range text b.start b.end) { anchored = anchoring b.anchored }
 
 -- the range begins where the text has a place for it, and not behind its end
 abbrev pub IsInside : List (Bor (List ℕ)) → ℕ → ℕ → Type 0

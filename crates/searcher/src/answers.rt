@@ -8,7 +8,7 @@ ghost use Rattle.searcher.specs.Places.{AreMarksOf, IsMark};
 use rc_captures::captures::Captures;
 use rc_pattern_set::sets::PatternSet;
 use rc_settings::error::BuildError;
-use rc_text::types::{Match, PatternID, Span};
+use rc_text::types::{Anchored, Match, PatternID, Span};
 use std::alloc::{AllocError, AllocFailed};
 
 /// A match: the number of its pattern, and its span, in bytes of the whole text.
@@ -32,6 +32,18 @@ pub struct GroupAt {
     pub start: usize,
     /// Where it ends, exclusive.
     pub end: usize,
+}
+
+/// Where a text is searched, in bytes of the text, and where its match has to begin.
+#[repr(C)]
+#[derive(Clone, Copy)]
+pub struct Bounds {
+    /// Where the search begins.
+    pub start: usize,
+    /// Where it ends, exclusive.
+    pub end: usize,
+    /// Whether the match has to begin at `start`: not 0.
+    pub anchored: u8,
 }
 
 /// Roughly how many bytes the parts of a searcher take.
@@ -103,6 +115,22 @@ pub enum Refusal {
     Build(BuildError),
     /// Out of memory.
     Memory,
+}
+
+impl Bounds {
+    ghost use Rattle.std.specs.Prelude.{◌≡◌};
+    ghost use Rattle.searcher.specs.Ranges.{anchoring};
+
+    /// Whether the match has to begin where the search does.
+    pub(crate) fn anchoring(&self) -> Anchored
+        ensures { result ≡ anchoring self.now.anchored }
+    {
+        if self.anchored != 0 {
+            Anchored::Yes
+        } else {
+            Anchored::No
+        }
+    }
 }
 
 impl MatchAt {

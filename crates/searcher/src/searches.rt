@@ -29,6 +29,7 @@ use std::marker::Model;
 use std::sync::Arc;
 
 mod lives;
+mod prepared;
 mod streams;
 mod windows;
 

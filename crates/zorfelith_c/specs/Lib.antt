@@ -1,6 +1,7 @@
 pub mod Escaping
 pub mod Explaining
 pub mod Held
+pub mod HeldText
 pub mod Lives
 pub mod Names
 pub mod Options
@@ -10,4 +11,5 @@ pub mod Statuses
 pub mod Steps
 pub mod Streams
 pub mod Tells
+pub mod Texts
 pub mod Windows

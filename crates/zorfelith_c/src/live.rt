@@ -37,7 +37,7 @@ impl Change {
     ghost use Rattle.zorfelith_c.specs.Lives.{changed_by};
 
     /// Returns the change as plain numbers.
-    fn of(changed: Changed) -> Change
+    pub(crate) fn of(changed: Changed) -> Change
         ensures { changed_by result ≡ changed }
     {
         Change {

@@ -1,0 +1,4 @@
+pub mod Counts
+pub mod Edited
+pub mod Shown
+pub mod Turned

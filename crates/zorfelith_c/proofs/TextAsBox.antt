@@ -1,0 +1,21 @@
+-- The handle and its parts own what a box at the same types owns.
+use mir.Syntax.{impl, tnil, dnil}
+use mathlib.Core.List.{[]}
+use denote.Signature.{Slot, plain}
+use Rattle.std_alloc.proofs.BoxSteps.Form.{Bx}
+use Rattle.std_heap.specs.contracts.Global as Heap
+use Rattle.std_heap.specs.contracts.GlobalAllocator.TheImpl.{ghosts, dict}
+use Rattle.std_heap.proofs.Global.TheLaws as heap
+use Rattle.searcher.specs.contracts.kept.KeptText as Kept
+use Rattle.searcher.proofs.kept.KeptText.TheLaws as kept
+use Rattle.searcher.specs.contracts.parts.Parts as Parts
+use Rattle.zorfelith_c.specs.contracts.held_text.HeldText as Held
+
+abbrev pub E : Bx
+E = record { row = Kept.the_row; laws = kept.the_row_laws; al = record { row = Heap.the_row; laws = heap.the_row_laws; g = ghosts; d = dict; drops = impl [] tnil dnil } }
+
+abbrev pub FromParts : Slot 0
+FromParts = plain (λ _. Parts.the_row Kept.the_row Heap.the_row ghosts)
+
+abbrev pub FromHeld : Slot 0
+FromHeld = plain (λ _. Held.the_row)
