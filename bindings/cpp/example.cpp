@@ -119,6 +119,22 @@ static void lists() {
     std::printf("%d\n", other.is_match(before));
 }
 
+// A text that keeps its chunks, and is edited in place.
+static void edits() {
+    const std::vector<zorfelith::chunk> lines{"one tw", "o\n", "three\n"}, others{"o, 2", "2\n"};
+    zorfelith::prepared text(lines);
+    zorfelith::regex words("([a-z]+)|[0-9]+");
+    text.edit(1, 2, others);
+    for (const zorfelith::match &found : words.find_all(text))
+        std::printf("%zu..%zu\n", found.start, found.end);
+    std::printf("%d %d\n", words.match_at(text, {5}).has_value(), (*words.find_groups(text, {9}))[1].has_value());
+    try {
+        text.edit(0, 5, others);
+    } catch (const zorfelith::error &error) {
+        std::printf("status %u: %s\n", error.status(), error.what());
+    }
+}
+
 #if __cplusplus >= 202002L
 static_assert(std::ranges::input_range<zorfelith::matches>);
 #endif
@@ -133,5 +149,6 @@ int main() {
     many();
     places(text);
     lists();
+    edits();
     return 0;
 }

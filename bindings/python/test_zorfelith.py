@@ -254,6 +254,43 @@ class Streams(unittest.TestCase):
                 self.assertEqual((steps.found, slices < len(text)), (wanted, True))
 
 
+class PreparedTexts(unittest.TestCase):
+    def test_a_text_under_random_edits(self):
+        rolls = random.Random(5)
+        pattern = zorfelith.compile(r"(?P<word>[ab]+)(c)?|\b$|\u{e9}")
+        chunks = []
+        text = zorfelith.Prepared(chunks)
+        live = pattern.live(text)
+        for _ in range(200):
+            start = rolls.randint(0, len(chunks))
+            end = min(len(chunks), start + rolls.randint(0, 3))
+            new = [b"".join(rolls.choices([b"a", b"b", b"c", b" ", b"\xc3", b"\xa9"], k=rolls.randint(0, 4))) for _ in range(rolls.randint(0, 4))]
+            text.edit(start, end, new)
+            at, gone = sum(map(len, chunks[:start])), sum(map(len, chunks[start:end]))
+            live.edit(at, at + gone, sum(map(len, new)), text)
+            chunks[start:end] = new
+            self.assertEqual(list(live), [it.span() for it in pattern.finditer(chunks)])
+            place = rolls.randint(0, sum(map(len, chunks)))
+            found = pattern.search(chunks, place)
+            self.assertEqual(text.search(pattern, place), found and (found.pattern, found.span()))
+            self.assertEqual(text.groups(pattern, place), found and (found.pattern, [found.span(), *(found.span(i + 1) for i in range(2))]))
+            found = pattern.match(chunks, place)
+            self.assertEqual(text.search(pattern, place, anchored=True), found and (found.pattern, found.span()))
+            found = pattern.partial(chunks, place)
+            self.assertEqual(text.partial(pattern, place), found if isinstance(found, int) else (found.pattern, found.span()))
+            self.assertEqual(list(text.spans(pattern, place)), [it.span() for it in pattern.finditer(chunks, place)])
+
+    def test_what_is_refused(self):
+        text, pattern = zorfelith.Prepared([b"ab", b"c"]), zorfelith.compile("b")
+        for start, end in ((2, 1), (0, 3), (3, 3)):
+            with self.assertRaises(zorfelith.Error) as told:
+                text.edit(start, end, [b"x"])
+            self.assertEqual(told.exception.status, 4)
+        with self.assertRaises(zorfelith.Error):
+            text.search(pattern, 4)
+        self.assertEqual(text.search(pattern), (0, (1, 2)))
+
+
 class Layouts(unittest.TestCase):
     def test_structs_lie_as_the_list_says(self):
         listed = (pathlib.Path(__file__).resolve().parents[2] / "include/zorfelith.abi").read_text()

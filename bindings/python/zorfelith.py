@@ -21,14 +21,14 @@ import os
 import re
 import threading
 
-__all__ = ["ALL", "Change", "Error", "Fault", "LEFTMOST_FIRST", "LEFTMOST_LONGEST", "Live", "Match", "Pattern", "Steps", "Stream", "compile",
+__all__ = ["ALL", "Change", "Error", "Fault", "LEFTMOST_FIRST", "LEFTMOST_LONGEST", "Live", "Match", "Pattern", "Prepared", "Steps", "Stream", "compile",
            "escape", "explain", "version"]
 
 LEFTMOST_FIRST, ALL, LEFTMOST_LONGEST = 0, 1, 2
 
 _FOUND, _OUTSIDE, _ABSENT, _SHORT, _SYNTAX, _MORE_AFTER = 1, 4, 5, 6, 8, 15
 _WORDS = {
-    2: "the pattern was closed",
+    2: "the pattern was closed, or the text",
     3: "the text is too long",
     4: "the range is outside of the text",
     7: "pattern {pattern} isn't UTF-8",
@@ -60,6 +60,14 @@ class _Bytes(ctypes.Structure):
 
 class _Handle(ctypes.Structure):
     _fields_ = [("full", ctypes.c_uint8), ("held", ctypes.c_void_p)]
+
+
+class _Text(ctypes.Structure):
+    _fields_ = [("full", ctypes.c_uint8), ("held", ctypes.c_void_p)]
+
+
+class _Bounds(ctypes.Structure):
+    _fields_ = [("start", _size), ("end", _size), ("anchored", ctypes.c_uint8)]
 
 
 class _Settings(ctypes.Structure):
@@ -129,7 +137,7 @@ def _loaded():
     """The library, with the types of its functions."""
     library = ctypes.CDLL(os.environ.get("ZORFELITH_LIBRARY", "libzorfelith.so.0"))
     handle, text, match, at = ctypes.POINTER(_Handle), [ctypes.POINTER(_Bytes), _size], ctypes.POINTER(_Match), ctypes.POINTER(_size)
-    settings, chars = [ctypes.POINTER(_Settings), _size], [ctypes.c_char_p, _size]
+    settings, chars, prepared = [ctypes.POINTER(_Settings), _size], [ctypes.c_char_p, _size], ctypes.POINTER(_Text)
     types = {
         "zf_version": [],
         "zf_compile": [handle, *text, *settings, ctypes.POINTER(_Refused)],
@@ -168,6 +176,14 @@ def _loaded():
         "zf_step_resume": [handle, *text, _size, match],
         "zf_step_position": [handle, at],
         "zf_step_free": [handle],
+        "zf_text_new": [prepared, *text],
+        "zf_text_edit": [prepared, _size, _size, *text],
+        "zf_text_find": [handle, prepared, ctypes.POINTER(_Bounds), match],
+        "zf_text_find_groups": [handle, prepared, _size, _size, match, ctypes.POINTER(_Group), _size],
+        "zf_text_next": [handle, prepared, _size, match, _size, ctypes.POINTER(_Progress)],
+        "zf_text_find_partial": [handle, prepared, _size, match, at],
+        "zf_text_live_new": [handle, prepared],
+        "zf_text_live_edit": [handle, _size, _size, _size, prepared, ctypes.POINTER(_Change)],
         "zf_pattern_count": [handle, at],
         "zf_group_count": [handle, _size, at],
         "zf_group_name": [handle, _size, _size, ctypes.c_char_p, _size, at],
@@ -178,8 +194,9 @@ def _loaded():
     for name, arguments in types.items():
         getattr(library, name).argtypes = arguments
         getattr(library, name).restype = ctypes.c_uint32
-    library.zf_free.argtypes = [handle]
-    library.zf_free.restype = None
+    for name, owner in (("zf_free", handle), ("zf_text_free", prepared)):
+        getattr(library, name).argtypes = [owner]
+        getattr(library, name).restype = None
     return library
 
 
@@ -201,7 +218,7 @@ def _told(status):
     return status == _FOUND
 
 
-class _Text:
+class _Chunks:
     """The chunks of a text, held where they lie until it is dropped."""
 
     def __init__(self, text):
@@ -354,14 +371,21 @@ class Live(_Apart):
 
     def renew(self, text):
         """Makes the list anew, of this text."""
-        text = _Text(text)
+        if isinstance(text, Prepared):
+            _told(_zf.zf_text_live_new(self._call(), text._text))
+            return
+        text = _Chunks(text)
         _told(_zf.zf_live_new(self._call(), text.array, text.count))
 
     def edit(self, start, end, inserted, text):
         """Keeps the list under an edit: the bytes from start to end were replaced by so many others, and the text is the whole text as it is now. It
         has to be the text of the call before but for that edit. Returns a Change. Out of memory the list is gone, until `renew`."""
-        text, change = _Text(text), _Change()
-        _told(_zf.zf_live_edit(self._call(), start, end, inserted, text.array, text.count, change))
+        change = _Change()
+        if isinstance(text, Prepared):
+            _told(_zf.zf_text_live_edit(self._call(), start, end, inserted, text._text, change))
+        else:
+            text = _Chunks(text)
+            _told(_zf.zf_live_edit(self._call(), start, end, inserted, text.array, text.count, change))
         return Change(*(getattr(change, name) for name in Change._fields))
 
     def __len__(self):
@@ -445,7 +469,7 @@ class Steps(_Apart):
 
     def resume(self, text, budget=65536):
         """Searches about so many bytes more, and returns whether the search has ended. The text is the whole one each time, cut as you like."""
-        text, found = _Text(text), _Match()
+        text, found = _Chunks(text), _Match()
         status = _zf.zf_step_resume(self._call(), text.array, text.count, budget, found)
         if status == _MORE_AFTER:
             return False
@@ -458,6 +482,63 @@ class Steps(_Apart):
         at = _size()
         _told(_zf.zf_step_position(self._call(), at))
         return at.value
+
+
+class Prepared:
+    """A text whose chunks keep their places: an edit replaces some of them, and a search counts none. A live list takes it as a text too. Its chunks may not change while they are in
+    it: a bytearray can't be resized then. It is used by one thread at a time, with a Pattern of that thread."""
+
+    def __init__(self, chunks):
+        self._text, self._chunks = _Text(), [_Chunks([chunk]) for chunk in chunks]
+        _told(_zf.zf_text_new(self._text, *self._array(self._chunks)))
+
+    def __del__(self):
+        if hasattr(self, "_text"):
+            _zf.zf_text_free(self._text)
+
+    @staticmethod
+    def _array(chunks):
+        return (_Bytes * max(len(chunks), 1))(*[it.array[0] for it in chunks] or [_Chunks(b"").array[0]]), len(chunks)
+
+    def edit(self, start, end, chunks):
+        """Replaces the chunks from the index start on and before the index end by others."""
+        others = [_Chunks([chunk]) for chunk in chunks]
+        _told(_zf.zf_text_edit(self._text, start, end, *self._array(others)))
+        self._chunks[start:end] = others
+
+    def search(self, pattern, start=0, end=None, anchored=False):
+        """The number of the pattern and the span of the match from start to end, or None; if anchored, of the match that begins at start."""
+        found, bounds = _Match(), _Bounds(start, _NONE if end is None else end, anchored)
+        if not _told(_zf.zf_text_find(pattern._own(), self._text, bounds, found)):
+            return None
+        return found.pattern, (found.start, found.end)
+
+    def groups(self, pattern, start=0, end=None):
+        """The number of the pattern and the spans of all groups of the match from start to end, or None; (-1, -1) if a group took no part."""
+        found, groups = _Match(), (_Group * max(pattern._most_groups(), 1))()
+        if not _told(_zf.zf_text_find_groups(pattern._own(), self._text, start, _NONE if end is None else end, found, groups, len(groups))):
+            return None
+        count = pattern.group_count(found.pattern)
+        return found.pattern, [(-1, -1) if it.start == _NONE else (it.start, it.end) for it in groups[:count]]
+
+    def partial(self, pattern, start=0):
+        """The number of the pattern and the span of the match of each text that goes on from this one, or else a place, an int."""
+        found, at = _Match(), _size()
+        if not _told(_zf.zf_text_find_partial(pattern._own(), self._text, start, found, at)):
+            return at.value
+        return found.pattern, (found.start, found.end)
+
+    def spans(self, pattern, start=0, end=None):
+        """The spans of the matches from start to end, from left to right. They are found in batches, each in the text as it is then."""
+        batch, progress, follows, end = (_Match * _BATCH)(), _Progress(), 0, _NONE if end is None else end
+        while True:
+            handle = pattern._own()
+            _told(_zf.zf_restart(handle, start, follows))
+            _told(_zf.zf_text_next(handle, self._text, end, batch, _BATCH, progress))
+            start, follows = progress.next, 1
+            yield from [(it.start, it.end) for it in batch[:progress.count]]
+            if progress.count < _BATCH:
+                return
 
 
 class _Owned:
@@ -482,7 +563,7 @@ class Pattern:
         while _owner.dropped:
             _zf.zf_free(ctypes.byref(_owner.dropped.popleft()))
         self._handle, self._dropped, self._thread = _Handle(), _owner.dropped, threading.get_ident()
-        refused, texts = _Refused(), _Text(patterns)
+        refused, texts = _Refused(), _Chunks(patterns)
         if _zf.zf_compile(self._handle, texts.array, texts.count, settings, ctypes.sizeof(settings), refused):
             raise Error(refused.status, refused.pattern, refused.at)
 
@@ -521,26 +602,26 @@ class Pattern:
 
     def is_match(self, text, start=0, end=None):
         """Whether there is a match from start to end."""
-        handle, text = self._own(), _Text(text)
+        handle, text = self._own(), _Chunks(text)
         return _told(_zf.zf_is_match(handle, text.array, text.count, start, _NONE if end is None else end))
 
     def search(self, text, start=0, end=None):
         """The match from start to end, or None."""
-        handle, text, found = self._own(), _Text(text), _Match()
+        handle, text, found = self._own(), _Chunks(text), _Match()
         if not _told(_zf.zf_find(handle, text.array, text.count, start, _NONE if end is None else end, found)):
             return None
         return Match(self, text, found.pattern, found.start, found.end)
 
     def match(self, text, start=0, end=None):
         """The match that begins at start, or None."""
-        handle, text, found = self._own(), _Text(text), _Match()
+        handle, text, found = self._own(), _Chunks(text), _Match()
         if not _told(_zf.zf_match_at(handle, text.array, text.count, start, _NONE if end is None else end, found)):
             return None
         return Match(self, text, found.pattern, found.start, found.end)
 
     def last(self, text, place, start=0, end=None):
         """The last match that begins before the place, of those that `finditer` gives, or None."""
-        handle, text, found = self._own(), _Text(text), _Match()
+        handle, text, found = self._own(), _Chunks(text), _Match()
         if not _told(_zf.zf_find_last(handle, text.array, text.count, start, _NONE if end is None else end, place, found)):
             return None
         return Match(self, text, found.pattern, found.start, found.end)
@@ -548,7 +629,7 @@ class Pattern:
     def partial(self, text, start=0):
         """What the beginning of a text tells of a search from start on: the Match of each text that goes on from it; or else a place, an int,
         before which no match of such a text begins."""
-        handle, text, found, at = self._own(), _Text(text), _Match(), _size()
+        handle, text, found, at = self._own(), _Chunks(text), _Match(), _size()
         if not _told(_zf.zf_find_partial(handle, text.array, text.count, start, found, at)):
             return at.value
         return Match(self, text, found.pattern, found.start, found.end)
@@ -578,7 +659,7 @@ class Pattern:
         at, found = _size(place), _Match()
         while True:
             window = _Window(kept.start, kept.is_last)
-            text = _Text(kept.chunks)
+            text = _Chunks(kept.chunks)
             status = _zf.zf_window_find(self._own(), text.array, text.count, window, at, end, found)
             if status == _MORE_AFTER:
                 kept.drop(at.value)
@@ -592,7 +673,7 @@ class Pattern:
     def replace_one(self, template, text, start=0):
         """The match from start on, and the bytes that a template, a str or bytes as in `subn`, puts in its place; or None."""
         template = template.encode() if isinstance(template, str) else bytes(template)
-        handle, text, told, place = self._own(), _Text(text), _Replacement(), ctypes.create_string_buffer(1)
+        handle, text, told, place = self._own(), _Chunks(text), _Replacement(), ctypes.create_string_buffer(1)
         while True:
             size = len(place) - 1
             status = _zf.zf_replace_one(handle, text.array, text.count, start, template, len(template), place, size, told)
@@ -607,7 +688,7 @@ class Pattern:
         """The text as one bytes object with each match replaced by a template, a str or bytes as in `subn`, and how many were. The library makes
         it in one call."""
         template = template.encode() if isinstance(template, str) else bytes(template)
-        handle, text, told, place = self._own(), _Text(text), _Replaced(), ctypes.create_string_buffer(1)
+        handle, text, told, place = self._own(), _Chunks(text), _Replaced(), ctypes.create_string_buffer(1)
         while True:
             size = len(place) - 1
             status = _zf.zf_replace(handle, text.array, text.count, template, len(template), place, size, told)
@@ -620,14 +701,14 @@ class Pattern:
 
     def which(self, text, start=0, end=None):
         """The numbers of the patterns that have a match from start to end."""
-        handle, text, count = self._own(), _Text(text), self.pattern_count()
+        handle, text, count = self._own(), _Chunks(text), self.pattern_count()
         marks = (ctypes.c_uint8 * max(count, 1))()
         _told(_zf.zf_which_patterns(handle, text.array, text.count, start, _NONE if end is None else end, marks, count))
         return [number for number in range(count) if marks[number]]
 
     def finditer(self, text, start=0, end=None):
         """The matches from start to end, from left to right. They are found in batches; other calls may be made between two matches."""
-        handle, text, end, follows = self._own(), _Text(text), _NONE if end is None else end, 0
+        handle, text, end, follows = self._own(), _Chunks(text), _NONE if end is None else end, 0
         return self._batches(handle, text, start, end, follows)
 
     def _batches(self, handle, text, start, end, follows):
@@ -654,7 +735,7 @@ class Pattern:
         part or the pattern doesn't have it, and `$$` is a `$`. Any other `$` raises ValueError.
         """
         made = template if callable(template) else _filler(template)
-        text, out, done, at = _Text(text), [], 0, 0
+        text, out, done, at = _Chunks(text), [], 0, 0
         for found in self._batches(self._own(), text, 0, _NONE, 0):
             out += [text.copied(at, found.start()), made(found)]
             at, done = found.end(), done + 1
@@ -716,10 +797,13 @@ class Pattern:
         _told(status)
         return number.value
 
+    def _most_groups(self):
+        """How many groups a pattern has at most."""
+        return max([self.group_count(pattern) for pattern in range(self.pattern_count())], default=0)
+
     def _groups(self, text, start, end):
         """The pattern and the spans of all groups of the match in that range, or None if there is none."""
-        handle, found = self._own(), _Match()
-        most = max([self.group_count(pattern) for pattern in range(self.pattern_count())], default=0)
+        handle, found, most = self._own(), _Match(), self._most_groups()
         groups = (_Group * max(most, 1))()
         if not _told(_zf.zf_find_groups(handle, text.array, text.count, start, end, found, groups, most)):
             raise ValueError("the text was changed")

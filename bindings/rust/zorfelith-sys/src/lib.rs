@@ -52,6 +52,21 @@ pub struct zf_handle {
     pub held: *mut c_void,
 }
 
+/// It keeps the chunks that it is given by pointer and length, so they have to outlive it, or the edit that takes them out.
+#[repr(C)]
+pub struct zf_text {
+    pub full: u8,
+    pub held: *mut c_void,
+}
+
+#[repr(C)]
+#[derive(Clone, Copy, Default)]
+pub struct zf_bounds {
+    pub start: usize,
+    pub end: usize,
+    pub anchored: u8,
+}
+
 #[repr(C)]
 #[derive(Clone, Copy, Default)]
 pub struct zf_settings {
@@ -310,6 +325,54 @@ unsafe extern "C" {
     ) -> u32;
     pub fn zf_step_position(handle: *mut zf_handle, position: *mut usize) -> u32;
     pub fn zf_step_free(handle: *mut zf_handle) -> u32;
+    pub fn zf_text_new(text: *mut zf_text, chunks: *const zf_bytes<'_>, chunk_count: usize) -> u32;
+    pub fn zf_text_edit(
+        text: *mut zf_text,
+        start: usize,
+        end: usize,
+        chunks: *const zf_bytes<'_>,
+        chunk_count: usize,
+    ) -> u32;
+    pub fn zf_text_free(text: *mut zf_text);
+    pub fn zf_text_find(
+        handle: *mut zf_handle,
+        text: *mut zf_text,
+        bounds: *const zf_bounds,
+        found: *mut zf_match,
+    ) -> u32;
+    pub fn zf_text_find_groups(
+        handle: *mut zf_handle,
+        text: *mut zf_text,
+        start: usize,
+        end: usize,
+        found: *mut zf_match,
+        groups: *mut zf_group,
+        group_count: usize,
+    ) -> u32;
+    pub fn zf_text_next(
+        handle: *mut zf_handle,
+        text: *mut zf_text,
+        end: usize,
+        batch: *mut zf_match,
+        batch_len: usize,
+        progress: *mut zf_progress,
+    ) -> u32;
+    pub fn zf_text_find_partial(
+        handle: *mut zf_handle,
+        text: *mut zf_text,
+        start: usize,
+        found: *mut zf_match,
+        from: *mut usize,
+    ) -> u32;
+    pub fn zf_text_live_new(handle: *mut zf_handle, text: *mut zf_text) -> u32;
+    pub fn zf_text_live_edit(
+        handle: *mut zf_handle,
+        start: usize,
+        end: usize,
+        inserted: usize,
+        text: *mut zf_text,
+        change: *mut zf_change,
+    ) -> u32;
     pub fn zf_pattern_count(handle: *mut zf_handle, count: *mut usize) -> u32;
     pub fn zf_group_count(handle: *mut zf_handle, pattern: usize, count: *mut usize) -> u32;
     pub fn zf_group_name(

@@ -30,6 +30,10 @@ pub enum Error {
     NoList,
     /// The text doesn't have the length that the edit gives.
     Misfit,
+    /// The stream was finished.
+    Finished,
+    /// The stream would keep more bytes than its limit.
+    Limit,
     /// The call doesn't support an input with a slice or a range, or where a match has to begin at one place.
     Unsupported,
 }
@@ -46,6 +50,8 @@ impl fmt::Display for Error {
             Error::Template { at } => write!(f, "error parsing template at byte {at}"),
             Error::NoList => write!(f, "the list is gone"),
             Error::Misfit => write!(f, "the text doesn't have the length that the edit gives"),
+            Error::Finished => write!(f, "the stream was finished"),
+            Error::Limit => write!(f, "the stream would keep more bytes than its limit"),
             Error::Unsupported => write!(f, "the call doesn't support such an input"),
         }
     }
@@ -167,6 +173,8 @@ pub(crate) fn refused(status: u32) -> Error {
         sys::ZF_NO_KIND => Error::NoGroups,
         sys::ZF_NO_LIST => Error::NoList,
         sys::ZF_MISFIT => Error::Misfit,
+        sys::ZF_FINISHED => Error::Finished,
+        sys::ZF_LIMIT => Error::Limit,
         _ => unreachable!("no call is made that has the status {status}"),
     }
 }

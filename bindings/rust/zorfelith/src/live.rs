@@ -3,10 +3,9 @@
 use crate::cursor::Cursor;
 use crate::error::{Error, told};
 use crate::groups::Match;
-use crate::input::{Anchored, Input, WHOLE};
-use crate::pool::Handle;
+use crate::input::Input;
+use crate::pool::{Handle, Own};
 use crate::text::Text;
-use std::cell::UnsafeCell;
 use std::ops::Range;
 use zorfelith_sys as sys;
 
@@ -28,28 +27,16 @@ pub use zorfelith_sys::zf_change as Change;
 /// assert_eq!(dates.previous(9)?.map(|found| found.range()), Some(4..8));
 /// # Ok::<(), zorfelith::Error>(())
 /// ```
-pub struct LiveMatches(UnsafeCell<Handle>);
-
-/// The text of an input, of which the whole is searched.
-fn whole<'t, C: Cursor<'t>>(mut input: Input<C>) -> Result<Text<'t>, Error> {
-    let is_whole = input.slice == WHOLE && input.span == WHOLE && input.anchored == Anchored::No;
-    if is_whole { Text::whole(&mut input) } else { Err(Error::Unsupported) }
-}
+pub struct LiveMatches(Own);
 
 impl LiveMatches {
     /// The list of a text, by a full handle.
     pub(crate) fn new<'t, C: Cursor<'t>>(handle: Handle, input: Input<C>) -> Result<LiveMatches, Error> {
-        let text = whole(input)?;
-        let list = LiveMatches(UnsafeCell::new(handle));
+        let text = Text::alone(input)?;
+        let list = LiveMatches(Own::new(handle));
         // SAFETY: the handle is used here alone, and the chunks are borrowed.
-        told(unsafe { sys::zf_live_new(list.handle(), text.first(), text.count()) })?;
+        told(unsafe { sys::zf_live_new(list.0.handle(), text.first(), text.count()) })?;
         Ok(list)
-    }
-
-    /// The handle. The list isn't `Sync`, and no call calls back, so it is used by one call at a time.
-    fn handle(&self) -> *mut sys::zf_handle {
-        // SAFETY: no reference to the handle is kept.
-        unsafe { &raw mut (*self.0.get()).0 }
     }
 
     /// Keeps the list under an edit of its text: the bytes of the range were replaced by so many others. The text is handed over as it is now,
@@ -64,11 +51,11 @@ impl LiveMatches {
         inserted: usize,
         text: impl Into<Input<C>>,
     ) -> Result<Change, Error> {
-        let text = whole(text.into())?;
+        let text = Text::alone(text.into())?;
         let mut change = Change::default();
         // SAFETY: the handle is used here alone, the chunks are borrowed, and the rest is what this call asks.
         told(unsafe {
-            sys::zf_live_edit(self.handle(), replaced.start, replaced.end, inserted, text.first(), text.count(), &mut change)
+            sys::zf_live_edit(self.0.handle(), replaced.start, replaced.end, inserted, text.first(), text.count(), &mut change)
         })?;
         Ok(change)
     }
@@ -77,7 +64,7 @@ impl LiveMatches {
     pub fn len(&self) -> Result<usize, Error> {
         let mut len = 0;
         // SAFETY: the handle is used here alone.
-        told(unsafe { sys::zf_live_len(self.handle(), &mut len) })?;
+        told(unsafe { sys::zf_live_len(self.0.handle(), &mut len) })?;
         Ok(len)
     }
 
@@ -90,7 +77,7 @@ impl LiveMatches {
     pub fn get(&self, index: usize) -> Result<Option<Match>, Error> {
         let mut found = Match::default();
         // SAFETY: the handle is used here alone.
-        let status = unsafe { sys::zf_live_get(self.handle(), index, &mut found.0) };
+        let status = unsafe { sys::zf_live_get(self.0.handle(), index, &mut found.0) };
         Ok(told(status)?.then_some(found))
     }
 
@@ -98,7 +85,7 @@ impl LiveMatches {
     pub fn next(&self, place: usize) -> Result<Option<Match>, Error> {
         let mut found = Match::default();
         // SAFETY: the handle is used here alone.
-        let status = unsafe { sys::zf_live_next(self.handle(), place, &mut found.0) };
+        let status = unsafe { sys::zf_live_next(self.0.handle(), place, &mut found.0) };
         Ok(told(status)?.then_some(found))
     }
 
@@ -106,7 +93,7 @@ impl LiveMatches {
     pub fn previous(&self, place: usize) -> Result<Option<Match>, Error> {
         let mut found = Match::default();
         // SAFETY: the handle is used here alone.
-        let status = unsafe { sys::zf_live_previous(self.handle(), place, &mut found.0) };
+        let status = unsafe { sys::zf_live_previous(self.0.handle(), place, &mut found.0) };
         Ok(told(status)?.then_some(found))
     }
 
@@ -115,7 +102,7 @@ impl LiveMatches {
         let mut count = 0;
         // SAFETY: the handle is used here alone, and a `Match` is a `zf_match`.
         told(unsafe {
-            sys::zf_live_window(self.handle(), window.start, window.end, batch.as_mut_ptr().cast(), batch.len(), &mut count)
+            sys::zf_live_window(self.0.handle(), window.start, window.end, batch.as_mut_ptr().cast(), batch.len(), &mut count)
         })?;
         Ok(&batch[..count])
     }

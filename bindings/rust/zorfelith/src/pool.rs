@@ -37,6 +37,21 @@ impl Drop for Handle {
     }
 }
 
+/// A handle that keeps something of its own. It isn't `Sync`, and no call calls back, so it is used by one call at a time.
+pub(crate) struct Own(UnsafeCell<Handle>);
+
+impl Own {
+    pub(crate) fn new(handle: Handle) -> Own {
+        Own(UnsafeCell::new(handle))
+    }
+
+    /// The handle, for a call.
+    pub(crate) fn handle(&self) -> *mut sys::zf_handle {
+        // SAFETY: no reference to the handle is kept.
+        unsafe { &raw mut (*self.0.get()).0 }
+    }
+}
+
 /// Calls a function with what a lock guards. If a thread panicked with it, nothing was left half done.
 pub(crate) fn locked<T, R>(mutex: &Mutex<T>, call: impl FnOnce(&mut T) -> R) -> R {
     let mut guard = mutex.lock().unwrap_or_else(PoisonError::into_inner);

@@ -10,6 +10,8 @@ use crate::live::LiveMatches;
 use crate::order;
 use crate::pool::{Handle, Loan, Pool, locked};
 use crate::search::{Search, Source, found_in};
+use crate::steps::Stepper;
+use crate::stream::StreamSearcher;
 use crate::text::{Text, at_hand};
 use std::fmt;
 use std::sync::{Arc, Mutex};
@@ -328,6 +330,16 @@ impl Regex {
     /// The list of all matches of a text, which is kept under edits of the text.
     pub fn live<'t, C: Cursor<'t>>(&self, input: impl Into<Input<C>>) -> Result<LiveMatches, Error> {
         LiveMatches::new(locked(&self.compiled.handle, Handle::share)?, input.into())
+    }
+
+    /// Begins a search of a text that is still coming in.
+    pub fn stream(&self) -> Result<StreamSearcher, Error> {
+        StreamSearcher::new(locked(&self.compiled.handle, Handle::share)?)
+    }
+
+    /// Begins a search in slices, from a place of a text on. Nothing is searched yet.
+    pub fn steps(&self, start: usize) -> Result<Stepper, Error> {
+        Stepper::new(locked(&self.compiled.handle, Handle::share)?, start)
     }
 
     /// How many patterns there are.

@@ -2,7 +2,7 @@
 
 use crate::cursor::{Chunk, Cursor, chunk};
 use crate::error::Error;
-use crate::input::{Input, Span, WHOLE};
+use crate::input::{Anchored, Input, Span, WHOLE};
 use zorfelith_sys as sys;
 
 /// An array of chunks: one that is there, one of a single chunk, or one that was gathered from a cursor. No byte is copied for it.
@@ -58,6 +58,12 @@ impl<'t> Text<'t> {
         let mut chunks = Vec::new();
         each(&mut input.cursor, input.slice, |bytes| chunks.push(chunk(bytes)));
         Ok(Text::gathered(chunks, input.slice.start, span))
+    }
+
+    /// The text of an input that has neither slice nor range, and of which a match may begin anywhere.
+    pub(crate) fn alone<C: Cursor<'t>>(mut input: Input<C>) -> Result<Text<'t>, Error> {
+        let is_whole = input.slice == WHOLE && input.span == WHOLE && input.anchored == Anchored::No;
+        if is_whole { Text::whole(&mut input) } else { Err(Error::Unsupported) }
     }
 
     /// Its chunks.

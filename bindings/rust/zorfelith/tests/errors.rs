@@ -48,6 +48,23 @@ fn other_errors() {
 }
 
 #[test]
+fn errors_of_streams_and_slices() {
+    let regex = Regex::new("a+").unwrap();
+    let mut stream = regex.stream().unwrap();
+    stream.set_limit(2);
+    stream.feed("aa").unwrap();
+    assert_eq!(stream.feed("a"), Err(Error::Limit));
+    assert_eq!((stream.next_match(), stream.kept_range()), (None, 0..2));
+    stream.finish();
+    assert_eq!(stream.feed(""), Err(Error::Finished));
+    assert_eq!(stream.next_match().map(|found| found.range()), Some(0..2));
+    assert_eq!(stream.next_match(), None);
+    let mut search = regex.steps(0).unwrap();
+    assert_eq!(search.resume(Input::new("ab").slice(1..), 1), Err(Error::Unsupported));
+    assert_eq!(search.resume(Input::new("ab").anchored(Anchored::Yes), 1), Err(Error::Unsupported));
+}
+
+#[test]
 fn groups() {
     let regex = Regex::new_many(&["(a)(?P<second>b)?", "c"]).unwrap();
     let info = regex.group_info();

@@ -4,7 +4,7 @@ mod common;
 
 use common::{Recut, in_chunks, with_empty_ones};
 use std::fmt::Debug;
-use zorfelith::{Anchored, Builder, Captures, Cursor, Error, Grammar, Input, IntoCursor, Match, MatchKind, Regex};
+use zorfelith::{Anchored, Builder, Captures, Cursor, Error, Grammar, Input, IntoCursor, Match, MatchKind, Progress, Regex};
 
 /// These fields say how a search is made, and no answer of a regex depends on them.
 const UNASKED: [&str; 12] = [
@@ -136,6 +136,11 @@ impl Row {
         input.anchored(if self.is_anchored { Anchored::Yes } else { Anchored::No })
     }
 
+    /// Whether the whole text is searched, and a match may begin anywhere.
+    fn is_whole(&self) -> bool {
+        self.slice.is_none() && self.span.is_none() && !self.is_anchored
+    }
+
     /// The matches that are wanted, where all are.
     fn wants(&self) -> Vec<Option<(usize, usize)>> {
         spans_of(&self.want.1).1
@@ -176,6 +181,34 @@ fn ask_first<'t, C: Cursor<'t> + Clone>(row: &Row, regex: &Regex, text: C) {
     }
 }
 
+/// The matches of a stream that is fed the text in chunks of a length.
+fn streamed(regex: &Regex, text: &[u8], len: usize) -> Vec<Match> {
+    let mut stream = regex.stream().unwrap();
+    let mut matches = Vec::new();
+    for chunk in text.chunks(len) {
+        stream.feed(chunk).unwrap();
+        while let Some(found) = stream.next_match() {
+            assert_eq!(stream.bytes_of(found), text[found.range()]);
+            matches.push(found);
+        }
+    }
+    stream.finish();
+    matches.extend(std::iter::from_fn(|| stream.next_match()));
+    matches
+}
+
+/// The match from the start of a text on, which is searched in slices of so many bytes.
+fn stepped<'t, C: Cursor<'t> + Clone>(regex: &Regex, text: &C, budget: usize) -> Option<Match> {
+    let mut search = regex.steps(0).unwrap();
+    loop {
+        let before = search.position();
+        match search.resume(text.clone(), budget).unwrap() {
+            Progress::Done(found) => return found,
+            Progress::NotYet => assert!(search.position() >= before + budget),
+        }
+    }
+}
+
 /// Asks for all matches, by each call that gives them, or that they tell.
 fn ask_all<'t, C: Cursor<'t> + Clone>(row: &Row, regex: &Regex, text: C) {
     let want = row.wants();
@@ -183,6 +216,12 @@ fn ask_all<'t, C: Cursor<'t> + Clone>(row: &Row, regex: &Regex, text: C) {
     same(row, matches.iter().map(pair_of).collect::<Vec<_>>(), want.clone());
     let captures = regex.captures_iter(row.input(text.clone())).map(|captures| captures.unwrap().get_match());
     same(row, captures.collect::<Vec<_>>(), matches.clone());
+    if row.is_whole() {
+        for len in 1..=3 {
+            same(row, streamed(regex, &row.text, len), matches.clone());
+            same(row, stepped(regex, &text, len), matches.first().copied());
+        }
+    }
     let (start, end) = row.bounds();
     for place in [0, start, (start + end) / 2, end, end + 1] {
         let last = matches.iter().rfind(|found| found.start() < place).copied();

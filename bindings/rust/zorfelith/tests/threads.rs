@@ -2,7 +2,7 @@
 
 use std::panic::{RefUnwindSafe, UnwindSafe};
 use std::thread;
-use zorfelith::{Captures, CapturesMatches, Chunk, Error, FindMatches, Input, LiveMatches, Match, Regex, Split, SyntaxError, chunk};
+use zorfelith::{Captures, CapturesMatches, Chunk, Error, FindMatches, Input, LiveMatches, Match, Regex, Split, Stepper, StreamSearcher, SyntaxError, chunk};
 
 const fn is_send<T: Send>() {}
 const fn is_sync<T: Sync>() {}
@@ -28,6 +28,8 @@ const _: () = {
     is_send::<CapturesMatches<'_, '_, &[u8]>>();
     is_send::<Split<'_, '_, &[u8]>>();
     is_send::<LiveMatches>();
+    is_send::<StreamSearcher>();
+    is_send::<Stepper>();
 };
 
 const TEXT: [Chunk<'static>; 3] = [chunk(b"xxa"), chunk(b"ab ab"), chunk(b"bx")];
