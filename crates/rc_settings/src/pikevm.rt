@@ -8,10 +8,20 @@ use rc_text::types::MatchKind;
 use std::alloc::{AllocError, Global};
 
 /// The settings of searches. A setting that isn't set has its default.
-#[derive(Debug, Drop)]
+#[derive(Debug)]
 pub struct Config {
     match_kind: Option<MatchKind>,
     prefilter: Option<Option<Prefilter>>,
+}
+
+// Crates above call this, and drop no part by themselves.
+impl Drop for Config {
+    fn drop(self) {
+        let Config {
+            match_kind: _,
+            prefilter: _,
+        } = self;
+    }
 }
 
 impl Config {
@@ -82,12 +92,12 @@ impl Config {
 }
 
 /// Takes each setting that `new` sets, and keeps the others.
-pub fn overwrite(config: &mut Config, new: Config)
+pub fn overwrite(config: &mut Config, mut new: Config)
     ensures { search_settings_of config.new
         ≡ set_over (search_settings_of config.old) (search_settings_of new) }
 {
     config.match_kind = new.match_kind.or(config.match_kind);
-    if let Some(prefilter) = new.prefilter {
+    if let Some(prefilter) = new.prefilter.take() {
         config.prefilter = Some(prefilter);
     }
 }
