@@ -44,6 +44,21 @@ pub struct Built {
     pub info: GroupInfo,
 }
 
+impl Built {
+    /// Returns the copies of the patterns alone. A crate that calls this drops no part of the engine
+    /// by itself.
+    pub fn into_hirs(self) -> Vec<Hir>
+        ensures { result ≡ self.hirs }
+    {
+        let Built {
+            hirs,
+            engine: _,
+            info: _,
+        } = self;
+        hirs
+    }
+}
+
 /// Builds the patterns, at most 2,147,483,647 of them, under the settings of their program, for
 /// searches for this kind of match.
 ///
