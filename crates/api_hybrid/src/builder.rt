@@ -13,7 +13,7 @@ ghost use Rattle.api_hybrid.specs.Views.{builder_settings, builder_program, buil
 
 use crate::lazy::lazy_of;
 use crate::regex::Regex;
-use rc_build::build::{Built, build_all};
+use rc_build::build::build_all;
 use rc_build::texts::parse_all;
 use rc_pattern::hir::Hir;
 use rc_settings::error::BuildError;
@@ -26,11 +26,22 @@ pub type Config = states::Config<usize>;
 
 /// A builder of lazy DFA regexes. It has the settings of the lazy DFA, of the program, and of the
 /// pattern syntax.
-#[derive(Debug, Drop)]
+#[derive(Debug)]
 pub struct Builder {
     config: Config,
     thompson: thompson::Config,
     syntax: rc_parser::Config,
+}
+
+// Crates above call this, and drop no part by themselves.
+impl Drop for Builder {
+    fn drop(self) {
+        let Builder {
+            config: _,
+            thompson: _,
+            syntax: _,
+        } = self;
+    }
 }
 
 impl Builder {
@@ -146,6 +157,7 @@ impl Builder {
             (builder_settings self.now) (builder_syntax self.now) (map meaning hirs.now) e) }
     {
         let search = states::search_settings(&self.config);
+        let config = search.try_clone(alloc)?;
         let built = build_all(
             alloc,
             hirs,
@@ -155,23 +167,17 @@ impl Builder {
             search.get_prefilter(),
             false,
         )?;
-        let config = search.try_clone(alloc)?;
-        let Built {
-            hirs,
-            engine,
-            info: _,
-        } = built;
         let made = lazy_of(
             alloc,
-            &hirs,
+            &built.hirs,
             self.thompson,
-            &engine.program.places,
-            engine.kind,
+            &built.engine.program.places,
+            built.engine.kind,
             self.config.get_byte_classes(),
             states::limit_of(&self.config).unwrap_or(2_097_152),
         );
-        let passes_over = engine.program.passes_over;
-        drop(engine);
+        let passes_over = built.engine.program.passes_over;
+        let hirs = built.into_hirs();
         let lazy = made?;
         Ok(Regex {
             hirs,

@@ -3,6 +3,7 @@ use Rattle.rc_pattern.specs.Meaning.{meaning}
 use Rattle.rc_program.specs.Laws.{heaviness}
 use Rattle.rc_program.specs.Places.{places_of}
 use Rattle.rc_program.specs.Program.{program, shown}
+use Rattle.rc_program.specs.Sought.{passes_over}
 use Rattle.rc_settings.specs.Thompson.{nfa_size_limit_of, settings_of, which_captures_of}
 use Rattle.rc_settings.specs.Which.{is_grouped}
 use Rattle.rc_settings.specs.SearchSettings.{match_kind_of}
@@ -33,8 +34,9 @@ invariant_of-result c =
     let lazy = c.in_ok-lazy.lazy in
     let same : map meaning c.deref.result.now ≡ map meaning c.in_ok-built.built.hirs.items = ap (λ xs. map meaning xs) c.deref.ensures.value in
     let kind = b.fits.kinded ∙ c.get_match_kind.ensures ∙ sym (ap match_kind_of c.in_ok-config.ensures) in
+    let kept : map meaning c.into_hirs-hirs.result.items ≡ map meaning c.in_ok-built.built.hirs.items = ap (λ v. map meaning v.items) c.into_hirs-hirs.ensures in
+    let made = subst (λ hs. IsLazyFor (sought_by s hs) c.in_ok-built.built.engine.kind lazy) (same ∙ sym kept) c.in_ok-lazy.ensures.made in
     record {
-      passing = b.fits.passing;
-      made = ∣ subst (λ k. IsLazyFor (sought_by s (map meaning c.in_ok-built.built.hirs.items)) k lazy) kind
-          (subst (λ hs. IsLazyFor (sought_by s hs) c.in_ok-built.built.engine.kind lazy) same c.in_ok-lazy.ensures.made) ∣₁;
+      passing = subst (λ hs. c.in_ok-built.built.engine.program.passes_over ≡ passes_over (sought_by s hs)) (sym kept) b.fits.passing;
+      made = ∣ subst (λ k. IsLazyFor (sought_by s (map meaning c.into_hirs-hirs.result.items)) k lazy) kind made ∣₁;
     }
