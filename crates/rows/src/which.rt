@@ -56,7 +56,12 @@ fn set_of<C: Cursor>(
 
 /// Whether these are the members of the set, none of them twice.
 fn has_just(set: &PatternSet, members: &[usize]) -> bool {
-    set.len() == members.len() && members.iter().all(|member| contains(set, *member))
+    for member in members {
+        if !contains(set, *member) {
+            return false;
+        }
+    }
+    set.len() == members.len()
 }
 
 /// Whether the set contains the pattern of this number.
