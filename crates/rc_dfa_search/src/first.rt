@@ -27,7 +27,7 @@ use rc_text::input::{Input, content_fits, piece_from};
 use rc_text::types::{Match, MatchError};
 
 /// How many bytes are checked one by one, before the next needle is looked for.
-const NEAR: usize = 16;
+pub(crate) const NEAR: usize = 16;
 
 /// How many anchored runs are tried after the first, if there are many needles.
 const MORE_RUNS: usize = 16;

@@ -4,6 +4,7 @@
 pub mod build;
 pub mod first;
 pub mod guarded;
+pub mod heads;
 pub mod idle;
 pub mod laws;
 pub mod literals;

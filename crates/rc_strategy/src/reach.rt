@@ -85,7 +85,7 @@ impl Engines {
             return false;
         }
         match self.route(input) {
-            Route::Along | Route::Unguarded | Route::FromStart => true,
+            Route::Along | Route::Unguarded | Route::ByFirstByte | Route::FromStart => true,
             Route::FromEnd | Route::OfLength(_) => false,
         }
     }

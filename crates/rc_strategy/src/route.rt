@@ -19,6 +19,9 @@ use rc_text::cursor::Cursor;
 use rc_text::input::Input;
 use rc_text::types::{Anchored, MatchKind};
 
+/// If more bytes than these may begin a match, one of them is likely to: else most attempts fail.
+const MANY_BYTES: usize = 64;
+
 /// Which DFA a search uses, if any.
 #[derive(Clone, Copy)]
 pub(crate) enum TableChoice<'a> {
@@ -42,6 +45,9 @@ pub(crate) enum Route {
     /// Forwards, and then backwards, with no guard. If there are prefix literals, it may first try an
     /// anchored run where one begins.
     Unguarded,
+    /// As `Unguarded`, without prefix literals. It first tries an anchored run at the first byte over
+    /// which a match may begin.
+    ByFirstByte,
     /// Forwards, and then backwards.
     Along,
 }
@@ -114,6 +120,15 @@ pub(crate) fn anchored_route(kind: MatchKind, lengths: &Lengths) -> Route
     }
 }
 
+/// Whether more than `MANY_BYTES` bytes may begin a match, as far as the program tells, and there
+/// are no prefix literals.
+fn begins_with_many(engine: &Engine) -> bool {
+    match (guards_of(&engine.literals), engine.program.head_table(0)) {
+        (None, Some(heads)) => heads.iter().filter(|flag| **flag).count() > MANY_BYTES,
+        _ => false,
+    }
+}
+
 /// Returns how a search goes that isn't anchored: the first route that fits. `needed` says that
 /// required literals guard the patterns.
 pub(crate) fn free_route(engine: &Engine, lengths: &Lengths, needed: bool) -> Route
@@ -126,7 +141,13 @@ pub(crate) fn free_route(engine: &Engine, lengths: &Lengths, needed: bool) -> Ro
         return Route::FromEnd;
     }
     match anchored_route(engine.kind, lengths) {
-        Route::Along if !needed && !are_fast(&engine.literals) => Route::Unguarded,
+        Route::Along if !needed && !are_fast(&engine.literals) => {
+            if begins_with_many(engine) {
+                Route::ByFirstByte
+            } else {
+                Route::Unguarded
+            }
+        }
         route => route,
     }
 }

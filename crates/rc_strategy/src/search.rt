@@ -8,6 +8,7 @@ use crate::route::{Route, TableChoice};
 use rc_dense_dfa::dense::NoCache;
 use rc_dfa::halves::Halves;
 use rc_dfa_search::guarded::find_end_guarded;
+use rc_dfa_search::heads::find_by_heads;
 use rc_dfa_search::literals::{find_by_guard, find_past_quit};
 use rc_dfa_search::search::{Aim, Bounds, find_between, find_end_between, find_to_end};
 use rc_lazy_dfa::lazy;
@@ -188,6 +189,33 @@ impl Engines {
         Ok(Some(Match::new(found.pattern(), Span { start, end })))
     }
 
+    /// Returns the match by a DFA search along the text, without a guard. It first tries an anchored
+    /// run at the first byte over which a match may begin, if it is known which bytes these are. An
+    /// `Err` says why the DFA has no answer.
+    #[inline(always)]
+    fn find_by_first_byte<H: Halves, C: Cursor>(
+        &self,
+        halves: &H,
+        cache: &mut H::Cache,
+        input: &mut Input<C>,
+        bounds: Bounds,
+    ) -> Result<Option<Match>, MatchError>
+        requires own { ∥ AreHalvesFor self.now.engine self.now.patterns (H.AreOf halves.now) ∥₁ }
+        requires cache { H.IsCache halves.now cache.old }
+        requires bounds { AreBounds input.old bounds }
+        ensures cache { H.IsCache halves.now cache.new }
+        ensures keeps { Keeps input.old input.new }
+        ensures found { IfOk result (λ found. found
+            ≡ answer_by self.now.engine.kind (engine_search self.now.engine input.old)) }
+        ensures within { IfOk result (λ found. IfSome found (IsWithinBounds input.old)) }
+    {
+        let aim = self.aim();
+        match self.engine.program.head_table(0) {
+            Some(heads) => find_by_heads(halves, cache, input, aim, heads, bounds),
+            None => find_between(halves, cache, input, aim, bounds),
+        }
+    }
+
     /// Replies by a DFA, by the route of the search. Along the text it goes from literal to literal
     /// if there is a guard, and the match may be near a slow prefix literal. Returns
     /// None if the DFA has no answer.
@@ -220,6 +248,9 @@ impl Engines {
             }
             (Route::Unguarded, Question::Match, None) => {
                 return find_between(halves, cache, input, self.aim(), bounds).ok();
+            }
+            (Route::ByFirstByte, Question::Match, _) => {
+                return self.find_by_first_byte(halves, cache, input, bounds).ok();
             }
             (Route::FromStart, _, _) => {
                 return self

@@ -1,4 +1,4 @@
-use Rattle.std.proofs.Common.{◌≡◌, ◌+◌, ◌-◌, ◌≤◌, ℕ, inr, length, slice_range, ap, arith}
+use Rattle.std.proofs.Common.{◌≡◌, ◌-◌, ◌≤◌, ℕ, inr, length, slice_range, ap, arith}
 use Rattle.rc_text.specs.Piece.{Shows}
 use Rattle.rc_text.proofs.Ranges.{length-slice_range}
 use Rattle.rc_text.proofs.Pieces.{piece_from_is}

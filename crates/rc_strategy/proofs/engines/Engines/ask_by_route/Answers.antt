@@ -63,6 +63,12 @@ returns-in-Unguarded-Match-Some-clause-reply g c =
     (λ hs same h. c.find_past_quit.ensures.found hs p.terminator h
     (subst (λ ps. Guards ps p.terminator (needles_of c.in-Unguarded-Match-Some.needles.now)) same guards))))
 
+pub returns-in-ByFirstByte-Match-default-clause-reply : goal.returns-in-ByFirstByte-Match-default-clause-reply
+returns-in-ByFirstByte-Match-default-clause-reply g c =
+    let e = c.args.self.now.engine in
+    ok_then c.find_by_first_byte.result c.ok-in-ByFirstByte-Match-default.result (IsReply c.args.question e.kind (engine_search e c.args.input.now)) c.ok-in-ByFirstByte-Match-default.ensures.value
+    (IfOk-weaker c.find_by_first_byte.result _ _ (λ o h. match_replies c.args.question e.kind (engine_search e c.args.input.now) o h) c.find_by_first_byte.ensures.found)
+
 pub returns-in-Unguarded-Match-None-clause-reply : goal.returns-in-Unguarded-Match-None-clause-reply
 returns-in-Unguarded-Match-None-clause-reply g c =
     let e = c.args.self.now in
