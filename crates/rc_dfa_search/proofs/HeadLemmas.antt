@@ -20,7 +20,7 @@ use Rattle.rc_dfa_search.specs.declared.search.Aim.{Aim}
 use Rattle.rc_dfa_search.specs.Aims.{search_for, search_from}
 use Rattle.rc_dfa_search.specs.Firsts.{starting_at}
 use Rattle.rc_dfa_search.specs.Legs.{GoesByNeedles}
-use Rattle.rc_dfa_search.proofs.BeginLemmas.{found_here, found_later}
+use Rattle.rc_dfa_search.proofs.BeginLemmas.{found_here, found_later, not_begun}
 use Rattle.rc_dfa_search.proofs.NeedleLemmas.{is_answer}
 use Rattle.rc_dfa_search.proofs.ToldLemmas.{kept_same}
 
@@ -78,3 +78,10 @@ pub first_later : (aim : Aim) (hs : List Re) (terminator : ℕ) (s : Searched) (
 first_later aim hs terminator s goes from above none u kept r h =
     is_answer aim s.anchored (search_for aim hs terminator s) r goes
     (found_later aim hs terminator s s (kept_same s) goes (low s) (high s) refl refl from above none u kept r h)
+
+-- where no match begins at a position, no walk does
+pub none_here : (aim : Aim) (hs : List Re) (terminator : ℕ) (s : Searched) (goes : GoesByNeedles aim s.anchored) (from : ℕ) → from ≤ high s →
+    (u : Searched) → Keeps s u → (o : Option Found) → is_some o ≡ false → o ≡ answer_by aim.kind (starting_at from (search_for aim hs terminator u)) →
+    HasNoWalkFrom (search_for aim hs terminator s) from
+none_here aim hs terminator s goes from le u kept (Some m) none h = absurd (true≢false none)
+none_here aim hs terminator s goes from le u kept None none h = not_begun aim hs terminator s s (kept_same s) goes (low s) (high s) refl refl u kept from le h

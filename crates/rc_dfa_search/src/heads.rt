@@ -18,6 +18,9 @@ use rc_text::cursor::Cursor;
 use rc_text::input::{Input, piece_from};
 use rc_text::types::{Match, MatchError};
 
+/// How many anchored runs are tried after the first.
+const MORE_RUNS: usize = 3;
+
 /// Returns how many bytes of a piece are skipped: those before the first with a flag.
 #[inline(always)]
 fn skip_unset(flags: &[bool], piece: &[u8]) -> usize
@@ -37,7 +40,9 @@ fn skip_unset(flags: &[bool], piece: &[u8]) -> usize
 /// Returns the match that `find` returns, by the bytes over which matches may begin, one flag each.
 /// If the search is leftmost, not anchored, passes no match over, and such a byte is near, it first
 /// tries an anchored run there. So where matches are dense, nothing is searched backwards. If no
-/// match begins there, it searches on from that byte. An `Err` says why the DFA has no answer.
+/// match begins there, it searches on from that byte, or tries some more if the byte is past ASCII:
+/// of a character that begins no match, each byte may begin one as far as the flags tell. An `Err`
+/// says why the DFA has no answer.
 #[inline(always)]
 pub fn find_by_heads<H: Halves, C: Cursor>(
     halves: &H,
@@ -62,15 +67,25 @@ pub fn find_by_heads<H: Halves, C: Cursor>(
     if low >= high || !goes_by_needles(aim, input.get_anchored()) {
         return find_between(halves, cache, input, aim, bounds);
     }
-    let piece = piece_from(input, low, high);
-    let near = piece.len().min(NEAR);
-    let passed = skip_unset(heads, &piece[..near]);
-    let from = low + passed;
-    if passed < near {
+    let mut at = low;
+    let mut more = MORE_RUNS;
+    'runs: loop {
+        let piece = piece_from(input, at, high);
+        let near = piece.len().min(NEAR);
+        let passed = skip_unset(heads, &piece[..near]);
+        let from = at + passed;
+        if passed == near {
+            return find_between(halves, cache, input, aim, Bounds { low: from, high });
+        }
+        let is_past = piece[passed] >= 128;
         let here = settle_here(halves, cache, input, from, high)?;
         if here.found.is_some() {
             return Ok(here.found);
         }
+        if more == 0 || !is_past || from + 1 >= high {
+            return find_between(halves, cache, input, aim, Bounds { low: from, high });
+        }
+        more -= 1;
+        at = from + 1;
     }
-    find_between(halves, cache, input, aim, Bounds { low: from, high })
 }
