@@ -9,6 +9,7 @@ use crate::look::{cell_of, exits_at, find_in, is_idle};
 use crate::start::start as start_cell;
 use crate::table::Table;
 use rc_dfa::symbols::Symbol;
+use rc_table_search::cells::SKIP;
 use rc_table_search::refusal::Refusal;
 use rc_table_search::run::{Extent, Stand, run, stops_of};
 use rc_table_search::transitions::Transitions;
@@ -100,6 +101,20 @@ impl Transitions for Dense {
     ) -> Result<usize, Refusal> {
         self.next::<W>(cache, row, symbol.byte)
     }
+
+    // It knows no symbols, so no run over them asks.
+    #[inline(always)]
+    fn known<W: Way>(&self, _cache: &NoCache, _row: usize, _byte: u8) -> usize {
+        SKIP
+    }
+
+    #[inline(always)]
+    fn known_over<W: Way>(&self, _cache: &NoCache, _row: usize, _symbol: Symbol) -> usize {
+        SKIP
+    }
+
+    #[inline(always)]
+    fn serve<W: Way>(&self, _cache: &mut NoCache, _bytes: usize) {}
 
     #[inline(always)]
     fn at_end<W: Way>(&self, _cache: &mut NoCache, row: usize) -> Result<Option<usize>, Refusal> {

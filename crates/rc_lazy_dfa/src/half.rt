@@ -1,5 +1,5 @@
 //! Lazy determinization: the states of one direction, and the steps that add to them.
-ghost use Rattle.std.specs.Prelude.{◌≡◌, ◌<◌, ◌≤◌, length, IfOk, IfErr, MatchOption, [], true};
+ghost use Rattle.std.specs.Prelude.{◌≡◌, ◌≢◌, ◌<◌, ◌≤◌, length, IfOk, IfErr, MatchOption, [], true};
 ghost use Rattle.rc_determinize.specs.Places.{state_of};
 ghost use Rattle.rc_determinize.specs.States as states;
 ghost use Rattle.rc_dfa.specs.Machine.{IsAsked};
@@ -155,6 +155,27 @@ impl Half {
             self.served = 0;
         }
         Ok(named)
+    }
+
+    /// Returns the cell of a row and a letter if it is known, or else `UNKNOWN`.
+    #[inline(always)]
+    pub(crate) fn known(
+        &self,
+        automaton: &Automaton,
+        direction: Direction,
+        row: usize,
+        letter: Letter,
+    ) -> usize
+        ghost f: { Frame }
+        requires same { frame_of automaton.now direction ≡ f }
+        requires half { IsHalf f self.now }
+        requires row { IsPlace f self.now.store row }
+        requires letter { IsLetter f.machine.alphabet letter }
+        ensures { result ≢ UNKNOWN → (s : states.State) → IsRow f.width self.now.store.states row s
+            → IsKnownBy f self.now.store.states letter (LeadsByLetter f s letter) result }
+    {
+        let column = column(automaton, self.store.width, letter);
+        self.store.cells[row + column]
     }
 
     /// Returns the cell of a row and a letter. If it isn't known, the step is made, and the cell is

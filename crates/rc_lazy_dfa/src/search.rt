@@ -39,6 +39,7 @@ impl Lazy {
     ghost use Rattle.rc_lazy_dfa.specs.declared.letters.Letter.TheVariants.{Tagged};
 
     /// Returns the symbol as a letter, or its byte alone if bytes are read.
+    #[inline(always)]
     fn letter_of(&self, symbol: Symbol) -> Letter
         requires past { IsPast symbol }
         ensures read { IsLetter (alphabet_in self.now.automaton) result }
@@ -119,6 +120,23 @@ impl Transitions for Lazy {
     ) -> Result<usize, Refusal> {
         let letter = self.letter_of(symbol);
         cache.next(&self.automaton, direction::<W>(), row, letter)
+    }
+
+    #[inline(always)]
+    fn known<W: Way>(&self, cache: &Half, row: usize, byte: u8) -> usize {
+        let letter = Letter::Alone(Some(byte));
+        cache.known(&self.automaton, direction::<W>(), row, letter)
+    }
+
+    #[inline(always)]
+    fn known_over<W: Way>(&self, cache: &Half, row: usize, symbol: Symbol) -> usize {
+        let letter = self.letter_of(symbol);
+        cache.known(&self.automaton, direction::<W>(), row, letter)
+    }
+
+    #[inline(always)]
+    fn serve<W: Way>(&self, cache: &mut Half, bytes: usize) {
+        cache.serve(bytes);
     }
 
     #[inline(always)]

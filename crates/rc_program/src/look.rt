@@ -42,6 +42,7 @@ pub fn holds(look: Look, terminator: u8, before: &[u8], after: &[u8]) -> bool
 
 /// Returns the scalar with whose UTF-8 bytes these begin, and its length in bytes, from 1 to 4.
 /// Returns None if the bytes begin with no scalar.
+#[inline(always)]
 pub fn scalar_at(bytes: &[u8]) -> Option<(char, usize)>
     ensures { result ≡ scalar_at bytes.now }
 {

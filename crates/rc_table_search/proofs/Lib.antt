@@ -5,4 +5,5 @@ mod SymbolLemmas
 mod ScalarLemmas
 mod BesideLemmas
 mod SearchLemmas
+mod OverLemmas
 mod MemoLemmas

@@ -1,6 +1,6 @@
 -- Only proofs use this file.
 -- What a scalar tells of the byte with which it begins or ends.
-use Rattle.std.specs.Prelude.{◌≡◌, ℕ, ◌+◌, ◌<◌, ◌≤◌, ◌==◌, Bool, List, drop, Option, Some, None, if◌then◌else◌}
+use Rattle.std.specs.Prelude.{◌≡◌, ℕ, ◌+◌, ◌-◌, ◌<◌, ◌≤◌, ◌==◌, Bool, true, false, List, drop, Option, Some, None, if◌then◌else◌}
 use Rattle.rc_program.specs.Looks.{is_word_scalar}
 use Rattle.rc_program.specs.Scalars.{scalar_at}
 use Rattle.rc_dfa.specs.declared.symbols.Tagged.{Tagged}
@@ -34,3 +34,22 @@ Has s place = (s.first ≤ place) × (place < s.end)
 -- What it tells of that byte, if it has more than one.
 abbrev pub tag_in : Scalar → ℕ → Tagged
 tag_in s place = if place == s.first then First s.is_word else if place + 1 == s.end then Last s.is_word else Neither
+
+-- The place at which it is read first, that after its byte that is read last, and how many of its
+-- bytes are left to read at a place.
+abbrev pub entry_of : Bool → Scalar → ℕ
+entry_of false s = s.first
+entry_of true s = s.end
+
+abbrev pub exit_of : Bool → Scalar → ℕ
+exit_of false s = s.end
+exit_of true s = s.first
+
+abbrev pub rest_of : Bool → Scalar → ℕ → ℕ
+rest_of false s place = s.end - place
+rest_of true s place = place - s.first
+
+-- What it tells of its byte that is read first, and the other way of that which is read last.
+abbrev pub near_of : Bool → Scalar → Tagged
+near_of false s = First s.is_word
+near_of true s = Last s.is_word

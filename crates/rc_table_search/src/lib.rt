@@ -3,6 +3,7 @@
 
 pub mod again;
 pub mod cells;
+pub(crate) mod over;
 pub mod refusal;
 pub mod rows;
 pub mod run;

@@ -1,7 +1,9 @@
 //! Scalars: those that a piece has whole, and what each tells of its bytes.
-ghost use Rattle.std.specs.Prelude.{◌≡◌, ◌≤◌, ◌<◌, ◌&&◌, IfSome, nat_le, nat_lt, length};
-ghost use Rattle.rc_table_search.specs.Decodes.{Has, IsWhole, tag_in};
+ghost use Rattle.std.specs.Prelude.{◌≡◌, ◌+◌, ◌≤◌, ◌<◌, ◌&&◌, IfSome, nat_le, nat_lt, length};
+ghost use Rattle.rc_table_search.specs.Decodes.{Has, IsWhole, entry_of, tag_in};
+ghost use Rattle.rc_table_search.specs.Walks.{left_of};
 
+use crate::way::Way;
 use rc_dfa::symbols::Tagged;
 use rc_program::look::{is_word_char, scalar_at};
 
@@ -17,8 +19,8 @@ pub struct Scalar {
 }
 
 impl Scalar {
-    ghost use Rattle.std.specs.Prelude.{◌≡◌, ◌<◌, ◌&&◌, nat_le, nat_lt};
-    ghost use Rattle.rc_table_search.specs.Decodes.{tag_in};
+    ghost use Rattle.std.specs.Prelude.{◌≡◌, ◌<◌, ◌&&◌, nat_le, nat_lt, not};
+    ghost use Rattle.rc_table_search.specs.Decodes.{entry_of, exit_of, near_of, rest_of, tag_in};
 
     /// Whether the byte at the place is one of its own.
     #[inline(always)]
@@ -26,6 +28,61 @@ impl Scalar {
         ensures { result ≡ (nat_le self.first place && nat_lt place self.end) }
     {
         self.first <= place && place < self.end
+    }
+
+    /// Returns how many of its bytes are left to read at the place.
+    #[inline(always)]
+    pub fn left<W: Way>(self, place: usize) -> usize
+        ensures { result ≡ rest_of W.BACKWARDS self place }
+    {
+        if W::BACKWARDS {
+            return place.saturating_sub(self.first);
+        }
+        self.end.saturating_sub(place)
+    }
+
+    /// Returns the place at which it is read first.
+    #[inline(always)]
+    pub fn entry<W: Way>(self) -> usize
+        ensures { result ≡ entry_of W.BACKWARDS self }
+    {
+        if W::BACKWARDS {
+            return self.end;
+        }
+        self.first
+    }
+
+    /// Returns the place after its byte that is read last.
+    #[inline(always)]
+    pub fn exit<W: Way>(self) -> usize
+        ensures { result ≡ exit_of W.BACKWARDS self }
+    {
+        if W::BACKWARDS {
+            return self.first;
+        }
+        self.end
+    }
+
+    /// Returns what it tells of its byte that is read first, if it has more than one.
+    #[inline(always)]
+    pub fn near<W: Way>(self) -> Tagged
+        ensures { result ≡ near_of W.BACKWARDS self }
+    {
+        if W::BACKWARDS {
+            return Tagged::Last(self.is_word);
+        }
+        Tagged::First(self.is_word)
+    }
+
+    /// Returns what it tells of its byte that is read last, if it has more than one.
+    #[inline(always)]
+    pub fn far<W: Way>(self) -> Tagged
+        ensures { result ≡ near_of (not W.BACKWARDS) self }
+    {
+        if W::BACKWARDS {
+            return Tagged::First(self.is_word);
+        }
+        Tagged::Last(self.is_word)
     }
 
     /// Returns what it tells of its byte at the place, if it has more than one.
@@ -74,22 +131,41 @@ fn scalar_from(piece: &[u8], first: usize) -> Option<Scalar>
     })
 }
 
-/// Returns the scalar of the byte at the place, if the piece has it whole. That may be the one that
-/// was read last.
+/// Returns the scalar of the byte at the place, if the piece has it whole.
 #[inline(always)]
-pub fn scalar_here(piece: &[u8], place: usize, last: Option<Scalar>) -> Option<Scalar>
+pub fn scalar_here(piece: &[u8], place: usize) -> Option<Scalar>
     requires place { place < length piece.now }
-    requires last { IfSome last (IsWhole piece.now) }
     ensures whole { IfSome result (IsWhole piece.now) }
     ensures has { IfSome result (λ s. Has s place) }
 {
-    if let Some(scalar) = last {
-        if scalar.has(place) {
-            return Some(scalar);
-        }
-    }
     let scalar = scalar_from(piece, lead(piece, place))?;
     if !scalar.has(place) {
+        return None;
+    }
+    Some(scalar)
+}
+
+/// Returns the scalar past ASCII that is read next at the place, if the piece has it whole, and none
+/// of its bytes was read yet.
+#[inline(always)]
+pub fn scalar_next<W: Way>(piece: &[u8], place: usize) -> Option<Scalar>
+    requires place { place ≤ length piece.now }
+    requires some { 0 < left_of W.BACKWARDS (length piece.now) place }
+    ensures whole { IfSome result (IsWhole piece.now) }
+    ensures entry { IfSome result (λ s. place ≡ entry_of W.BACKWARDS s) }
+    ensures several { IfSome result (λ s. s.first + 2 ≤ s.end) }
+    ensures within { IfSome result (λ s. s.end ≤ length piece.now) }
+{
+    let first = if W::BACKWARDS {
+        lead(piece, place - 1)
+    } else {
+        place
+    };
+    let scalar = scalar_from(piece, first)?;
+    if scalar.entry::<W>() != place
+        || scalar.end > piece.len()
+        || scalar.end.saturating_sub(scalar.first) < 2
+    {
         return None;
     }
     Some(scalar)

@@ -15,6 +15,7 @@ ghost use Rattle.rc_table_search.specs.Views.{IsFound, IsNoted, LeadsTo, needs_s
 ghost use Rattle.rc_table_search.specs.Searches.{BeginsAt, HasBegun, HasLed, HasRun, IsAt, IsBegun, IsLeg, IsOver, LeadsAt, Origin, Outset, Says};
 
 use crate::cells::{MET, QUIT, has_died, row_of};
+use crate::over::run_over;
 use crate::refusal::Refusal;
 use crate::run::{Extent, Stand};
 use crate::scalars::scalar_here;
@@ -308,24 +309,29 @@ fn read_symbols<W: Way, T: Transitions>(
 {
     let mut stand = begin;
     let mut place = from;
-    let mut last = None;
     while left::<W>(piece, place) > 0 {
-        let byte = byte::<W>(piece, place);
-        if byte < 128 {
-            return Ok((place, stand));
+        let (on, there) = run_over::<W, T>(table, cache, request, piece, start, place, stand);
+        let rest = left::<W>(piece, on);
+        let read = left::<W>(piece, place).saturating_sub(rest);
+        table.serve::<W>(cache, read.saturating_add(1));
+        if rest == 0 {
+            return Ok((on, there));
         }
-        let here = offset(place, W::BACKWARDS);
-        let Some(scalar) = scalar_here(piece, here, last) else {
-            return Ok((place, stand));
+        let byte = byte::<W>(piece, on);
+        if byte < 128 {
+            return Ok((on, there));
+        }
+        let here = offset(on, W::BACKWARDS);
+        let Some(scalar) = scalar_here(piece, here) else {
+            return Ok((on, there));
         };
         let tagged = scalar.tag(here);
         let symbol = Symbol { byte, tagged };
-        stand = match step_over::<W, T>(table, cache, request, symbol, start + place, stand) {
-            Progress::Through(on) => on,
+        stand = match step_over::<W, T>(table, cache, request, symbol, start + on, there) {
+            Progress::Through(next) => next,
             Progress::Over(reading) => return Err(reading),
         };
-        place = next::<W>(piece, place);
-        last = Some(scalar);
+        place = next::<W>(piece, on);
     }
     Ok((place, stand))
 }

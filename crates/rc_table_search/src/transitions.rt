@@ -1,5 +1,5 @@
 //! Transitions: what a search asks of the table of a DFA or a lazy DFA.
-ghost use Rattle.std.specs.Prelude.{◌≡◌, ◌+◌, ◌≤◌, ℕ, Bool, Some, true, IfOk, IfErr, IsTrue, length};
+ghost use Rattle.std.specs.Prelude.{◌≡◌, ◌≢◌, ◌+◌, ◌≤◌, ℕ, Bool, Some, true, IfOk, IfErr, IsTrue, length};
 ghost use Rattle.rc_determinize.specs.States.{State};
 ghost use Rattle.rc_dfa.specs.Machine.{Machine, is_idle, symbols};
 ghost use Rattle.rc_dfa.specs.Runs.{IsByte};
@@ -7,6 +7,7 @@ ghost use Rattle.rc_dfa.specs.Symbols.{IsPast};
 ghost use Rattle.rc_table_search.specs.Refusals.{is_memory};
 ghost use Rattle.rc_table_search.specs.Views.{IsEnd, IsLawful, IsPatternOf, IsRun, IsSame, IsStart, IsStartBeside, IsStep, IsStepOver, View, reads_symbols};
 
+use crate::cells::SKIP;
 use crate::refusal::Refusal;
 use crate::run::{Extent, Stand};
 use crate::way::Way;
@@ -87,6 +88,26 @@ pub trait Transitions {
             row symbol) }
         ensures refused { IfErr result (λ e. (view self.now W.BACKWARDS).GivesUp cache.old
             cache.new 1 (is_memory e)) };
+
+    /// Returns the cell of a row and a byte if it is known, or else `SKIP`.
+    fn known<W: Way>(&self, cache: &Self::Cache, row: usize, byte: u8) -> usize
+        requires cache { (view self.now W.BACKWARDS).IsCache cache.now }
+        requires row { (view self.now W.BACKWARDS).IsRow cache.now row }
+        ensures { result ≢ SKIP → IsStep (view self.now W.BACKWARDS) cache.now cache.now row
+            byte result };
+
+    /// Returns the cell of a row and a symbol, if it reads symbols: `SKIP` if that isn't known.
+    fn known_over<W: Way>(&self, cache: &Self::Cache, row: usize, symbol: Symbol) -> usize
+        requires cache { (view self.now W.BACKWARDS).IsCache cache.now }
+        requires row { (view self.now W.BACKWARDS).IsRow cache.now row }
+        requires past { IsPast symbol }
+        ensures { (view self.now W.BACKWARDS).alphabet ≡ symbols → result ≢ SKIP
+            → IsStepOver (view self.now W.BACKWARDS) W.BACKWARDS cache.now cache.now row symbol
+            result };
+
+    /// Counts bytes that were read by cells that were known.
+    fn serve<W: Way>(&self, cache: &mut Self::Cache, bytes: usize)
+        ensures { IsSame (view self.now W.BACKWARDS) cache.old cache.new };
 
     /// Returns what is found at the end of what the search sees, from a row on.
     fn at_end<W: Way>(&self, cache: &mut Self::Cache, row: usize) -> Result<Option<usize>, Refusal>

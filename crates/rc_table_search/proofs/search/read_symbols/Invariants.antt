@@ -1,18 +1,19 @@
-use Rattle.std.specs.Prelude.{◌+◌, ◌≤◌, IfSome, length}
+use Rattle.std.specs.Prelude.{◌+◌, ◌≤◌, length}
 use Rattle.rc_table_search.specs.Walks.{left_of}
-use Rattle.rc_table_search.specs.Decodes.{IsWhole}
 use Rattle.rc_table_search.specs.Searches.{IsAt}
 use Rattle.rc_table_search.proofs.search.read_symbols.Given as goal
+
+abbrev pub ghost-run_over : goal.ghost-run_over
+ghost-run_over g a = g.outset
 
 abbrev pub ghost-step_over : goal.ghost-step_over
 ghost-step_over g a = g.outset
 
-abbrev pub invariant-loop-last : goal.invariant-loop-last
-invariant-loop-last g l = record {
+abbrev pub invariant-loop-cache : goal.invariant-loop-cache
+invariant-loop-cache g l = record {
   within : l.place ≤ length l.piece;
-  last : IfSome l.last (IsWhole l.piece);
   here : IsAt (g.T.Transitions.view l.table g.W.Way.BACKWARDS) g.W.Way.BACKWARDS g.outset l.request l.cache (l.start + l.place) l.stand;
 }
 
-abbrev pub decreases-loop-last : goal.decreases-loop-last
-decreases-loop-last g l = left_of g.W.Way.BACKWARDS (length l.piece) l.place
+abbrev pub decreases-loop-cache : goal.decreases-loop-cache
+decreases-loop-cache g l = left_of g.W.Way.BACKWARDS (length l.piece) l.place

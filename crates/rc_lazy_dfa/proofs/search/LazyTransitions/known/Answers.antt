@@ -1,0 +1,6 @@
+use Rattle.rc_lazy_dfa.proofs.SearchLemmas.{step_says}
+use Rattle.rc_lazy_dfa.proofs.search.LazyTransitions.known.Goals as goal
+
+pub returns : goal.returns
+returns g c = λ ne.
+    step_says c.args.self.now g.W.Way.BACKWARDS c.args.cache.now c.args.cache.now c.requires.cache.held c.args.row c.args.byte c.known.result c.requires.row (c.known.ensures ne)
