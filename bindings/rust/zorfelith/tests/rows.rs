@@ -202,7 +202,7 @@ fn stepped<'t, C: Cursor<'t> + Clone>(regex: &Regex, text: &C, budget: usize) ->
     let mut search = regex.steps(0).unwrap();
     loop {
         let before = search.position();
-        match search.resume(text.clone(), budget).unwrap() {
+        match search.resume(Input::new(text.clone()).range(..), budget).unwrap() {
             Progress::Done(found) => return found,
             Progress::NotYet => assert!(search.position() >= before + budget),
         }
