@@ -487,11 +487,11 @@ uint32_t zf_text_next(struct zf_handle *handle, struct zf_text *text, size_t end
  * never ZF_TOO_LONG. The iteration and the text stay as they were. */
 uint32_t zf_text_find_partial(struct zf_handle *handle, struct zf_text *text, size_t start, struct zf_match *found, size_t *from);
 
-/* Makes the handle's live list of the whole text, as zf_live_new. ZF_DONE; ZF_EMPTY; or ZF_MEMORY, and there is no list. */
+/* Makes the handle's live list of the whole text, as zf_live_new. Statuses and what is left as there. */
 uint32_t zf_text_live_new(struct zf_handle *handle, struct zf_text *text);
 
 /* Keeps the list under an edit, as zf_live_edit: `start`, `end` and `inserted` count bytes, and the text was edited before, by zf_text_edit.
- * Statuses, `change`, and what the caller owes, as there, but never ZF_TOO_LONG. The text stays as it was. */
+ * Statuses, `change`, and what the caller owes, as there. The text stays as it was. */
 uint32_t zf_text_live_edit(struct zf_handle *handle, size_t start, size_t end, size_t inserted, struct zf_text *text, struct zf_change *change);
 
 /* How many patterns there are. ZF_DONE or ZF_EMPTY. */
