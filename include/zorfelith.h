@@ -471,20 +471,20 @@ uint32_t zf_text_edit(struct zf_text *text, size_t start, size_t end, const stru
 void zf_text_free(struct zf_text *text);
 
 /* The match of zf_find in the text from bounds->start to bounds->end; with bounds->anchored on, that of zf_match_at. Statuses and `found` as
- * there, but never ZF_TOO_LONG. The iteration and the text stay as they were. */
+ * there. The iteration and the text stay as they were. */
 uint32_t zf_text_find(struct zf_handle *handle, struct zf_text *text, const struct zf_bounds *bounds, struct zf_match *found);
 
 /* The match of zf_find with its groups, as zf_find_groups writes both. Statuses as zf_text_find. The iteration and the text stay as they were. */
 uint32_t zf_text_find_groups(struct zf_handle *handle, struct zf_text *text, size_t start, size_t end, struct zf_match *found,
                              struct zf_group *groups, size_t group_count);
 
-/* Fills `batch` with the next matches of the text up to `end`, as zf_next does, by the handle's iteration. Statuses and `progress` as there, but
- * never ZF_TOO_LONG. The text stays as it was. */
+/* Fills `batch` with the next matches of the text up to `end`, as zf_next does, by the handle's iteration. Statuses and `progress` as there. The
+ * text stays as it was. */
 uint32_t zf_text_next(struct zf_handle *handle, struct zf_text *text, size_t end, struct zf_match *batch, size_t batch_len,
                       struct zf_progress *progress);
 
-/* What the text tells of a search from `start` on, where more bytes may follow it, as zf_find_partial. Statuses and what is written as there, but
- * never ZF_TOO_LONG. The iteration and the text stay as they were. */
+/* What the text tells of a search from `start` on, where more bytes may follow it, as zf_find_partial. Statuses and what is written as there.
+ * The iteration and the text stay as they were. */
 uint32_t zf_text_find_partial(struct zf_handle *handle, struct zf_text *text, size_t start, struct zf_match *found, size_t *from);
 
 /* Makes the handle's live list of the whole text, as zf_live_new. Statuses and what is left as there. */
