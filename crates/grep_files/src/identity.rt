@@ -44,6 +44,13 @@ impl Identity {
         Identity::of_regular(&metadata)
     }
 
+    /// That of an open file, and the file's size in bytes.
+    pub fn with_size(file: &File) -> Option<(Identity, u64)> {
+        let metadata = file.metadata().ok()?;
+        let identity = Identity::of_regular(&metadata)?;
+        Some((identity, metadata.len()))
+    }
+
     /// That of the standard input.
     pub fn of_stdin(rt: &HostRuntime) -> Option<Identity> {
         Identity::of_path(rt, STDIN)

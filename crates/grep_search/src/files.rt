@@ -71,6 +71,7 @@ impl Job<'_, '_, '_> {
                 STDIN
             },
             is_in_folder: false,
+            size: None,
         };
         self.search_input(rt, finder, rt.stdin(), Identity::of_stdin(rt), out, file)
     }
@@ -88,11 +89,13 @@ impl Job<'_, '_, '_> {
             return self.search_stdin(rt, finder, out);
         }
         let opened = read(File::open(rt, name))?;
-        let identity = Identity::of_file(&opened);
+        let known = Identity::with_size(&opened);
         let file = SearchedFile {
             name,
             is_in_folder: found.is_in_folder,
+            size: known.map(|(_, size)| size),
         };
+        let identity = known.map(|(identity, _)| identity);
         self.search_input(rt, finder, opened, identity, out, file)
     }
 

@@ -1,7 +1,7 @@
 //! Reader search: what is printed of one reader.
 
 use crate::fault::{Fault, read, written};
-use crate::pages::{PAGE, PageReader, bytes_of, read_pages};
+use crate::pages::{PAGE, PageReader, bytes_of, page_len, read_pages};
 use grep_files::Identity;
 use grep_lines::{Extent, LinePrinter, Touched, next_selected, print_selected, print_touched};
 use grep_options::filter::{Options, Report};
@@ -296,7 +296,8 @@ impl Job<'_, '_, '_> {
     ) -> Result<bool, Fault> {
         let begun = self.now(rt);
         out.begin_file();
-        let made = BufReader::with_capacity(self.alloc, PAGE, inner.take(u64::MAX));
+        let page = page_len(file.size);
+        let made = BufReader::with_capacity(self.alloc, page, inner.take(u64::MAX));
         let mut reader = read(made)?;
         let found = self.put_report(rt, finder, &mut reader, out, file);
         let size = u64::MAX - reader.get_ref().limit();
@@ -314,6 +315,8 @@ pub struct SearchedFile<'f> {
     pub name: &'f str,
     /// Whether it was found in a folder.
     pub is_in_folder: bool,
+    /// How many bytes it has, if that is known.
+    pub size: Option<u64>,
 }
 
 /// How long it is since then, or nothing if that isn't known.

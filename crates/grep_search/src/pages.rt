@@ -7,11 +7,24 @@ use std::io::{ErrorKind, Read};
 /// The length of the pages in which a file is read, in bytes.
 pub const PAGE: usize = 65_536;
 
+/// The least length of such a page.
+const LEAST_PAGE: usize = 4_096;
+
+/// The length of the pages of a file that has so many bytes, if that is known: a short file is one
+/// page, and no more memory is taken. A file that tells no bytes may have some.
+pub fn page_len(size: Option<u64>) -> usize {
+    match size {
+        Some(size) if 0 < size && size < PAGE as u64 => (size as usize).max(LEAST_PAGE),
+        _ => PAGE,
+    }
+}
+
 /// Reads what is left of a reader. No page is empty.
 pub fn read_pages<R: Read>(alloc: Global, reader: &mut R) -> io::Result<Vec<Vec<u8>>> {
     let mut pages = Vec::new(alloc);
     for _ in 0..u64::MAX {
-        let mut page = Vec::new(alloc);
+        // with a byte more it needn't grow when it is full
+        let mut page = Vec::with_capacity(alloc, PAGE + 1)?;
         if Read::take(&mut *reader, PAGE as u64).read_to_end(&mut page)? == 0 {
             return Ok(pages);
         }
