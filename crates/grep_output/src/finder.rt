@@ -1,5 +1,5 @@
 //! Match finders: the matches in a line, and their groups.
-ghost use Rattle.std.specs.Prelude.{◌≡◌, ℕ, List, OnOk};
+ghost use Rattle.std.specs.Prelude.{◌≡◌, ℕ, List, OnOk, cond, take};
 ghost use Rattle.rc_text.specs.Joined.{joined};
 ghost use Rattle.rc_text.specs.declared.types.Span.{Span};
 
@@ -20,10 +20,17 @@ pub trait MatchFinder: LineSelector {
         ensures same { Self.selects self.new ≡ Self.selects self.old };
 
     /// Finds the matches in a text that lies in chunks, empty ones among them, in the place of those
-    /// in `spans`. They may go on across lines. An `Err` means out of memory, or that the text has as
-    /// many bytes as the greatest `usize`.
-    fn find_in_text(&mut self, chunks: &[&[u8]], spans: &mut Vec<Span>) -> io::Result<()>
-        ensures found { OnOk result (spans.new.items ≡ spans_in self.old (joined chunks.now)) }
+    /// in `spans`, or the first one alone. They may go on across lines. An `Err` means out of memory,
+    /// or that the text has as many bytes as the greatest `usize`.
+    fn find_in_text(
+        &mut self,
+        chunks: &[&[u8]],
+        only_first: bool,
+        spans: &mut Vec<Span>,
+    ) -> io::Result<()>
+        ensures found { OnOk result (spans.new.items
+            ≡ cond only_first (take 1 (spans_in self.old (joined chunks.now)))
+            (spans_in self.old (joined chunks.now))) }
         ensures same { Self.selects self.new ≡ Self.selects self.old };
 
     /// Finds the groups of the match in the line that begins at a position.

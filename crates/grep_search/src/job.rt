@@ -98,6 +98,12 @@ impl Job<'_, '_, '_> {
         }
     }
 
+    /// Whether the first match in a text decides: it is asked if a line is touched. No match begins
+    /// before it, so if it touches no line, the others don't either.
+    fn asks_first(&self, report: Report) -> bool {
+        report != Report::Lines && !self.options.invert && self.most(report) <= 1
+    }
+
     /// How many lines are printed around a selected one, and how many are selected. If no line is
     /// printed, there are none around it.
     fn extent_for(&self, report: Report) -> Extent {
@@ -157,7 +163,7 @@ impl Job<'_, '_, '_> {
         let pages = read(read_pages(self.alloc, reader))?;
         let chunks = read(bytes_of(self.alloc, &pages))?;
         let mut spans = Vec::new(self.alloc);
-        read(finder.find_in_text(&chunks, &mut spans))?;
+        read(finder.find_in_text(&chunks, self.asks_first(report), &mut spans))?;
         let Some(touched) = Touched::new(&spans, self.options.invert) else {
             return Err(Fault::Read(io::Error::from(ErrorKind::Other)));
         };

@@ -1,3 +1,4 @@
 mod LocalLemmas
 mod LineLemmas
 mod TextLemmas
+mod NeededLemmas

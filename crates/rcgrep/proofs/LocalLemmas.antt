@@ -52,19 +52,21 @@ turns_on R S at size rise on (suc n) i j near t =
 spells_rise : (t : Text) (h : Re) (i j : ℕ) → Spells t h i j → i ≤ j
 spells_rise t h i j s = let least = property_law.least t h i j s in omega (arith, least.2)
 
+-- the bytes stand in a text as in a piece of it
+pub stands_on : (xs ys : List ℕ) (at : ℕ) → ((k b : ℕ) → slice_get xs k ≡ Some b → slice_get ys (at + k) ≡ Some b) → (bs : List ℕ) (i j : ℕ) → Stands xs bs i j →
+    Stands ys bs (at + i) (at + j)
+stands_on xs ys at same [] i j e = ap (λ k. at + k) e
+stands_on xs ys at same (b ∷ bs) i j s =
+    let next : at + (i + 1) ≡ at + i + 1 = omega arith in
+    (same i b s.0, subst (λ k. Stands ys bs k (at + j)) next (stands_on xs ys at same bs (i + 1) j s.1))
+
 module _ (t u : Text) (at size : ℕ) (same : (k b : ℕ) → slice_get t.content k ≡ Some b → slice_get u.content (at + k) ≡ Some b)
     (looks : (l : Look) → IsTrue (is_line_look l) → (p : ℕ) → p ≤ size → holds t l p ≡ holds u l (at + p)) where
-  stands_on : (bs : List ℕ) (i j : ℕ) → Stands t.content bs i j → Stands u.content bs (at + i) (at + j)
-  stands_on [] i j e = ap (λ k. at + k) e
-  stands_on (b ∷ bs) i j s =
-      let next : at + (i + 1) ≡ at + i + 1 = omega arith in
-      (same i b s.0, subst (λ k. Stands u.content bs k (at + j)) next (stands_on bs (i + 1) j s.1))
-
   spells_on : (h : Re) → HasLineLooks h → (i j : ℕ) → j ≤ size → Spells t h i j → Spells u h (at + i) (at + j)
   spells_on empty lines i j near e = ap (λ k. at + k) e
-  spells_on (literal bs) lines i j near s = stands_on bs i j s
+  spells_on (literal bs) lines i j near s = stands_on t.content u.content at same bs i j s
   spells_on (byte_in rs) lines i j near s = (s.0, same i s.0 s.1, s.2, omega (arith, s.3))
-  spells_on (char_in rs) lines i j near s = (s.0, s.1, s.2, stands_on _ i j s.3)
+  spells_on (char_in rs) lines i j near s = (s.0, s.1, s.2, stands_on t.content u.content at same _ i j s.3)
   spells_on (look l) lines i j near s =
       let is = lines l (eq-eqb (look_number l) (look_number l) refl) in
       (sym (looks l is i (omega (arith, near, s.1))) ∙ s.0, ap (λ k. at + k) s.1)
@@ -157,7 +159,7 @@ module _ (q : Sought) (is : IsLocal q) where
         (spelled_there text piece at short inside same looks m spelled) (omega (arith, near, within.1, within.2)))
 
 -- the bytes of a piece are the text's
-piece_same : (text : List ℕ) (start end : ℕ) → start ≤ end → end ≤ length text → (k b : ℕ) → slice_get (slice_range text start end) k ≡ Some b →
+pub piece_same : (text : List ℕ) (start end : ℕ) → start ≤ end → end ≤ length text → (k b : ℕ) → slice_get (slice_range text start end) k ≡ Some b →
     slice_get text (start + k) ≡ Some b
 piece_same text start end order inside k b e =
     let piece = slice_range text start end in

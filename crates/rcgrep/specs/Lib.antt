@@ -4,3 +4,4 @@ pub mod Local
 pub mod Unread
 pub mod Fitted
 pub mod Syntax
+pub mod Needed

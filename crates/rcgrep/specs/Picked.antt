@@ -38,6 +38,10 @@ found_from r line from = answer_by (regex_kind r) (search_for (sought r) (from_p
 abbrev pub span_of : Found → Span
 span_of m = record { start = m.start; end = m.end }
 
+-- the matches in what is searched
+abbrev pub spans_of : Regex → Searched → List Span
+spans_of r s = map span_of (matches_by_kind (regex_kind r) (search_for (sought r) s) s.span.start None)
+
 -- the matches in a text, which may go on across lines
 abbrev pub text_matches : Regex → List ℕ → List Span
 text_matches r text = map span_of (matches_by_kind (regex_kind r) (search_for (sought r) (whole text)) 0 None)

@@ -1,17 +1,22 @@
 //! Line matching: patterns that select lines.
-ghost use Rattle.std.specs.Prelude.{◌≡◌, ◌<◌, ◌≤◌, ◌++◌, IfOk, None, OnOk, false, length, map};
+ghost use Rattle.std.specs.Prelude.{◌≡◌, ◌<◌, ◌≤◌, ◌++◌, IfOk, None, OnOk, cond, false, length, take};
 ghost use Rattle.rc_text.specs.Joined.{joined};
-ghost use Rattle.rc_program.specs.Kinds.{answer_by, matches_by_kind};
+ghost use Rattle.rc_program.specs.Kinds.{answer_by};
 ghost use Rattle.rc_program.specs.Sought.{search_for};
 ghost use Rattle.api_meta.specs.Caches.{IsCacheFor};
 ghost use Rattle.api_meta.specs.Views.{regex_kind, regex_patterns, regex_settings, sought};
 ghost use Rattle.regex_cursor.specs.Output.{IsWhole, whole};
+ghost use Rattle.rc_needles.specs.Needles.{find_needle};
+ghost use Rattle.rc_needles.specs.Prefilters.{needles_of};
 ghost use Rattle.rcgrep.specs.Local.{start_or};
-ghost use Rattle.rcgrep.specs.Picked.{IsLine, IsLineFrom, found_from, has_match, is_picked, span_of, text_matches};
+ghost use Rattle.rcgrep.specs.Needed.{needle_or};
+ghost use Rattle.rcgrep.specs.Picked.{IsLine, IsLineFrom, found_from, has_match, is_picked, spans_of, text_matches};
 
 use crate::patterns::Patterns;
 use grep_lines::LineSelector;
 use grep_output::MatchFinder;
+use rc_needles::literal::find_from;
+use rc_needles::prefilter::Prefilter;
 use regex_cursor::cursor::{ChunkCursor, TooLong};
 use regex_cursor::engines::meta::{Cache, Captures, Regex};
 use regex_cursor::types::{Match, Span};
@@ -179,6 +184,19 @@ fn is_past_ascii(bytes: &[u8]) -> bool
     u8x64::from_slice(bytes).simd_ge(u8x64::splat(128)).any()
 }
 
+/// Where the first needle in the page begins, or the end of the page.
+fn needle_start(needles: &Prefilter, page: &[u8]) -> usize
+    ensures start { result ≡ needle_or (length page.now) (find_needle
+        (needles_of needles.now) page.now 0 (length page.now)) }
+    ensures within { result ≤ length page.now }
+{
+    let mut input = Input::new(page);
+    match find_from(&mut input, needles, 0, page.len()) {
+        Some(hit) => hit.start,
+        None => page.len(),
+    }
+}
+
 /// The line, as a text of its own.
 fn input_over(line: &[u8]) -> Input<&[u8]>
     ensures line { IsLine line.now result }
@@ -203,21 +221,24 @@ fn input_over_chunks<'a>(chunks: &'a [&'a [u8]]) -> Result<Input<ChunkCursor<'a>
     Ok(Input::new(ChunkCursor::new(chunks)?))
 }
 
-/// Adds the spans of the matches in the input.
+/// Adds the spans of the matches in the input, or that of the first one alone.
 fn add_matches<C: Cursor>(
     regex: &Regex,
     cache: &mut Cache,
     input: &mut Input<C>,
+    only_first: bool,
     spans: &mut Vec<Span>,
 ) -> Result<(), AllocError>
     requires made { IsCacheFor (regex_patterns regex.now) (regex_settings regex.now) cache.old }
     ensures cache { IsCacheFor (regex_patterns regex.now) (regex_settings regex.now) cache.new }
     ensures added { OnOk result (spans.new.items ≡ spans.old.items
-        ++ map span_of (matches_by_kind (regex_kind regex.now)
-        (search_for (sought regex.now) input.old) input.old.span.start None)) }
+        ++ cond only_first (take 1 (spans_of regex.now input.old)) (spans_of regex.now input.old)) }
 {
     for found in regex.find_iter_with(cache, input) {
         spans.push(found.span())?;
+        if only_first {
+            return Ok(());
+        }
     }
     Ok(())
 }
@@ -238,7 +259,13 @@ impl LineSelector for LineRegex<'_> {
     }
 
     fn next_candidate(&mut self, terminator: u8, page: &[u8]) -> usize {
-        if terminator != b'\n' || self.is_inverted || self.reach == 0 || !self.patterns.is_local {
+        if self.is_inverted {
+            return 0;
+        }
+        if let Some(needles) = &self.patterns.needles {
+            return needle_start(needles, page);
+        }
+        if terminator != b'\n' || self.reach == 0 || !self.patterns.is_local {
             return 0;
         }
         let reach = self.reach_in(page);
@@ -269,12 +296,18 @@ impl MatchFinder for LineRegex<'_> {
         Ok(())
     }
 
-    fn find_in_text(&mut self, chunks: &[&[u8]], spans: &mut Vec<Span>) -> io::Result<()> {
+    fn find_in_text(
+        &mut self,
+        chunks: &[&[u8]],
+        only_first: bool,
+        spans: &mut Vec<Span>,
+    ) -> io::Result<()> {
         spans.clear();
         let Ok(mut input) = input_over_chunks(chunks) else {
             return Err(io::Error::from(ErrorKind::FileTooLarge));
         };
-        add_matches(&self.patterns.regex, &mut self.cache, &mut input, spans)?;
+        let regex = &self.patterns.regex;
+        add_matches(regex, &mut self.cache, &mut input, only_first, spans)?;
         Ok(())
     }
 

@@ -1,5 +1,6 @@
 //! Pattern setup: the patterns by which lines are selected.
-ghost use Rattle.std.specs.Prelude.{◌≡◌, ◌≤◌, All, IfErr, IfOk, IsTrue, length, map, true};
+ghost use Rattle.std.specs.Prelude.{◌≡◌, ◌≤◌, All, IfErr, IfOk, IfSome, IsTrue, length, map, true};
+ghost use Rattle.std.proofs.Props.{props};
 ghost use Rattle.rc_text.specs.Limits.{most_patterns};
 ghost use Rattle.rc_pattern.specs.Meaning.{meaning};
 ghost use Rattle.rc_parser.specs.Settings.{settings_of};
@@ -7,13 +8,20 @@ ghost use Rattle.rcgrep.specs.Syntax.{syntax_settings};
 ghost use Rattle.rc_settings.specs.Settings.{nfa_size_limit_of};
 ghost use Rattle.rc_build.specs.Refusals.{IsBuildable, IsRefusal, limit_by};
 ghost use Rattle.rc_build.specs.TextRefusals.{AllRead, texts_of};
+ghost use Rattle.rc_program.specs.Text.{Text};
+ghost use Rattle.rc_needles.specs.Prefilters.{needles_of};
+ghost use Rattle.rc_literals.specs.Needs.{Holds};
 ghost use Rattle.api_meta.specs.Views.{regex_patterns, regex_settings};
 ghost use Rattle.rcgrep.specs.Fitted.{fitted_of};
 ghost use Rattle.rcgrep.specs.Local.{HasLineLooks, IsLocalPattern, IsLocalRegex};
+ghost use Rattle.rcgrep.specs.Needed.{HoldsNeedle};
 ghost use Rattle.rcgrep.specs.Picked.{line_settings};
 ghost use Rattle.rcgrep.specs.Unread.{IsUnread};
 
 use grep_options::filter::Fit;
+use rc_literals::needs::needs_of;
+use rc_literals::stops::stops_of;
+use rc_needles::prefilter::Prefilter;
 use rc_pattern::check::properties_of;
 use regex_cursor::engines::meta::{BuildError, Regex};
 use regex_cursor::hir::{Hir, Look};
@@ -114,6 +122,8 @@ pub fn all_fitted(alloc: Global, hirs: Vec<Hir>, fit: Fit) -> Result<Vec<Hir>, A
 #[derive(Drop)]
 pub struct Patterns {
     pub regex: Regex,
+    /// Needles, if lines are best passed over by them: each match contains one.
+    pub needles: Option<Prefilter>,
     /// Each assertion of the patterns holds at a newline if and only if it holds at the end of a
     /// text, and no pattern matches an empty text. So a line that has a match has one between other
     /// lines too.
@@ -122,6 +132,7 @@ pub struct Patterns {
     /// DFAs quit there, and no literal is found behind it. This only affects speed.
     pub is_slow_past_ascii: bool,
     ghost local: { is_local ≡ true → ∥ IsLocalRegex regex ∥₁ },
+    ghost held: { IfSome needles (λ p. ∥ HoldsNeedle regex (needles_of p) ∥₁) } by { Prim.hlevel props },
 }
 
 /// Builds a regex whose matches may end inside a character. So none is passed over, and a line that
@@ -148,6 +159,26 @@ fn build_regex(alloc: Global, hirs: &[Hir], config: &Config) -> Result<Regex, Bu
         .build_many_from_hir(alloc, hirs)
 }
 
+/// Needles of which each match of the patterns contains one, if lines are best passed over by them:
+/// if the regex may not pass over lines, or if a match may contain newlines. A search by the regex
+/// would read on across lines then, and the needles are in one line. This only affects speed.
+fn line_needles(
+    alloc: Global,
+    hirs: &[Hir],
+    is_local: bool,
+) -> Result<Option<Prefilter>, AllocError>
+    ensures { IfOk result (λ found. IfSome found
+        (λ p. (t : Text) → Holds t (map meaning hirs.now) (needles_of p))) }
+{
+    if is_local && stops_of(hirs).table[b'\n' as usize] {
+        return Ok(None);
+    }
+    match needs_of(alloc, hirs)? {
+        Some(needs) => Ok(Some(needs.needles)),
+        None => Ok(None),
+    }
+}
+
 /// Builds the patterns, whose matches may end inside a character. The grammar of the syntax settings
 /// weighs them. An `Err` is the first refusal that applies to them, or out of memory.
 pub fn build(alloc: Global, hirs: &[Hir], config: &Config) -> Result<Patterns, BuildError>
@@ -160,9 +191,11 @@ pub fn build(alloc: Global, hirs: &[Hir], config: &Config) -> Result<Patterns, B
 {
     let regex = build_regex(alloc, hirs, config)?;
     let is_local = are_local(hirs);
+    let needles = line_needles(alloc, hirs, is_local)?;
     let is_slow_past_ascii = has_scalar_looks(hirs) && !regex.is_accelerated();
     Ok(Patterns {
         regex,
+        needles,
         is_local,
         is_slow_past_ascii,
     })

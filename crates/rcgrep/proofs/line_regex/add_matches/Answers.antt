@@ -1,7 +1,28 @@
-use Rattle.rcgrep.proofs.TextLemmas.{spans_more}
+use Rattle.std.proofs.Common.{◌≡◌, ◌++◌, ◌∙◌, ap, cond, sym, take, true≢false}
+use Rattle.api_meta.specs.Lent.{find_with_left}
+use Rattle.rcgrep.specs.Picked.{spans_of}
+use Rattle.rcgrep.proofs.TextLemmas.{all_given, first_given, spans_more}
 use Rattle.rcgrep.proofs.line_regex.add_matches.Goals as goal
 
 pub loop-found-preserved : goal.loop-found-preserved
-loop-found-preserved g c =
-    spans_more c.args.spans.now.items c.loop-found.spans.items _ c.loop-found.yielded c.in-Some.found c.span.result c.in_ok-push.ensures.items c.span.ensures.value
-    c.loop-found.invariant
+loop-found-preserved g c = record {
+  spans =
+      spans_more c.args.spans.now.items c.loop-found.spans.items _ c.loop-found.yielded c.in-Some.found c.span.result c.in_ok-push.ensures.items
+      c.span.ensures.value c.loop-found.invariant.spans;
+  none = λ first. absurd (true≢false (sym first ∙ c.if-only_first.false));
+}
+
+pub returns-then-only_first-clause-added : goal.returns-then-only_first-clause-added
+returns-then-only_first-clause-added g c =
+    let all = spans_of c.args.regex.now c.args.input.now in
+    first_given c.into_iter-found-iterator.result c.loop-found.found-iterator c.next.new.self c.loop-found.yielded _
+    (ap find_with_left c.into_iter-found-iterator.ensures.into_iter_gives ∙ c.find_iter_with-found-items.ensures.left_by)
+    c.loop-found.yielded_by c.in-Some.found c.args.spans.now.items c.loop-found.spans.items _ c.span.result c.in-Some.ensures.steps
+    (c.loop-found.invariant.none c.if-only_first.true) c.in_ok-push.ensures.items c.span.ensures.value c.loop-found.invariant.spans
+    ∙ ap (λ b. c.args.spans.now.items ++ cond b (take 1 all) all) (sym c.if-only_first.true)
+
+pub returns-clause-added : goal.returns-clause-added
+returns-clause-added g c =
+    all_given c.into_iter-found-iterator.result c.loop-found.found-iterator c.next.new.self c.loop-found.yielded _
+    (ap find_with_left c.into_iter-found-iterator.ensures.into_iter_gives ∙ c.find_iter_with-found-items.ensures.left_by)
+    c.loop-found.yielded_by c.args.only_first c.args.spans.now.items _ c.in-None.ensures.steps c.loop-found.invariant.none c.loop-found.invariant.spans
