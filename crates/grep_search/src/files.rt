@@ -47,6 +47,7 @@ impl Job<'_, '_, '_> {
             inner,
             output: out.writer.inner,
             may_wait: identity.is_none(),
+            is_over: false,
         };
         match self.search(rt, finder, reader, out, file) {
             Err(Fault::Read(fault)) => {
