@@ -44,11 +44,12 @@ all_spans false old new items all is same none = is ∙ ap (λ xs. old ++ map sp
 
 module _ {C : Type 0} (i t u : FindMatchesWith C) (items all : List Found) (left : find_with_left i ≡ all) (yields : Yields FindNextWith i items t) where
   -- the iterator was asked for the first match alone
-  pub first_given : (m : Found) (old now new : List Span) (s : Span) → FindNextWith t (Some m) u → items ≡ [] → new ≡ now ++ s ∷ [] → s ≡ span_of m →
-      now ≡ old ++ map span_of items → new ≡ old ++ take 1 (map span_of all)
-  first_given m old now new s next none is one told =
-      first_span old now new items (find_with_left u) all m s is one told none
+  pub first_given : (first : Bool) (m : Found) (old now new : List Span) (s : Span) → first ≡ true → FindNextWith t (Some m) u → (first ≡ true → items ≡ []) →
+      new ≡ now ++ s ∷ [] → s ≡ span_of m → now ≡ old ++ map span_of items → new ≡ old ++ cond first (take 1 (map span_of all)) (map span_of all)
+  first_given first m old now new s asked next none is one told =
+      first_span old now new items (find_with_left u) all m s is one told (none asked)
       (sym left ∙ given_and_left i items t yields ∙ ap (λ l. items ++ l) next.0.0)
+      ∙ ap (λ b. old ++ cond b (take 1 (map span_of all)) (map span_of all)) (sym asked)
 
   -- it gave all
   pub all_given : (first : Bool) (old new : List Span) → FindNextWith t None u → (first ≡ true → items ≡ []) → new ≡ old ++ map span_of items →
