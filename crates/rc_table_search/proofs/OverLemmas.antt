@@ -1,22 +1,32 @@
--- Steps over a byte or a symbol of a piece, by cells that are known.
+-- Steps over the bytes of a piece, by cells that are known.
 use Rattle.std.proofs.Common.{◌≡◌, ◌≢◌, ℕ, ◌+◌, ◌-◌, ◌<◌, ◌≤◌, Bool, true, false, List, length, Option, Some, slice_get, slice_range, refl, sym, subst, arith}
 use Rattle.std.proofs.lemmas.Bool.{lt-leb}
 use Rattle.rc_text.specs.Text.{Searched, slice_end}
 use Rattle.rc_determinize.specs.States.{State, best_at}
+use Rattle.rc_program.specs.Sought.{text_of}
+use Rattle.rc_symbols.specs.Symbols.{IsSymbolAt}
 use Rattle.rc_dfa.specs.Machine.{Machine}
+use Rattle.rc_dfa.specs.Symbols.{symbol_of}
+use Rattle.rc_dfa.specs.declared.symbols.Tagged.{Tagged}
 use Rattle.rc_dfa.proofs.SideLemmas.{byte_of_piece}
 use Rattle.rc_table_search.specs.Walks.{byte_at, dead, has_died, left_of, met, next_of, quit, row_of, skip}
-use Rattle.rc_table_search.specs.Ways.{IsBeside, IsInSlice, span}
+use Rattle.rc_table_search.specs.Decodes.{Has, IsWhole, tag_in}
+use Rattle.rc_table_search.specs.Ways.{IsBeside, IsInSlice, offset_of, span}
 use Rattle.rc_table_search.specs.Views.{View, IsLawful, IsNoted, IsSame, LeadsTo}
-use Rattle.rc_table_search.specs.Searches.{IsAt, LeadsAt, Outset}
+use Rattle.rc_table_search.specs.Searches.{GoesAcross, GoesOver, IsAt, LeadsAt, Outset}
 use Rattle.rc_table_search.specs.declared.search.Request.{Request}
 use Rattle.rc_table_search.specs.declared.run.Stand.{Stand}
-use Rattle.rc_table_search.proofs.SpanLemmas.{left_on}
+use Rattle.rc_table_search.specs.declared.scalars.Scalar.{Scalar}
+use Rattle.rc_table_search.proofs.ScalarLemmas.{symbol_found}
+use Rattle.rc_table_search.proofs.SpanLemmas.{left_on, next_here, place_next}
 use Rattle.rc_table_search.proofs.SearchLemmas.{none_found, step_goes}
 
 -- something goes on from there
 alive_plain : (cell : ℕ) → cell < skip → has_died cell ≡ false
 alive_plain cell lt = rw (lt-leb met cell (omega (arith, lt)), lt-leb dead cell (omega (arith, lt))) refl
+
+pub row_plain : (C : Type 0) (v : View C) (c : C) (cell : ℕ) → (has_died cell ≡ false → v.IsRow c (row_of cell)) → cell < skip → v.IsRow c cell
+row_plain C v c cell is lt = let same : row_of cell ≡ cell = omega (arith, lt) in subst (λ r. v.IsRow c r) same (is (alive_plain cell lt))
 
 module _ (C : Type 0) (v : View C) (laws : IsLawful v) (backwards : Bool) (o : Outset C) (q : Request) (c : C) (at : ℕ) (stand : Stand) (cell : ℕ)
     (here : IsAt v backwards o q c at stand) (leads : cell ≢ skip → LeadsAt v backwards o.seen c c at stand.row cell) (left : 0 < span backwards at q.end) where
@@ -49,6 +59,33 @@ pub slice_here : (backwards : Bool) (seen : Searched) (start place len : ℕ) �
     0 < left_of backwards len place → IsInSlice backwards seen (start + place)
 slice_here false seen start place len low high le some = (omega (arith, low), omega (arith, high, some))
 slice_here true seen start place len low high le some = (omega (arith, low, some), omega (arith, high, le))
+
+-- an ASCII byte of the piece, or one of a scalar of it, is read next
+module _ (C : Type 0) (v : View C) (backwards : Bool) (c : C) (piece : List ℕ) (from place b : ℕ) (t : Tagged) (begin stand next : Stand) (le : place ≤ length piece)
+    (some : 0 < left_of backwards (length piece) place) (byte : b ≡ byte_at backwards piece place) (before : GoesAcross v backwards c piece from place begin stand)
+    (over : GoesOver v backwards c b t stand next) where
+  across : ((seen : Searched) (start : ℕ) → seen.slice.start ≤ start → start + length piece ≤ slice_end seen → piece ≡ slice_range seen.content start (start + length piece) →
+      128 ≤ b → (terminator : ℕ) → IsBeside backwards seen.content (start + place) b →
+      IsSymbolAt (text_of terminator seen) (offset_of backwards (start + place)) (symbol_of (record { byte = b; tagged = t }))) →
+      GoesAcross v backwards c piece from (next_of backwards place) begin next
+  across symbol = λ o q start lies at.
+      let step = next_here backwards o.seen q.end start place piece lies.inside lies.is lies.within le some in
+      let there = subst (IsBeside backwards o.seen.content (start + place)) (sym byte) step.there in
+      subst (λ i. IsAt v backwards o q c i next) (place_next backwards (length piece) start place some)
+      (over o q (start + place) (before o q start lies at) (record {
+        there = there;
+        inside = slice_here backwards o.seen start place (length piece) lies.low lies.high le some;
+        symbol = λ past terminator. symbol o.seen start lies.low lies.high lies.is past terminator there;
+      }) step.left)
+
+  pub across_alone : b < 128 → GoesAcross v backwards c piece from (next_of backwards place) begin next
+  across_alone lt = across (λ seen start low high is past terminator there. absurd (omega (arith, lt, past)))
+
+  pub across_one : (s : Scalar) → IsWhole piece s → Has s (offset_of backwards place) → t ≡ tag_in s (offset_of backwards place) →
+      GoesAcross v backwards c piece from (next_of backwards place) begin next
+  across_one s whole has tag = across (λ seen start low high is past terminator there.
+      subst (λ k. IsSymbolAt (text_of terminator seen) (offset_of backwards (start + place)) (symbol_of (record { byte = b; tagged = k }))) (sym tag)
+      (symbol_found backwards terminator seen start place (offset_of backwards place) b piece s low high is le some refl past whole has there))
 
 -- only what no row depends on was changed
 pub at_same : (C : Type 0) (v : View C) (backwards : Bool) (o : Outset C) (q : Request) (c0 c : C) (at : ℕ) (stand : Stand) → IsSame v c0 c →

@@ -1,11 +1,10 @@
 -- The scalars that a piece has whole decide the symbols of their bytes.
-use Rattle.std.proofs.Common.{◌≡◌, ◌≢◌, ℕ, ◌+◌, ◌-◌, ◌<◌, ◌≤◌, ◌==◌, Bool, true, false, true≢false, not, List, ◌++◌, length, take, drop, Option, Some, None, slice_get, slice_range, if◌then◌else◌, ⊎_elim, refl, sym, subst, ap, ap₂, ◌∙◌, arith}
+use Rattle.std.proofs.Common.{◌≡◌, ◌≢◌, ℕ, ◌+◌, ◌-◌, ◌<◌, ◌≤◌, ◌==◌, Bool, true, false, true≢false, not, List, ◌++◌, length, take, drop, Some, None, slice_get, slice_range, if◌then◌else◌, ⊎_elim, refl, sym, ap, ap₂, ◌∙◌, arith}
 use Rattle.std.specs.Char.{encode_utf8}
 use Rattle.std.proofs.lemmas.Bool.{cases_eq, cases_lt, eq-eqb, ne_eqb}
 use Rattle.std.proofs.lemmas.List.{append_assoc, drop-drop, drop-take}
 use Rattle.rc_text.specs.Text.{Searched, slice_end}
 use Rattle.rc_text.proofs.Ranges.{slice_range-append}
-use Rattle.rc_program.specs.Looks.{is_word_scalar}
 use Rattle.rc_program.specs.Scalars.{scalar_at}
 use Rattle.rc_program.specs.Sought.{text_of}
 use Rattle.rc_program.specs.Text.{before_at, after_at}
@@ -14,14 +13,12 @@ use Rattle.rc_symbols.specs.Symbols as text
 use Rattle.rc_symbols.specs.Symbols.{tag_of, IsScalarAt, IsAround, IsSymbolAt}
 use Rattle.rc_symbols.proofs.SymbolLemmas.{symbol_law}
 use Rattle.rc_dfa.specs.Symbols.{opens_of, shuts_of, symbol_of}
-use Rattle.rc_dfa.specs.declared.symbols.Tagged.{Tagged}
 use Rattle.rc_dfa.specs.declared.symbols.Tagged.TheVariants.{Neither, First, Last}
 use Rattle.rc_table_search.specs.declared.scalars.Scalar.{Scalar}
-use Rattle.rc_table_search.specs.Decodes.{Has, IsWhole, entry_of, near_of, rest_of, tag_in}
-use Rattle.rc_table_search.specs.Walks.{byte_at, first_of, left_of, next_of}
-use Rattle.rc_table_search.specs.Ways.{IsBeside, IsBounded, IsOn, LiesWithin, offset_of, span}
-use Rattle.rc_table_search.proofs.SpanLemmas.{next_here}
-use Rattle.rc_table_search.proofs.WayLemmas.{some_before, there_of}
+use Rattle.rc_table_search.specs.Decodes.{Has, IsWhole, entry_of, exit_of, near_of, rest_of, tag_in}
+use Rattle.rc_table_search.specs.Walks.{first_of, left_of, next_of}
+use Rattle.rc_table_search.specs.Ways.{IsBeside, IsBounded, IsOn, LiesWithin, offset_of}
+use Rattle.rc_table_search.proofs.WayLemmas.{there_of}
 
 -- What begins some bytes begins those that go on with them.
 begins_on : (bs more : List ℕ) (c n : ℕ) → scalar_at bs ≡ Some (c, n) → scalar_at (bs ++ more) ≡ Some (c, n)
@@ -173,14 +170,14 @@ rest_some true s place len low high within some = (
 )
 
 -- what it tells of its bytes in turn
-near_tag : (backwards : Bool) (s : Scalar) (place : ℕ) → s.first + 2 ≤ s.end → place ≡ entry_of backwards s → near_of backwards s ≡ tag_in s (offset_of backwards place)
+pub near_tag : (backwards : Bool) (s : Scalar) (place : ℕ) → s.first + 2 ≤ s.end → place ≡ entry_of backwards s → near_of backwards s ≡ tag_in s (offset_of backwards place)
 near_tag false s place two is =
     sym (ap (λ x. if x then First s.is_word else if place + 1 == s.end then Last s.is_word else Neither) (eq-eqb place s.first is))
 near_tag true s place two is =
     sym (ap₂ (λ x y. if x then First s.is_word else if y then Last s.is_word else Neither) (ne_eqb (place - 1) s.first (λ e. omega (arith, e, is, two)))
     (eq-eqb (place - 1 + 1) s.end (omega (arith, is, two))))
 
-mid_tag : (backwards : Bool) (s : Scalar) (place : ℕ) → s.first < place → place < s.end → 1 < rest_of backwards s place → Neither ≡ tag_in s (offset_of backwards place)
+pub mid_tag : (backwards : Bool) (s : Scalar) (place : ℕ) → s.first < place → place < s.end → 1 < rest_of backwards s place → Neither ≡ tag_in s (offset_of backwards place)
 mid_tag false s place low high more =
     sym (ap₂ (λ x y. if x then First s.is_word else if y then Last s.is_word else Neither) (ne_eqb place s.first (λ e. omega (arith, e, low)))
     (ne_eqb (place + 1) s.end (λ e. omega (arith, e, more))))
@@ -188,7 +185,7 @@ mid_tag true s place low high more =
     sym (ap₂ (λ x y. if x then First s.is_word else if y then Last s.is_word else Neither) (ne_eqb (place - 1) s.first (λ e. omega (arith, e, more)))
     (ne_eqb (place - 1 + 1) s.end (λ e. omega (arith, e, low, high))))
 
-far_tag : (backwards : Bool) (s : Scalar) (place : ℕ) → s.first < place → place < s.end → rest_of backwards s place ≤ 1 →
+pub far_tag : (backwards : Bool) (s : Scalar) (place : ℕ) → s.first < place → place < s.end → rest_of backwards s place ≤ 1 →
     near_of (not backwards) s ≡ tag_in s (offset_of backwards place)
 far_tag false s place low high last =
     sym (ap₂ (λ x y. if x then First s.is_word else if y then Last s.is_word else Neither) (ne_eqb place s.first (λ e. omega (arith, e, low)))
@@ -196,7 +193,7 @@ far_tag false s place low high last =
 far_tag true s place low high last =
     sym (ap (λ x. if x then First s.is_word else if place - 1 + 1 == s.end then Last s.is_word else Neither) (eq-eqb (place - 1) s.first (omega (arith, low, last))))
 
-entry_at : (backwards : Bool) (s : Scalar) (place : ℕ) → s.first + 2 ≤ s.end → place ≡ entry_of backwards s →
+pub entry_at : (backwards : Bool) (s : Scalar) (place : ℕ) → s.first + 2 ≤ s.end → place ≡ entry_of backwards s →
     (s.first ≤ place) × (place ≤ s.end) × (0 < rest_of backwards s place)
 entry_at false s place two is = (omega (arith, is), omega (arith, is, two), omega (arith, is, two))
 entry_at true s place two is = (omega (arith, is, two), omega (arith, is), omega (arith, is, two))
@@ -210,33 +207,12 @@ pub rest_inside : (backwards : Bool) (s : Scalar) (place : ℕ) → s.first < pl
 rest_inside false s place low high = omega (arith, high)
 rest_inside true s place low high = omega (arith, low)
 
--- a byte of a scalar of a piece, which is read next
-module _ (backwards : Bool) (seen : Searched) (bound start place b : ℕ) (piece : List ℕ) (s : Scalar) (t : Tagged) (low : seen.slice.start ≤ start)
-    (high : start + length piece ≤ slice_end seen) (is : piece ≡ slice_range seen.content start (start + length piece)) (inside : IsBounded backwards seen bound)
-    (lies : LiesWithin backwards start (length piece) bound) (whole : IsWhole piece s) (within : s.end ≤ length piece) (byte : b ≡ byte_at backwards piece place) where
-  abbrev IsRead : Type 0
-  IsRead =
-      (128 ≤ b → (terminator : ℕ) → IsSymbolAt (text_of terminator seen) (offset_of backwards (start + place)) (symbol_of (record { byte = b; tagged = t })))
-      × (backwards ≡ true → 0 < start + place) × (0 < span backwards (start + place) bound)
+-- the places after its byte that is read first, and after its byte that is read last
+pub entry_next : (backwards : Bool) (s : Scalar) (place : ℕ) → s.first + 2 ≤ s.end → place ≡ entry_of backwards s →
+    (s.first < next_of backwards place) × (next_of backwards place < s.end)
+entry_next false s place two is = (omega (arith, is), omega (arith, is, two))
+entry_next true s place two is = (omega (arith, is, two), omega (arith, is, two))
 
-  is_read : s.first ≤ place → place ≤ s.end → 0 < rest_of backwards s place → t ≡ tag_in s (offset_of backwards place) → IsRead
-  is_read first last some tag =
-      let rest = rest_some backwards s place (length piece) first last within some in
-      let next = next_here backwards seen bound start place piece inside is lies rest.0 rest.1 in
-      let there = subst (IsBeside backwards seen.content (start + place)) (sym byte) next.there in (
-        λ past terminator. subst (λ k. IsSymbolAt (text_of terminator seen) (offset_of backwards (start + place)) (symbol_of (record { byte = b; tagged = k }))) (sym tag)
-            (symbol_found backwards terminator seen start place (offset_of backwards place) b piece s low high is rest.0 rest.1 refl past whole rest.2 there),
-        some_before backwards seen.content (start + place) b there,
-        next.left,
-      )
-
-  pub near_read : s.first + 2 ≤ s.end → place ≡ entry_of backwards s → t ≡ near_of backwards s → IsRead
-  near_read two at tag = let e = entry_at backwards s place two at in is_read e.0 e.1 e.2 (tag ∙ near_tag backwards s place two at)
-
-  pub mid_read : s.first < place → place < s.end → 1 < rest_of backwards s place → t ≡ Neither → IsRead
-  mid_read first last more tag =
-      is_read (omega (arith, first)) (omega (arith, last)) (rest_inside backwards s place first last) (tag ∙ mid_tag backwards s place first last more)
-
-  pub far_read : s.first < place → place < s.end → rest_of backwards s place ≤ 1 → t ≡ near_of (not backwards) s → IsRead
-  far_read first last none tag =
-      is_read (omega (arith, first)) (omega (arith, last)) (rest_inside backwards s place first last) (tag ∙ far_tag backwards s place first last none)
+pub exit_next : (backwards : Bool) (s : Scalar) (place : ℕ) → s.first < place → place < s.end → rest_of backwards s place ≤ 1 → next_of backwards place ≡ exit_of backwards s
+exit_next false s place low high last = omega (arith, high, last)
+exit_next true s place low high last = omega (arith, low, last)

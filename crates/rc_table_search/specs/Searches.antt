@@ -1,17 +1,20 @@
 -- Only proofs use this file.
 -- Searches by a table: what their runs keep, and how they end.
-use Rattle.std.specs.Prelude.{◌≡◌, ℕ, ◌+◌, Bool, false, not, Option, Some, None, Result, IfOk, IfErr}
+use Rattle.std.specs.Prelude.{◌≡◌, ℕ, ◌+◌, ◌<◌, ◌≤◌, Bool, false, not, List, Option, Some, None, Result, IfOk, IfErr}
 use Rattle.rc_text.specs.Text.{Searched}
 use Rattle.rc_program.specs.Text.{Text}
 use Rattle.rc_program.specs.Sought.{text_of}
 use Rattle.rc_determinize.specs.States.{State}
+use Rattle.rc_symbols.specs.Symbols.{IsSymbolAt}
 use Rattle.rc_dfa.specs.Machine.{Machine, IsAsked}
 use Rattle.rc_dfa.specs.Runs.{MayReadSide, BeginsBy, LeadsAcross, met_last}
 use Rattle.rc_dfa.specs.Ended.{gave_up}
+use Rattle.rc_dfa.specs.Symbols.{symbol_of}
+use Rattle.rc_dfa.specs.declared.symbols.Tagged.{Tagged}
 use Rattle.rc_dfa.specs.declared.ended.Ended.{Ended}
 use Rattle.rc_text.specs.declared.types.Anchored.{Anchored}
-use Rattle.rc_table_search.specs.Walks.{has_died, row_of}
-use Rattle.rc_table_search.specs.Ways.{Course, EndsFrom, HasEndedBy, HasEndedFrom, IsOn, RunsBy, far_at, side_at, span}
+use Rattle.rc_table_search.specs.Walks.{has_died, next_of, row_of}
+use Rattle.rc_table_search.specs.Ways.{Course, EndsFrom, HasEndedBy, HasEndedFrom, IsAhead, IsBeside, IsInSlice, IsOn, RunsBy, far_at, offset_of, side_at, span}
 use Rattle.rc_table_search.specs.Views.{View, IsNoted, KnowsSide}
 use Rattle.rc_table_search.specs.Refusals.{is_memory}
 use Rattle.rc_table_search.specs.declared.refusal.Refusal.{Refusal}
@@ -58,6 +61,12 @@ pub record LeadsAt {C : Type 0} (v : View C) (backwards : Bool) (seen : Searched
   pub leads : (m : Machine) → v.IsOf m → (s : State) → v.HasState old m row s → KnowsSide v new m (side_at backwards (text_in m seen) i)
       (LeadsAcross m.alphabet m (side_at backwards (text_in m seen) i) (far_at backwards (text_in m seen) i) s) cell
 
+-- The byte is read next at the position. Of one past ASCII this is known.
+pub record IsTagged (backwards : Bool) (seen : Searched) (i b : ℕ) (tagged : Tagged) : Type 0 where
+  pub there : IsBeside backwards seen.content i b
+  pub inside : IsInSlice backwards seen i
+  pub symbol : 128 ≤ b → (terminator : ℕ) → IsSymbolAt (text_of terminator seen) (offset_of backwards i) (symbol_of (record { byte = b; tagged = tagged }))
+
 -- It began in the state of the row, by what stands beside.
 pub record HasBegun {C : Type 0} (v : View C) (backwards : Bool) (o : Origin C) (q : Request) (c : C) (stand : Stand) : Type 0 where
   pub cache : v.IsCache c
@@ -97,6 +106,16 @@ pub record IsAt {C : Type 0} (v : View C) (backwards : Bool) (o : Outset C) (q :
   pub on : IsOn backwards q.from i
   pub spends : v.Spends o.begun c (span backwards q.from i)
   pub stands : (m : Machine) → v.IsOf m → (first : State) → v.HasState o.begun m o.row first → IsHere v backwards o.seen q c m first i stand
+
+-- Wherever the byte is read next, a run that stood so goes on so.
+abbrev pub GoesOver : {C : Type 0} → View C → Bool → C → ℕ → Tagged → Stand → Stand → Type 0
+GoesOver {C} v backwards c b tagged stand next = (o : Outset C) (q : Request) (i : ℕ) → IsAt v backwards o q c i stand → IsTagged backwards o.seen i b tagged →
+    0 < span backwards i q.end → IsAt v backwards o q c (next_of backwards i) next
+
+-- Wherever the piece stands, a run that stood so at the first place goes on so at the second.
+abbrev pub GoesAcross : {C : Type 0} → View C → Bool → C → List ℕ → ℕ → ℕ → Stand → Stand → Type 0
+GoesAcross {C} v backwards c piece from to stand next = (o : Outset C) (q : Request) (start : ℕ) → IsAhead backwards o.seen q.end start piece →
+    IsAt v backwards o q c (start + from) stand → IsAt v backwards o q c (start + to) next
 
 -- What is read next at the position leads where the cell says, from where the run stood. Or a state
 -- was refused.

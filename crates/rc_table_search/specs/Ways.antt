@@ -1,6 +1,6 @@
 -- Only proofs use this file.
 -- Searches in either direction.
-use Rattle.std.specs.Prelude.{◌≡◌, ℕ, ◌+◌, ◌-◌, ◌<◌, ◌≤◌, Bool, true, false, IsTrue, List, Option, Some, None, slice_get}
+use Rattle.std.specs.Prelude.{◌≡◌, ℕ, ◌+◌, ◌-◌, ◌<◌, ◌≤◌, Bool, true, false, IsTrue, List, length, Option, Some, None, slice_get, slice_range}
 use Rattle.rc_text.specs.declared.types.Anchored.{Anchored}
 use Rattle.rc_text.specs.Text.{Searched, slice_end}
 use Rattle.rc_program.specs.Looks.{Side}
@@ -106,6 +106,14 @@ IsBounded true seen bound = seen.slice.start ≤ bound
 abbrev pub LiesWithin : Bool → ℕ → ℕ → ℕ → Type 0
 LiesWithin false start len bound = start + len ≤ bound
 LiesWithin true start len bound = bound ≤ start
+
+-- The piece begins at the position, and lies in the slice, not beyond the bound.
+pub record IsAhead (backwards : Bool) (seen : Searched) (bound start : ℕ) (piece : List ℕ) : Type 0 where
+  pub is : piece ≡ slice_range seen.content start (start + length piece)
+  pub low : seen.slice.start ≤ start
+  pub high : start + length piece ≤ slice_end seen
+  pub inside : IsBounded backwards seen bound
+  pub within : LiesWithin backwards start (length piece) bound
 
 -- The byte is read next at the position, which is not the bound.
 pub record IsNext (backwards : Bool) (seen : Searched) (bound i b : ℕ) : Type 0 where

@@ -1,19 +1,14 @@
 //! Runs over symbols: the loop over what comes next of a piece, as far as its cells need no look.
-ghost use Rattle.std.specs.Prelude.{◌≡◌, ◌≢◌, ◌+◌, ◌≤◌, ◌<◌, ℕ, true, IfSome, length, slice_range};
-ghost use Rattle.rc_text.specs.Text.{slice_end};
-ghost use Rattle.rc_program.specs.Sought.{text_of};
-ghost use Rattle.rc_symbols.specs.Symbols.{IsSymbolAt};
+ghost use Rattle.std.specs.Prelude.{◌≡◌, ◌≢◌, ◌+◌, ◌≤◌, ◌<◌, ℕ, IfSome, length};
+ghost use Rattle.rc_text.specs.Text.{Searched};
 ghost use Rattle.rc_dfa.specs.Machine.{symbols};
-ghost use Rattle.rc_dfa.specs.Symbols.{symbol_of};
 ghost use Rattle.rc_table_search.specs.Decodes.{IsWhole, entry_of, exit_of};
-ghost use Rattle.rc_table_search.specs.Walks.{left_of, next_of};
-ghost use Rattle.rc_table_search.specs.Ways.{IsBeside, IsBounded, IsInSlice, LiesWithin, offset_of, span};
-ghost use Rattle.rc_table_search.specs.Searches.{IsAt, LeadsAt, Outset};
+ghost use Rattle.rc_table_search.specs.Walks.{left_of};
+ghost use Rattle.rc_table_search.specs.Searches.{GoesAcross, GoesOver, IsTagged, LeadsAt};
 
 use crate::cells::SKIP;
 use crate::run::Stand;
 use crate::scalars::{Scalar, scalar_next};
-use crate::search::Request;
 use crate::transitions::Transitions;
 use crate::way::{Way, byte, left, next};
 use rc_dfa::symbols::{Symbol, Tagged};
@@ -22,26 +17,48 @@ use rc_dfa::symbols::{Symbol, Tagged};
 /// instructions for each, but some 150 to begin.
 const FEW: usize = 32;
 
-/// Goes on by the cell to which what is read next at the position leads. Returns None if that cell
-/// needs a look.
+/// Returns the cell to which the byte leads from the row, if it is known, or else `SKIP`. A byte past
+/// ASCII is read with what is known of it.
 #[inline(always)]
-fn go_by<W: Way, T: Transitions>(
+fn known_cell<W: Way, T: Transitions>(
     table: &T,
     cache: &T::Cache,
-    request: &Request,
-    cell: usize,
-    at: usize,
+    row: usize,
+    byte: u8,
+    tagged: Tagged,
+) -> usize
+    requires cache { (T.view table.now W.BACKWARDS).IsCache cache.now }
+    requires row { (T.view table.now W.BACKWARDS).IsRow cache.now row }
+    requires reads { (T.view table.now W.BACKWARDS).alphabet ≡ symbols }
+    ensures row { result < SKIP → (T.view table.now W.BACKWARDS).IsRow cache.now result }
+    ensures leads { (seen : Searched) (at : ℕ) → IsTagged W.BACKWARDS seen at byte tagged
+        → result ≢ SKIP → LeadsAt (T.view table.now W.BACKWARDS) W.BACKWARDS seen cache.now
+        cache.now at row result }
+{
+    if byte < 128 {
+        return table.known::<W>(cache, row, byte);
+    }
+    table.known_over::<W>(cache, row, Symbol { byte, tagged })
+}
+
+/// Goes on over a byte, one past ASCII with what is known of it. Returns None if its cell isn't known
+/// or needs a look.
+#[inline(always)]
+fn over_byte<W: Way, T: Transitions>(
+    table: &T,
+    cache: &T::Cache,
+    byte: u8,
+    tagged: Tagged,
     stand: Stand,
 ) -> Option<Stand>
-    ghost outset: { Outset T.Cache }
-    requires at { IsAt (T.view table.now W.BACKWARDS) W.BACKWARDS outset request.now cache.now at
-        stand }
-    requires leads { cell ≢ SKIP → LeadsAt (T.view table.now W.BACKWARDS) W.BACKWARDS outset.seen
-        cache.now cache.now at stand.row cell }
-    requires left { 0 < span W.BACKWARDS at request.now.end }
-    ensures { IfSome result (IsAt (T.view table.now W.BACKWARDS) W.BACKWARDS outset request.now
-        cache.now (next_of W.BACKWARDS at)) }
+    requires cache { (T.view table.now W.BACKWARDS).IsCache cache.now }
+    requires row { (T.view table.now W.BACKWARDS).IsRow cache.now stand.row }
+    requires reads { (T.view table.now W.BACKWARDS).alphabet ≡ symbols }
+    ensures row { IfSome result (λ next. (T.view table.now W.BACKWARDS).IsRow cache.now next.row) }
+    ensures on { IfSome result (GoesOver (T.view table.now W.BACKWARDS) W.BACKWARDS cache.now byte
+        tagged stand) }
 {
+    let cell = known_cell::<W, T>(table, cache, stand.row, byte, tagged);
     if cell >= SKIP {
         return None;
     }
@@ -49,144 +66,71 @@ fn go_by<W: Way, T: Transitions>(
     Some(Stand { row: cell, noted })
 }
 
-/// Goes on over an ASCII byte that is read next at the position. Returns None if its cell isn't known
-/// or needs a look.
-#[inline(always)]
-fn over_byte<W: Way, T: Transitions>(
-    table: &T,
-    cache: &T::Cache,
-    request: &Request,
-    byte: u8,
-    at: usize,
-    stand: Stand,
-) -> Option<Stand>
-    ghost outset: { Outset T.Cache }
-    requires at { IsAt (T.view table.now W.BACKWARDS) W.BACKWARDS outset request.now cache.now at
-        stand }
-    requires alone { byte < 128 }
-    requires inside { IsInSlice W.BACKWARDS outset.seen at }
-    requires there { IsBeside W.BACKWARDS outset.seen.content at byte }
-    requires left { 0 < span W.BACKWARDS at request.now.end }
-    ensures { IfSome result (IsAt (T.view table.now W.BACKWARDS) W.BACKWARDS outset request.now
-        cache.now (next_of W.BACKWARDS at)) }
-{
-    let cell = table.known::<W>(cache, stand.row, byte);
-    go_by::<W, T>(table, cache, request, cell, at, stand)
-}
-
-/// Goes on over the byte past ASCII that is read next at the position, of which this is known, as
-/// `over_byte` does.
-#[inline(always)]
-fn over_symbol<W: Way, T: Transitions>(
-    table: &T,
-    cache: &T::Cache,
-    request: &Request,
-    byte: u8,
-    tagged: Tagged,
-    at: usize,
-    stand: Stand,
-) -> Option<Stand>
-    ghost outset: { Outset T.Cache }
-    requires at { IsAt (T.view table.now W.BACKWARDS) W.BACKWARDS outset request.now cache.now at
-        stand }
-    requires reads { (T.view table.now W.BACKWARDS).alphabet ≡ symbols }
-    requires symbol { 128 ≤ byte → (terminator : ℕ) → IsSymbolAt (text_of terminator outset.seen)
-        (offset_of W.BACKWARDS at) (symbol_of (record { byte = byte; tagged = tagged })) }
-    requires low { W.BACKWARDS ≡ true → 0 < at }
-    requires left { 0 < span W.BACKWARDS at request.now.end }
-    ensures { IfSome result (IsAt (T.view table.now W.BACKWARDS) W.BACKWARDS outset request.now
-        cache.now (next_of W.BACKWARDS at)) }
-{
-    if byte < 128 {
-        return None;
-    }
-    let cell = table.known_over::<W>(cache, stand.row, Symbol { byte, tagged });
-    go_by::<W, T>(table, cache, request, cell, at, stand)
-}
-
 /// Goes on over the bytes of a scalar past ASCII, from the first on that is read. Returns None if
-/// some cell isn't known or needs a look. The piece begins at the position `start`.
+/// some cell isn't known or needs a look.
 #[inline(always)]
 fn over_scalar<W: Way, T: Transitions>(
     table: &T,
     cache: &T::Cache,
-    request: &Request,
     piece: &[u8],
-    start: usize,
     scalar: Scalar,
     begin: Stand,
 ) -> Option<Stand>
-    ghost outset: { Outset T.Cache }
-    requires at { IsAt (T.view table.now W.BACKWARDS) W.BACKWARDS outset request.now cache.now
-        (start + entry_of W.BACKWARDS scalar) begin }
+    requires cache { (T.view table.now W.BACKWARDS).IsCache cache.now }
+    requires row { (T.view table.now W.BACKWARDS).IsRow cache.now begin.row }
     requires reads { (T.view table.now W.BACKWARDS).alphabet ≡ symbols }
     requires whole { IsWhole piece.now scalar }
     requires several { scalar.first + 2 ≤ scalar.end }
     requires ends { scalar.end ≤ length piece.now }
-    requires piece { piece.now ≡ slice_range outset.seen.content start (start + length piece.now) }
-    requires inside { (outset.seen.slice.start ≤ start)
-        × (start + length piece.now ≤ slice_end outset.seen) }
-    requires bound { IsBounded W.BACKWARDS outset.seen request.now.end }
-    requires within { LiesWithin W.BACKWARDS start (length piece.now) request.now.end }
-    requires fits { start + length piece.now ≤ usize.MAX }
-    ensures { IfSome result (IsAt (T.view table.now W.BACKWARDS) W.BACKWARDS outset request.now
-        cache.now (start + exit_of W.BACKWARDS scalar)) }
+    ensures row { IfSome result (λ next. (T.view table.now W.BACKWARDS).IsRow cache.now next.row) }
+    ensures on { IfSome result (GoesAcross (T.view table.now W.BACKWARDS) W.BACKWARDS cache.now
+        piece.now (entry_of W.BACKWARDS scalar) (exit_of W.BACKWARDS scalar) begin) }
 {
     let entry = scalar.entry::<W>();
     let front = byte::<W>(piece, entry);
     let near = scalar.near::<W>();
-    let mut stand = over_symbol::<W, T>(table, cache, request, front, near, start + entry, begin)?;
+    let mut stand = over_byte::<W, T>(table, cache, front, near, begin)?;
     let mut place = next::<W>(piece, entry);
     while scalar.left::<W>(place) > 1 {
         let byte = byte::<W>(piece, place);
-        let tagged = Tagged::Neither;
-        stand = over_symbol::<W, T>(table, cache, request, byte, tagged, start + place, stand)?;
+        stand = over_byte::<W, T>(table, cache, byte, Tagged::Neither, stand)?;
         place = next::<W>(piece, place);
     }
     let back = byte::<W>(piece, place);
     let far = scalar.far::<W>();
-    over_symbol::<W, T>(table, cache, request, back, far, start + place, stand)
+    over_byte::<W, T>(table, cache, back, far, stand)
 }
 
 /// Runs over the scalars that come next at the place, and over a few ASCII bytes between them, up to
-/// one of which a cell isn't known or needs a look. The piece begins at the position `start`.
-/// Returns the place of that one, and how the search stands there. A search that may rest looks at
-/// each.
+/// one of which a cell isn't known or needs a look. Returns the place of that one, and how the run
+/// stands there. A search that may rest looks at each.
 #[inline(always)]
 pub fn run_over<W: Way, T: Transitions>(
     table: &T,
     cache: &T::Cache,
-    request: &Request,
+    may_rest: bool,
     piece: &[u8],
-    start: usize,
     from: usize,
     begin: Stand,
 ) -> (usize, Stand)
-    ghost outset: { Outset T.Cache }
-    requires at { IsAt (T.view table.now W.BACKWARDS) W.BACKWARDS outset request.now cache.now
-        (start + from) begin }
+    requires cache { (T.view table.now W.BACKWARDS).IsCache cache.now }
+    requires row { (T.view table.now W.BACKWARDS).IsRow cache.now begin.row }
     requires reads { (T.view table.now W.BACKWARDS).alphabet ≡ symbols }
     requires from { from ≤ length piece.now }
-    requires piece { piece.now ≡ slice_range outset.seen.content start (start + length piece.now) }
-    requires inside { (outset.seen.slice.start ≤ start)
-        × (start + length piece.now ≤ slice_end outset.seen) }
-    requires bound { IsBounded W.BACKWARDS outset.seen request.now.end }
-    requires within { LiesWithin W.BACKWARDS start (length piece.now) request.now.end }
-    requires fits { start + length piece.now ≤ usize.MAX }
     ensures within { result.0 ≤ length piece.now }
     ensures on { left_of W.BACKWARDS (length piece.now) result.0
         ≤ left_of W.BACKWARDS (length piece.now) from }
-    ensures at { IsAt (T.view table.now W.BACKWARDS) W.BACKWARDS outset request.now cache.now
-        (start + result.0) result.1 }
+    ensures across { GoesAcross (T.view table.now W.BACKWARDS) W.BACKWARDS cache.now piece.now from
+        result.0 begin result.1 }
 {
     let mut stand = begin;
     let mut place = from;
-    let mut plain = if request.extent.may_rest { FEW } else { 0 };
+    let mut plain = if may_rest { FEW } else { 0 };
     while plain < FEW && left::<W>(piece, place) > 0 {
         let byte = byte::<W>(piece, place);
         if byte < 128 {
-            let at = start + place;
-            let Some(there) = over_byte::<W, T>(table, cache, request, byte, at, stand) else {
+            let tagged = Tagged::Neither;
+            let Some(there) = over_byte::<W, T>(table, cache, byte, tagged, stand) else {
                 return (place, stand);
             };
             stand = there;
@@ -196,9 +140,7 @@ pub fn run_over<W: Way, T: Transitions>(
             let Some(scalar) = scalar_next::<W>(piece, place) else {
                 return (place, stand);
             };
-            let Some(there) = over_scalar::<W, T>(
-                table, cache, request, piece, start, scalar, stand,
-            ) else {
+            let Some(there) = over_scalar::<W, T>(table, cache, piece, scalar, stand) else {
                 return (place, stand);
             };
             stand = there;

@@ -307,10 +307,11 @@ fn read_symbols<W: Way, T: Transitions>(
     ensures over { IfErr result (λ reading. HasRun (T.view table.now W.BACKWARDS) W.BACKWARDS outset
         request.now cache.new reading.read reading.ended) }
 {
+    let may_rest = request.extent.may_rest;
     let mut stand = begin;
     let mut place = from;
     while left::<W>(piece, place) > 0 {
-        let (on, there) = run_over::<W, T>(table, cache, request, piece, start, place, stand);
+        let (on, there) = run_over::<W, T>(table, cache, may_rest, piece, place, stand);
         let rest = left::<W>(piece, on);
         let read = left::<W>(piece, place).saturating_sub(rest);
         table.serve::<W>(cache, read.saturating_add(1));

@@ -1,25 +1,8 @@
-use Rattle.std.proofs.Common.{rules, inr}
-use Rattle.rc_table_search.proofs.BesideLemmas.{byte_leads}
+use Rattle.rc_table_search.proofs.OverLemmas.{goes_plain}
 use Rattle.rc_table_search.proofs.over.over_byte.Goals as goal
 
-pub go_by-requires : goal.go_by-requires
-go_by-requires g c κs within_κs =
+pub returns-clause-on : goal.returns-clause-on
+returns-clause-on g c = λ o q i at tagged left.
     let backwards = g.W.Way.BACKWARDS in
-    let v = g.T.Transitions.view c.args.table.now backwards in
-    let r = c.requires.1.1.1 in (
-      search rules,
-      (
-        search rules,
-        (
-          search rules,
-          (
-            r.0,
-            (
-              λ ne. byte_leads _ v (g.met.T.Transitions.lawful c.args.table.now backwards) backwards g.outset.seen c.args.cache.now c.args.cache.now c.args.at
-                  c.args.stand.row c.args.byte c.known-cell.result (inr r.1.0) r.1.1.0 r.1.1.1.0 (c.known-cell.ensures ne),
-              r.1.1.1.1,
-            ),
-          ),
-        ),
-      ),
-    )
+    goes_plain _ (g.T.Transitions.view c.args.table.now backwards) (g.met.T.Transitions.lawful c.args.table.now backwards) backwards o q c.args.cache.now i c.args.stand
+    c.known_cell-cell.result at (c.known_cell-cell.ensures.leads o.seen i tagged) left c.if-cell-ge-SKIP.false

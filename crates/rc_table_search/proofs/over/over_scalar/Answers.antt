@@ -1,68 +1,71 @@
-use Rattle.std.proofs.Common.{rules, ◌+◌, ◌<◌, ◌≤◌, ◌∙◌, length, refl, sym, subst, ap, arith}
-use Rattle.rc_table_search.specs.Decodes.{rest_of}
-use Rattle.rc_table_search.specs.Searches.{IsAt}
-use Rattle.rc_table_search.proofs.SpanLemmas.{place_next}
-use Rattle.rc_table_search.proofs.ScalarLemmas.{far_read, inner_next, mid_read, near_read, rest_inside, rest_some}
+use Rattle.std.proofs.Common.{◌+◌, ◌<◌, ◌≤◌, ◌∙◌, length, sym, subst, arith}
+use Rattle.std.proofs.lemmas.Option.{IfSome_then}
+use Rattle.rc_table_search.specs.Decodes.{entry_of, rest_of}
+use Rattle.rc_table_search.specs.Searches.{GoesAcross, GoesOver, IsAt}
+use Rattle.rc_table_search.proofs.ScalarLemmas.{entry_at, entry_next, exit_next, far_tag, inner_next, mid_tag, near_tag, rest_inside, rest_some}
+use Rattle.rc_table_search.proofs.OverLemmas.{across_one}
 use Rattle.rc_table_search.proofs.over.over_scalar.Goals as goal
 
-pub over_symbol-requires : goal.over_symbol-requires
-over_symbol-requires g c κs within_κs =
+pub loop-byte-init : goal.loop-byte-init
+loop-byte-init g c =
     let backwards = g.W.Way.BACKWARDS in
-    let r = c.requires.1.1.1 in
-    let inside = r.1.1.1.1.1.1.0 in
-    let start = c.args.start in
-    let k = near_read backwards g.outset.seen c.args.request.now.end start c.entry-entry.result c.byte-front.result c.args.piece.now c.args.scalar c.near-near.result
-    inside.0 inside.1 r.1.1.1.1.1.0 r.1.1.1.1.1.1.1.0 r.1.1.1.1.1.1.1.1.0 r.1.1.0 r.1.1.1.1.0 c.byte-front.ensures r.1.1.1.0 c.entry-entry.ensures c.near-near.ensures in (
-      search rules,
-      (
-        search rules,
-        (
-          search rules,
-          (
-            subst (λ i. IsAt (g.T.Transitions.view c.args.table.now backwards) backwards g.outset c.args.request.now c.args.cache.now (start + i) c.args.begin)
-                (sym c.entry-entry.ensures) r.0,
-            (r.1.0, (k.0, (k.1, k.2))),
-          ),
-        ),
-      ),
-    )
-
-pub over_symbol-requires-in-loop-byte : goal.over_symbol-requires-in-loop-byte
-over_symbol-requires-in-loop-byte g c κs within_κs =
-    let backwards = g.W.Way.BACKWARDS in
-    let r = c.requires.1.1.1 in
-    let inside = r.1.1.1.1.1.1.0 in
-    let at = c.loop-byte.invariant in
-    let more : 1 < rest_of backwards c.args.scalar c.loop-byte.place = omega (arith, c.left.ensures, c.loop-byte-test.true) in
-    let k = mid_read backwards g.outset.seen c.args.request.now.end c.args.start c.loop-byte.place c.byte-byte.result c.args.piece.now c.args.scalar _
-    inside.0 inside.1 r.1.1.1.1.1.0 r.1.1.1.1.1.1.1.0 r.1.1.1.1.1.1.1.1.0 r.1.1.0 r.1.1.1.1.0 c.byte-byte.ensures at.low at.high more refl in
-    (search rules, (search rules, (search rules, (at.here, (r.1.0, (k.0, (k.1, k.2)))))))
+    let v = g.T.Transitions.view c.args.table.now backwards in
+    let s = c.args.scalar in
+    let piece = c.args.piece.now in
+    let from = entry_of backwards s in
+    let entry = c.entry-entry.result in
+    let is = c.entry-entry.ensures in
+    let two = c.requires.several in
+    let at = entry_at backwards s entry two is in
+    let rest = rest_some backwards s entry (length piece) at.0 at.1 c.requires.ends at.2 in
+    let on = entry_next backwards s entry two is in
+    let same = sym c.next-place.ensures in
+    record {
+      low = subst (λ k. s.first < k) same on.0;
+      high = subst (λ k. k < s.end) same on.1;
+      row = c.in_ok-stand.ensures.row;
+      across = subst (λ k. GoesAcross v backwards c.args.cache.now piece from k c.args.begin c.in_ok-stand.stand) same
+          (across_one _ v backwards c.args.cache.now piece from entry c.byte-front.result c.near-near.result c.args.begin c.args.begin c.in_ok-stand.stand rest.0 rest.1
+          c.byte-front.ensures (λ o q start lies here. subst (λ k. IsAt v backwards o q c.args.cache.now (start + k) c.args.begin) (sym is) here) c.in_ok-stand.ensures.on
+          s c.requires.whole rest.2 (c.near-near.ensures ∙ near_tag backwards s entry two is));
+    }
 
 pub loop-byte-preserved : goal.loop-byte-preserved
 loop-byte-preserved g c =
     let backwards = g.W.Way.BACKWARDS in
-    let r = c.requires.1.1.1 in
+    let v = g.T.Transitions.view c.args.table.now backwards in
     let s = c.args.scalar in
+    let piece = c.args.piece.now in
     let place = c.loop-byte.place in
-    let low = c.loop-byte.invariant.low in
-    let high = c.loop-byte.invariant.high in
+    let at = c.loop-byte.invariant in
+    let low = at.low in
+    let high = at.high in
     let more : 1 < rest_of backwards s place = omega (arith, c.left.ensures, c.loop-byte-test.true) in
+    let rest = rest_some backwards s place (length piece) (omega (arith, low)) (omega (arith, high)) c.requires.ends (rest_inside backwards s place low high) in
     let on = inner_next backwards s place low high more in
-    let rest = rest_some backwards s place (length c.args.piece.now) (omega (arith, low)) (omega (arith, high)) r.1.1.1.1.0 (rest_inside backwards s place low high) in
-    let to = place_next backwards (length c.args.piece.now) c.args.start place rest.1 ∙ ap (λ k. c.args.start + k) (sym c.next-place-in-loop-byte.ensures) in record {
-      low = omega (arith, on.0, c.next-place-in-loop-byte.ensures);
-      high = omega (arith, on.1, c.next-place-in-loop-byte.ensures);
-      here = subst (λ i. IsAt (g.T.Transitions.view c.args.table.now backwards) backwards g.outset c.args.request.now c.args.cache.now i c.in_ok-stand-2.stand) to
-          c.in_ok-stand-2.ensures;
+    let same = sym c.next-place-in-loop-byte.ensures in
+    record {
+      low = subst (λ k. s.first < k) same on.0;
+      high = subst (λ k. k < s.end) same on.1;
+      row = c.in_ok-stand-2.ensures.row;
+      across = subst (λ k. GoesAcross v backwards c.args.cache.now piece (entry_of backwards s) k c.args.begin c.in_ok-stand-2.stand) same
+          (across_one _ v backwards c.args.cache.now piece (entry_of backwards s) place c.byte-byte.result _ c.args.begin c.loop-byte.stand c.in_ok-stand-2.stand rest.0 rest.1
+          c.byte-byte.ensures at.across c.in_ok-stand-2.ensures.on s c.requires.whole rest.2 (mid_tag backwards s place low high more));
     }
 
-pub over_symbol-requires-2 : goal.over_symbol-requires-2
-over_symbol-requires-2 g c κs within_κs =
+pub returns-clause-on : goal.returns-clause-on
+returns-clause-on g c =
     let backwards = g.W.Way.BACKWARDS in
-    let r = c.requires.1.1.1 in
-    let inside = r.1.1.1.1.1.1.0 in
+    let v = g.T.Transitions.view c.args.table.now backwards in
+    let s = c.args.scalar in
+    let piece = c.args.piece.now in
+    let place = c.loop-byte.place in
     let at = c.loop-byte.invariant in
-    let last : rest_of backwards c.args.scalar c.loop-byte.place ≤ 1 = omega (arith, c.left.ensures, c.loop-byte-test.false) in
-    let k = far_read backwards g.outset.seen c.args.request.now.end c.args.start c.loop-byte.place c.byte-back.result c.args.piece.now c.args.scalar c.far-far.result
-    inside.0 inside.1 r.1.1.1.1.1.0 r.1.1.1.1.1.1.1.0 r.1.1.1.1.1.1.1.1.0 r.1.1.0 r.1.1.1.1.0 c.byte-back.ensures at.low at.high last c.far-far.ensures in
-    (search rules, (search rules, (search rules, (at.here, (r.1.0, (k.0, (k.1, k.2)))))))
+    let low = at.low in
+    let high = at.high in
+    let last : rest_of backwards s place ≤ 1 = omega (arith, c.left.ensures, c.loop-byte-test.false) in
+    let rest = rest_some backwards s place (length piece) (omega (arith, low)) (omega (arith, high)) c.requires.ends (rest_inside backwards s place low high) in
+    IfSome_then c.over_byte-2.result {P = GoesOver v backwards c.args.cache.now c.byte-back.result c.far-far.result c.loop-byte.stand} c.over_byte-2.ensures.on
+    (λ next over. subst (λ k. GoesAcross v backwards c.args.cache.now piece (entry_of backwards s) k c.args.begin next) (exit_next backwards s place low high last)
+    (across_one _ v backwards c.args.cache.now piece (entry_of backwards s) place c.byte-back.result c.far-far.result c.args.begin c.loop-byte.stand next rest.0 rest.1
+    c.byte-back.ensures at.across over s c.requires.whole rest.2 (c.far-far.ensures ∙ far_tag backwards s place low high last)))

@@ -4,7 +4,7 @@ use Rattle.rc_dfa.specs.Symbols.{symbol_of}
 use Rattle.rc_program.specs.Sought.{text_of}
 use Rattle.rc_symbols.specs.Symbols.{IsSymbolAt}
 use Rattle.rc_table_search.specs.Walks.{left_of}
-use Rattle.rc_table_search.specs.Ways.{IsNext, offset_of}
+use Rattle.rc_table_search.specs.Ways.{IsAhead, IsNext, offset_of}
 use Rattle.rc_table_search.proofs.OverLemmas.{at_same, beside_here}
 use Rattle.rc_table_search.proofs.SpanLemmas.{next_here}
 use Rattle.rc_table_search.proofs.ScalarLemmas.{not_last, symbol_found}
@@ -22,6 +22,7 @@ step_over-requires g c κs within_κs =
     let le = c.run_over-on.ensures.within in
     let is = r.1.1.1.0 in
     let inside = r.1.1.1.1.0 in
+    let lies : IsAhead backwards seen c.args.request.now.end start piece = record { is = is; low = inside.0; high = inside.1; inside = r.1.1.1.1.1.0; within = r.1.1.1.1.1.1.0 } in
     let past = c.if-byte-lt128.false in
     let byte = c.byte-byte.result in
     let here = c.offset-here.ensures ∙ ap (λ k. offset_of k place) c.BACKWARDS.ensures in
@@ -34,7 +35,8 @@ step_over-requires g c κs within_κs =
         (
           search rules,
           (
-            at_same _ v backwards g.outset c.args.request.now _ c.serve.new.cache (start + place) c.run_over-on.result.1 c.serve.ensures c.run_over-on.ensures.at,
+            at_same _ v backwards g.outset c.args.request.now _ c.serve.new.cache (start + place) c.run_over-on.result.1 c.serve.ensures
+                (c.run_over-on.ensures.across g.outset c.args.request.now start lies c.loop-cache.invariant.here),
             (
               r.1.0,
               (

@@ -3,9 +3,6 @@ use Rattle.rc_table_search.specs.Walks.{left_of}
 use Rattle.rc_table_search.specs.Searches.{IsAt}
 use Rattle.rc_table_search.proofs.search.read_symbols.Given as goal
 
-abbrev pub ghost-run_over : goal.ghost-run_over
-ghost-run_over g a = g.outset
-
 abbrev pub ghost-step_over : goal.ghost-step_over
 ghost-step_over g a = g.outset
 
