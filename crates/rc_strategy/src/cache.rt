@@ -7,7 +7,6 @@ use rc_pikevm::cache;
 
 /// The memory of a search: the Pike VM's lists, and the states that searches by lazy DFAs reached
 /// so far.
-#[derive(Drop)]
 pub struct Cache {
     /// The Pike VM's cache.
     pub pass: cache::Cache,
@@ -15,6 +14,17 @@ pub struct Cache {
     pub(crate) lazy: Option<lazy::Cache>,
     /// The cache of the lazy DFA over symbols. With None, no search uses that.
     pub(crate) symbols: Option<lazy::Cache>,
+}
+
+// Crates above call this, and drop no part by themselves.
+impl Drop for Cache {
+    fn drop(self) {
+        let Cache {
+            pass: _,
+            lazy: _,
+            symbols: _,
+        } = self;
+    }
 }
 
 /// Returns about how many bytes of memory the states of a lazy DFA take, or `usize::MAX` if that is

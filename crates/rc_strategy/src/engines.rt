@@ -13,10 +13,9 @@ ghost use Rattle.rc_strategy.specs.Worded.{AreSpelled};
 use crate::cache::Cache;
 use crate::lengths::Lengths;
 use crate::lookahead::lookahead_of;
-use crate::onepass::onepass_of;
 use crate::question::{Question, half_of};
 use crate::route::{LongestLiterals, Route, anchored_route, free_route};
-use crate::tables::{are_fast, tables_of};
+use crate::tables::{are_fast, machines_of};
 use crate::words::words_beside;
 use rc_captures::captures;
 use rc_captures::captures::Captures;
@@ -61,7 +60,6 @@ pub struct Limits {
 }
 
 /// The engines of some patterns: the DFA or the lazy DFA, if there is one, and the Pike VM.
-#[derive(Drop)]
 pub struct Engines {
     /// The Pike VM, with its literals.
     pub engine: Engine,
@@ -106,6 +104,28 @@ pub struct Engines {
         (places_of engine.program.places.items) lookahead },
     ghost free: { Serves engine.kind spans No free_route },
     ghost anchored: { ServesAll engine.kind spans anchored_route },
+}
+
+// Crates above call this, and drop no part by themselves.
+impl Drop for Engines {
+    fn drop(self) {
+        let Engines {
+            engine: _,
+            tables: _,
+            lazy: _,
+            symbols: _,
+            onepass: _,
+            patterns: _,
+            spans: _,
+            needs: _,
+            words: _,
+            sought_fast: _,
+            longest: _,
+            lookahead: _,
+            free_route: _,
+            anchored_route: _,
+        } = self;
+    }
 }
 
 impl Engines {
@@ -183,9 +203,8 @@ impl Engines {
         ensures lazy_none { IfOk result (λ engines. engines.lazy ≡ None
             → IsLazyBarred engine limits engines.tables ⊎ IsShortFor (plan_of engine hs limits)) }
     {
-        let tables = tables_of(alloc, &engine, needs.is_some(), patterns, limits)?;
-        let words = words_beside(words, &tables.dense);
-        let onepass = onepass_of(alloc, &engine)?;
+        let made = machines_of(alloc, &engine, needs.is_some(), patterns, limits)?;
+        let words = words_beside(words, &made.tables.dense);
         let sought_fast = are_fast(&engine.literals);
         let longest = LongestLiterals::new(&engine.literals, &needs);
         let lookahead = lookahead_of(&engine.program);
@@ -193,10 +212,10 @@ impl Engines {
         let anchored_route = anchored_route(engine.kind, &spans);
         Ok(Engines {
             engine,
-            tables: tables.dense,
-            lazy: tables.lazy,
-            symbols: tables.symbols,
-            onepass,
+            tables: made.tables.dense,
+            lazy: made.tables.lazy,
+            symbols: made.tables.symbols,
+            onepass: made.onepass,
             patterns,
             spans,
             needs,

@@ -1,4 +1,5 @@
-//! DFA choice: builds the DFA or the lazy DFA of some patterns, as the limits allow.
+//! DFA choice: builds the DFA or the lazy DFA of some patterns, as the limits allow, and the one-pass
+//! DFA.
 ghost use Rattle.std.specs.Prelude.{◌≡◌, ◌⊎◌, ◌↔◌, ◌<◌, ◌≤◌, ⊤, ℕ, Bool, IfOk, IfSome, IsSomeAnd, IsTrue, List, MatchOption, None, true, false, length};
 ghost use Rattle.rc_pattern.specs.Limits.{greatest_weight};
 ghost use Rattle.rc_pattern.specs.Re.{Re};
@@ -13,9 +14,11 @@ ghost use Rattle.rc_dfa_search.specs.Classes.{AreClassesOf};
 ghost use Rattle.rc_dfa_search.specs.Machines.{AreMachines};
 ghost use Rattle.rc_strategy.specs.Limits.{AreOff, AreTooHeavy};
 ghost use Rattle.rc_strategy.specs.Makes.{AreMade, AreOverSymbols};
+ghost use Rattle.rc_strategy.specs.Slots.{MayBeOnePass};
 ghost use Rattle.rc_strategy.specs.Tables.{MayBeTablesFor, MayBeTablesOver};
 
 use crate::engines::Limits;
+use crate::onepass::onepass_of;
 use rc_dense_dfa::dense::Dense;
 use rc_dense_dfa::error::TableError;
 use rc_dfa::automaton::Automaton;
@@ -23,6 +26,7 @@ use rc_dfa_search::build::automaton_of;
 use rc_dfa_search::first::have_openings;
 use rc_lazy_dfa::error::LazyError;
 use rc_lazy_dfa::lazy::Lazy;
+use rc_onepass::onepass::OnePass;
 use rc_pikevm_search::engine::Engine;
 use rc_pikevm_search::literals::{Literals, guards_of, literals_of};
 use std::alloc::{AllocError, Global};
@@ -33,6 +37,14 @@ pub(crate) struct Tables {
     pub(crate) dense: Option<Dense>,
     pub(crate) lazy: Option<Lazy>,
     pub(crate) symbols: Option<Lazy>,
+}
+
+/// What is built of an engine's program: DFAs, and the one-pass DFA, if there are groups whose slots
+/// it can set.
+#[derive(Drop)]
+pub(crate) struct Machines {
+    pub(crate) tables: Tables,
+    pub(crate) onepass: Option<OnePass>,
 }
 
 /// Whether a program of this many places has more than the limit allows.
@@ -174,7 +186,7 @@ fn symbols_of(
 /// Builds the DFA or the lazy DFA of `patterns` patterns from their engine's program, as the limits
 /// allow. If literals alone decide each answer, neither is built. `needed` says that searches go by
 /// required literals. `Err` means out of memory.
-pub(crate) fn tables_of(
+fn tables_of(
     alloc: Global,
     engine: &Engine,
     needed: bool,
@@ -221,4 +233,29 @@ pub(crate) fn tables_of(
         lazy,
         symbols,
     })
+}
+
+/// Builds the DFAs and the one-pass DFA of `patterns` patterns from their engine's program, as
+/// `tables_of` and `onepass_of` do. `Err` means out of memory.
+pub(crate) fn machines_of(
+    alloc: Global,
+    engine: &Engine,
+    needed: bool,
+    patterns: usize,
+    limits: Limits,
+) -> Result<Machines, AllocError>
+    ghost hs: { List Re }
+    requires program { places_of engine.now.program.places.items ≡ program hs }
+    requires patterns { patterns ≡ length hs }
+    requires light { heaviness (places_of engine.now.program.places.items) ≤ greatest_weight }
+    ensures made { IfOk result (λ machines. AreMade engine.now patterns hs limits
+        machines.tables.dense machines.tables.lazy) }
+    ensures symbols { IfOk result (λ machines. AreOverSymbols engine.now patterns hs limits
+        machines.tables.symbols) }
+    ensures single { IfOk result (λ machines.
+        ∥ MayBeOnePass (places_of engine.now.program.places.items) machines.onepass ∥₁) }
+{
+    let onepass = onepass_of(alloc, engine)?;
+    let tables = tables_of(alloc, engine, needed, patterns, limits)?;
+    Ok(Machines { tables, onepass })
 }

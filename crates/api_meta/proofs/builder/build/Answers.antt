@@ -46,28 +46,6 @@ engines_of-requires c =
       ),
     )
 
-pub invariant_of-engines-in_err-config : goal.invariant_of-engines-in_err-config
-invariant_of-engines-in_err-config c =
-    let e = c.in_ok-engines.engines in
-    record {
-      fit = e.fit;
-      lazy_fit = e.lazy_fit;
-      symbols_fit = e.symbols_fit;
-      read = e.read;
-      lazy_read = e.lazy_read;
-      symbols_read = e.symbols_read;
-      single = e.single;
-      numbered = e.numbered;
-      programmed = e.programmed;
-      bound = e.bound;
-      needed = e.needed;
-      worded = e.worded;
-      measured = e.measured;
-      looking = e.looking;
-      free = e.free;
-      anchored = e.anchored;
-    }
-
 pub invariant_of-result-clause-well_formed : goal.invariant_of-result-clause-well_formed
 invariant_of-result-clause-well_formed c =
     let b = c.in_ok-built.ensures in ∣ subst (λ xs. All IsWellFormed xs) (sym b.patterns) b.buildable.well_formed ∣₁

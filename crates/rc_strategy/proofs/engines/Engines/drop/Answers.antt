@@ -1,8 +1,8 @@
-use Rattle.api_meta.proofs.regex.Regex.drop.Goals as goal
+use Rattle.rc_strategy.proofs.engines.Engines.drop.Goals as goal
 
-pub invariant_of-self-3 : goal.invariant_of-self-3
-invariant_of-self-3 c =
-    let engines = c.args.self.engines in
+pub invariant_of-self-2 : goal.invariant_of-self-2
+invariant_of-self-2 c =
+    let engines = c.args.self in
     record {
       fit = engines.fit;
       lazy_fit = engines.lazy_fit;
