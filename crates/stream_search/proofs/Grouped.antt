@@ -19,7 +19,7 @@ use Rattle.rc_reach.specs.Live.{found_by, over_content}
 use Rattle.rc_reach.specs.Settled.{AgreesBelow}
 use Rattle.api_meta.specs.Reached.{TellsBelow}
 use Rattle.api_meta.specs.Views.{regex_kind, sought as sought_of}
-use Rattle.stream_search.specs.Groups.{AreOf, IsNext, TellsFrom, TellsNext, captures_further}
+use Rattle.stream_search.specs.Groups.{AreOf, IsNext, TellsFrom, TellsKept, TellsNext, captures_further}
 use Rattle.api_meta.specs.declared.regex.Regex.{Regex}
 use Rattle.stream_search.specs.Searches.{IsFrom, seeks}
 use Rattle.stream_search.specs.Searching.{Finds, HoldsRest, IsPlaced, Streaming, WasFed}
@@ -149,6 +149,21 @@ module _ {s now : Streaming} (same : s ≡ now) (fed : List ℕ) (holds : HoldsR
     match_inside told m finds =
         match_now bytes is caps
         (told ∙ ap (λ k. answer_by k (search_for (sought_of r) i)) kinds ∙ ap (answer_by (regex_kind s.regex)) over) m finds
+
+-- ---- in the kept bytes alone
+
+pub here_inside : {s now : Streaming} → s ≡ now → (bytes : List ℕ) → bytes ≡ s.kept → (r : Regex) → r ≡ s.regex → (i : Searched) →
+    IsFrom bytes (s.from - s.gone) i → (caps : Captures) → TellsBy (regex_kind r) (search_for (sought_of r) i) caps → TellsKept now caps
+here_inside {s} {now} same bytes is r of i seen caps all =
+    subst (λ x. TellsKept x caps) same (
+      s.from - s.gone,
+      subst (λ k. TellsBy (regex_kind s.regex) (from_on (over_content (seeks s.regex) k) (s.from - s.gone)) caps) is
+      (subst (λ (x : Regex). TellsBy (regex_kind x) (from_on (over_content (seeks x) bytes) (s.from - s.gone)) caps) of
+      (subst (λ x. TellsBy (regex_kind r) x caps) (seen (sought_of r)) all)),
+    )
+
+pub here_stays : (s t : Streaming) (caps : Captures) → t ≡ record s { from = t.from } → TellsKept t caps → TellsKept s caps
+here_stays s t caps stays here = subst (λ x. TellsKept x caps) stays here
 
 -- ---- where the next match is looked for
 

@@ -43,3 +43,8 @@ IsNext s fed k = (content : List ℕ) → MayBecome s.is_finished fed content �
 -- They are of this match of the stream.
 abbrev pub AreOf : Streaming → Captures → Found → Type 0
 AreOf s caps m = option_map (match_further s.gone) (match_of caps) ≡ Some m
+
+-- They tell a match that a search of the kept bytes finds, with its groups there.
+abbrev pub TellsKept : Streaming → Captures → Type 0
+TellsKept s caps = (at : ℕ) × TellsBy (regex_kind s.regex)
+    (from_on (over_content (seeks s.regex) s.kept) at) caps

@@ -90,7 +90,7 @@ impl<F: PartialFinder> StreamSearcherOf<F> {
     ghost use Rattle.rc_reach.specs.Live.{found_by};
     ghost use Rattle.api_meta.specs.Caches.{HasSameRoom, IsCacheFor};
     ghost use Rattle.api_meta.specs.Views.{regex_kind, regex_names, regex_patterns, regex_settings};
-    ghost use Rattle.stream_search.specs.Groups.{AreOf, IsNext, TellsFrom, TellsNext};
+    ghost use Rattle.stream_search.specs.Groups.{AreOf, IsNext, TellsFrom, TellsKept, TellsNext};
     ghost use Rattle.stream_search.specs.Searches.{matches_of, seeks};
     ghost use Rattle.stream_search.specs.Searching.{Finds, HoldsRest, IsAfter, IsRefusal, Stands, Takes, WasFed, fresh, left, let_go};
 
@@ -165,6 +165,7 @@ impl<F: PartialFinder> StreamSearcherOf<F> {
         ensures lies { IfSome result (λ m. (self.old.from ≤ m.start) × (m.start ≤ m.end)
             × (m.end ≤ self.old.gone + length self.old.kept)) }
         ensures falls { IfSome result (λ _. left self.new < left self.old) }
+        ensures goes_on { IfSome result (λ m. self.new.from ≡ m.end) }
         ensures told { (fed : List ℕ) (told : List Found) → WasFed fed told self.old
             → MatchOption result (WasFed fed told self.new)
             (λ m. WasFed fed (told ++ m ∷ []) self.new) }
@@ -200,11 +201,13 @@ impl<F: PartialFinder> StreamSearcherOf<F> {
         ensures lies { IfSome result (λ m. (self.old.from ≤ m.start) × (m.start ≤ m.end)
             × (m.end ≤ self.old.gone + length self.old.kept)) }
         ensures falls { IfSome result (λ _. left self.new < left self.old) }
+        ensures goes_on { IfSome result (λ m. self.new.from ≡ m.end) }
         ensures told { (fed : List ℕ) (told : List Found) → WasFed fed told self.old
             → MatchOption result (WasFed fed told self.new)
             (λ m. WasFed fed (told ++ m ∷ []) self.new) }
         ensures groups { (fed : List ℕ) (told : List Found) → WasFed fed told self.old
             → IfSome result (λ m. TellsNext self.old fed caps.new × AreOf self.old caps.new m) }
+        ensures here { IfSome result (λ _. TellsKept self.old caps.new) }
         ensures all { (fed : List ℕ) (told : List Found) → WasFed fed told self.old
             → self.old.is_finished ≡ true → result ≡ None
             → told ≡ matches_of self.old.regex fed }
@@ -235,6 +238,7 @@ impl<F: PartialFinder> StreamSearcherOf<F> {
             → TellsFrom self.now fed caps.new (λ _. self.now.from) }
         ensures matched { (fed : List ℕ) → HoldsRest fed self.now
             → (m : Found) → Finds self.now fed (Some m) → AreOf self.now caps.new m }
+        ensures here { TellsKept self.now caps.new }
         ensures all { self.now.is_finished ≡ true → IsTrue result }
     {
         let mut input = input_from(self.kept.as_slice(), self.from - self.gone);
@@ -327,6 +331,15 @@ impl<F: PartialFinder> StreamSearcherOf<F> {
         ensures { result ≡ length self.now.kept }
     {
         self.kept.len()
+    }
+
+    /// Where the search goes on, in the whole stream: no match that is still to come begins before.
+    /// It may be the place after the end.
+    pub fn position(&self) -> usize
+        ensures value { result ≡ self.now.from }
+        ensures within { result ≤ self.now.gone + length self.now.kept + 1 }
+    {
+        self.from // in the whole stream
     }
 
     /// The number of bytes that it was fed.

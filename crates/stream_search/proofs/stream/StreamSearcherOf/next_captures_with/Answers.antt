@@ -1,6 +1,6 @@
 use Rattle.std.proofs.Common.{◌++◌, ◌∷◌, [], subst}
 use Rattle.stream_search.specs.Groups.{AreOf}
-use Rattle.stream_search.proofs.Grouped.{groups_next, told_at}
+use Rattle.stream_search.proofs.Grouped.{groups_next, here_stays, told_at}
 use Rattle.stream_search.proofs.stream.StreamSearcherOf.next_captures_with.Goals as goal
 
 pub returns-in_err-found-clause-all : goal.returns-in_err-found-clause-all
@@ -22,3 +22,7 @@ returns-then-write_groups-clause-groups g c =
       groups_next now c.seek.new.self fed caps found.stays next.0 (c.write_groups.ensures.groups fed next.1 c.if-write_groups.true),
       subst (λ s. AreOf s caps c.in_ok-found.found) found.stays (c.write_groups.ensures.matched fed next.1 c.in_ok-found.found next.2),
     )
+
+pub returns-then-write_groups-clause-here : goal.returns-then-write_groups-clause-here
+returns-then-write_groups-clause-here g c =
+    here_stays c.args.self.now c.seek.new.self c.write_groups.new.caps c.in_ok-found.ensures.stays c.write_groups.ensures.here
