@@ -158,8 +158,8 @@ here_inside {s} {now} same bytes is r of i seen caps all =
     subst (λ x. TellsKept x caps) same (
       s.from - s.gone,
       subst (λ k. TellsBy (regex_kind s.regex) (from_on (over_content (seeks s.regex) k) (s.from - s.gone)) caps) is
-      (subst (λ (x : Regex). TellsBy (regex_kind x) (from_on (over_content (seeks x) bytes) (s.from - s.gone)) caps) of
-      (subst (λ x. TellsBy (regex_kind r) x caps) (seen (sought_of r)) all)),
+          (subst (λ (x : Regex). TellsBy (regex_kind x) (from_on (over_content (seeks x) bytes) (s.from - s.gone)) caps) of
+          (subst (λ x. TellsBy (regex_kind r) x caps) (seen (sought_of r)) all)),
     )
 
 pub here_stays : (s t : Streaming) (caps : Captures) → t ≡ record s { from = t.from } → TellsKept t caps → TellsKept s caps
