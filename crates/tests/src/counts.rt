@@ -63,9 +63,12 @@ fn groups_and_slots(rt: HostRuntime) {
     }
 }
 
+/// Three pieces.
+const PIECES: &[u8] = b"a,b,c";
+
 /// How many pieces are left at most, before the first one, behind it, and behind the second.
 fn pieces_left(alloc: Global, regex: &Regex) -> Result<[(usize, Option<usize>); 3], AllocError> {
-    let mut pieces = Regex::splitn(regex, alloc, Input::new("a,b,c"), 2)?;
+    let mut pieces = Regex::splitn(regex, alloc, Input::new(PIECES), 2)?;
     let first = pieces.size_hint();
     pieces.next();
     let second = pieces.size_hint();
@@ -85,7 +88,7 @@ fn pieces(rt: HostRuntime) -> Result<(), Fail> {
 }
 
 /// How many places a search of the text enters.
-fn entered_by(alloc: Global, vm: &PikeVM, text: &str) -> Result<u128, AllocError> {
+fn entered_by(alloc: Global, vm: &PikeVM, text: &[u8]) -> Result<u128, AllocError> {
     let mut captures = PikeVM::create_captures(vm, alloc)?;
     let mut cache = PikeVM::create_cache(vm, alloc)?;
     pikevm::search(vm, &mut cache, &mut Input::new(text), &mut captures);
@@ -96,7 +99,7 @@ fn entered_by(alloc: Global, vm: &PikeVM, text: &str) -> Result<u128, AllocError
 }
 
 /// The same of a pattern, and how many places its program has.
-fn entered(alloc: Global, pattern: &str, text: &str) -> Result<(u128, usize), BuildError> {
+fn entered(alloc: Global, pattern: &str, text: &[u8]) -> Result<(u128, usize), BuildError> {
     let vm = PikeVM::new(alloc, pattern)?;
     let places = vm.states_len();
     let entered = entered_by(alloc, &vm, text);
@@ -107,8 +110,9 @@ fn entered(alloc: Global, pattern: &str, text: &str) -> Result<(u128, usize), Bu
 /// Between the least number, which the match needs, and that of all places at each position and one more.
 #[test]
 fn places_entered(rt: HostRuntime) -> Result<(), Fail> {
-    let forty = "aaaaaaaaaaaaaaaaaaaaaaaaaaaaaaaaaaaaaaaa";
-    for (pattern, text, least, positions) in [("x*", "x", 2, 3), ("(a*)*b", forty, 0, 42)] {
+    let one: &[u8] = b"x";
+    let forty: &[u8] = b"aaaaaaaaaaaaaaaaaaaaaaaaaaaaaaaaaaaaaaaa";
+    for (pattern, text, least, positions) in [("x*", one, 2, 3), ("(a*)*b", forty, 0, 42)] {
         let (entered, places) = entered(rt.alloc(), pattern, text)?;
         let most = (places as u128).saturating_mul(positions);
         assert!(rt; least <= entered && entered <= most, "{entered}");

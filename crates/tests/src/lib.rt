@@ -8,6 +8,8 @@ mod chunks;
 #[cfg(test)]
 mod counts;
 #[cfg(test)]
+mod ends;
+#[cfg(test)]
 mod faults;
 #[cfg(test)]
 mod many;

@@ -22,7 +22,10 @@ fn texts(alloc: Global, count: usize) -> Result<Vec<String>, AllocError> {
 /// The `PikeVM` of so many patterns.
 fn built(alloc: Global, count: usize) -> Result<PikeVM, BuildError> {
     let texts = texts(alloc, count)?;
-    let patterns: Vec<&str> = texts.iter().map(|text| text.as_str()).collect(alloc)?;
+    let mut patterns = Vec::with_capacity(alloc, count)?;
+    for text in &texts {
+        patterns.push(text.as_str())?;
+    }
     let len = patterns.len().min(MOST);
     PikeVM::new_many(alloc, &patterns[..len])
 }

@@ -1,5 +1,6 @@
 //! How far searches go: how often they ask a cursor for another chunk.
 
+use crate::ends::end_of;
 use regex_cursor::cursor::ChunkCursor;
 use regex_cursor::engines::meta::Regex;
 use regex_cursor::types::Match;
@@ -99,7 +100,7 @@ fn told(
     let is_match = is_match(alloc, &regex, &mut cursor, start);
     let found = found(alloc, &regex, &mut cursor, start);
     drop(regex);
-    Ok((is_match?, found?.map(|found| found.end()), cursor.moves))
+    Ok((is_match?, end_of(found?), cursor.moves))
 }
 
 /// How many chunks of `x` stand in a text of 16 MiB, and how many bytes these have.

@@ -1,16 +1,12 @@
 //! Searches in files that are read a page at a time.
 
+use crate::ends::end_of;
 use paged_file::{MemoryPages, PagedCursor, ReadFault};
 use paged_search::{FindError, find, find_whole};
 use regex_cursor::engines::meta::Regex;
 use regex_cursor::types::{Match, PatternID, Span};
 use std::alloc::{AllocError, Global};
 use std::test::Fail;
-
-/// Where a match ends.
-fn end_of(found: Option<Match>) -> Option<usize> {
-    Some(found?.end())
-}
 
 /// Where the match ends in the bytes that can be read, the fault that its search met, and what a search of the whole file tells; in two
 /// pages of three bytes.

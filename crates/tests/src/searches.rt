@@ -3,6 +3,7 @@ ghost use Rattle.std.specs.Prelude.{IfOk};
 ghost use Rattle.rc_captures.specs.Captures.{IsCapturesFor};
 ghost use Rattle.api_meta.specs.Views.{regex_names};
 
+use crate::ends::{end_of, end_of_group};
 use regex_cursor::Input;
 use regex_cursor::engines::meta::{Cache, Captures, Finder, ReachedCaptures, Regex};
 use regex_cursor::types::{PatternID, PatternSet};
@@ -40,7 +41,7 @@ fn ends_in(
     let group = captures.get_group_by_name("y");
     drop(captures);
     filled?;
-    Ok((found.map(|found| found.end()), group.map(|group| group.end)))
+    Ok((end_of(found), end_of_group(group)))
 }
 
 /// The last slot of the match.
@@ -107,7 +108,7 @@ fn end_by_finder(alloc: Global, regex: &Regex) -> Result<Option<usize>, AllocErr
     let captures = Finder::captures(&mut finder, alloc, &mut Input::new(TEXT));
     drop(finder);
     let group = captures?.get_group(1);
-    Ok(group.map(|group| group.end))
+    Ok(end_of_group(group))
 }
 
 /// Where the first group of the match ends, and how many bytes settle it, by what keeps its cache.
@@ -118,7 +119,7 @@ fn settled_by_finder(alloc: Global, regex: &Regex) -> Result<(Option<usize>, usi
     let ReachedCaptures { captures, reach } = reached?;
     let group = captures.get_group(1);
     drop(captures);
-    Ok((group.map(|group| group.end), reach))
+    Ok((end_of_group(group), reach))
 }
 
 #[test]

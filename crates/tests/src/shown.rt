@@ -36,11 +36,14 @@ fn set(alloc: Global) -> Result<PatternSet, AllocError> {
     Ok(set)
 }
 
+/// What is searched.
+const TEXT: &[u8] = b"ab";
+
 /// The groups of a regex, and its captures of a match.
 fn groups(alloc: Global) -> Result<String, meta::BuildError> {
     let regex = meta::Regex::new(alloc, "(?P<y>a)|(b)")?;
     let info = format!(in alloc; "{:?}", regex.group_info());
-    let captures = meta::Regex::captures(&regex, alloc, Input::new("ab"));
+    let captures = meta::Regex::captures(&regex, alloc, Input::new(TEXT));
     drop(regex);
     let captures = text_of(alloc, captures?)?;
     Ok(format!(in alloc; "{} {captures}", info?)?)
@@ -84,13 +87,13 @@ fn patterns(rt: HostRuntime) -> Result<(), Fail> {
 
 /// The lists of a regex, none of which has found anything yet.
 fn lists(alloc: Global, regex: &meta::Regex) -> Result<String, AllocError> {
-    let input = Input::new("ba");
+    let input = Input::new(TEXT);
     let matches = text_of(alloc, meta::Regex::find_iter(regex, alloc, input)?)?;
-    let input = Input::new("ba");
+    let input = Input::new(TEXT);
     let captures = text_of(alloc, meta::Regex::captures_iter(regex, alloc, input)?)?;
-    let input = Input::new("ba");
+    let input = Input::new(TEXT);
     let pieces = text_of(alloc, meta::Regex::split(regex, alloc, input)?)?;
-    let input = Input::new("ba");
+    let input = Input::new(TEXT);
     let limited = text_of(alloc, meta::Regex::splitn(regex, alloc, input, 2)?)?;
     format!(in alloc; "{matches}\n{captures}\n{pieces}\n{limited}")
 }

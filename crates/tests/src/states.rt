@@ -4,13 +4,16 @@ use regex_cursor::Input;
 use regex_cursor::engines::hybrid::{BuildError, Cache, Config, Regex, find};
 use std::alloc::{AllocError, Global};
 
+/// What is searched.
+const TEXT: &[u8] = b"aba";
+
 /// Whether a search meets states that the same search again finds in the cache, and a reset lets them go.
 fn keeps_states(alloc: Global, states: &Regex) -> Result<bool, AllocError> {
     let mut cache = Regex::create_cache(states, alloc)?;
     let fresh = cache.memory_usage();
-    let first = find(states, &mut cache, &mut Input::new("aba"));
+    let first = find(states, &mut cache, &mut Input::new(TEXT));
     let met = cache.memory_usage();
-    let second = find(states, &mut cache, &mut Input::new("aba"));
+    let second = find(states, &mut cache, &mut Input::new(TEXT));
     let again = cache.memory_usage();
     let reset = Cache::reset(&mut cache, states);
     let after = cache.memory_usage();

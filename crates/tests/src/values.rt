@@ -57,7 +57,16 @@ fn weight_above(alloc: Global, text: &str, limit: usize) -> Result<Option<u128>,
     let tree = parse(alloc, text, &Config::new())?;
     let oversize = explain_size(alloc, from_ref(&tree), Some(limit), Grammar::Stated);
     drop(tree);
-    Ok(oversize?.map(|oversize| oversize.weight))
+    let Some(oversize) = oversize? else {
+        return Ok(None);
+    };
+    Ok(Some(oversize.weight))
+}
+
+/// Where a copy of an input ends.
+fn end_of_copy() -> Result<usize, AllocError> {
+    let copy = Input::clone(&Input::new("a"))?;
+    Ok(copy.end())
 }
 
 /// `a{46}` alone weighs 145, which is 4640 bytes.
@@ -66,5 +75,5 @@ fn copies_and_sizes(rt: HostRuntime) {
     assert!(rt; has_needles(rt.alloc()) == Ok(true));
     assert!(rt; kind_of_copy(rt.alloc()) == Ok(MatchKind::All));
     assert!(rt; weight_above(rt.alloc(), "a{46}", 4639) == Ok(Some(145)));
-    assert!(rt; Input::clone(&Input::new("a")).map(|input| input.end()) == Ok(1));
+    assert!(rt; end_of_copy() == Ok(1));
 }
