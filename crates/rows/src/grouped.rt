@@ -6,14 +6,15 @@ ghost use Rattle.api_meta.specs.Caches.{IsCacheFor};
 ghost use Rattle.api_meta.specs.Views.{regex_names, regex_patterns, regex_settings};
 
 use crate::calls::{Placed, Spans, put_groups_of};
+use crate::cursors::Cut;
 use crate::inputs::input;
-use crate::row::{Row, Want};
+use crate::row::{Pair, Row, Want};
 use crate::slots::Asker;
 use api_meta::cache::Cache;
 use api_meta::finder::Finder;
 use api_meta::regex::Regex;
 use rc_captures::captures::Captures;
-use rc_text::chunks::ChunkCursor;
+use rc_text::types::Span;
 use std::alloc::{AllocError, Global};
 use std::marker::Model;
 use stream_search::error::FeedError;
@@ -100,9 +101,14 @@ impl<'r> Grouped<'r> {
 /// Adds the groups, so many bytes further on.
 fn put_further(captures: &Captures, by: usize, spans: &mut Spans) {
     for index in 0..captures.group_len() {
-        let group = captures.get_group(index);
-        spans.push(group.map(|s| (s.start.saturating_add(by), s.end.saturating_add(by))));
+        spans.push(further(captures.get_group(index), by));
     }
+}
+
+/// A group, so many bytes further on.
+fn further(group: Option<Span>, by: usize) -> Option<Pair> {
+    let Span { start, end } = group?;
+    Some((start.saturating_add(by), end.saturating_add(by)))
 }
 
 /// Streams of the text tell the matches and the groups that the regex finds in the whole text, and
@@ -128,11 +134,8 @@ fn put_wanted(
     row: &Row,
     spans: &mut Spans,
 ) -> Result<(), AllocError> {
-    let text = [row.text.as_slice()];
-    let Ok(cursor) = ChunkCursor::new(&text) else {
-        return Ok(());
-    };
-    for captures in regex.captures_iter(alloc, input(row, cursor))? {
+    let over = input(row, Cut::whole(&row.text));
+    for captures in regex.captures_iter(alloc, over)? {
         let captures = captures?;
         put_groups_of(&captures, spans);
         drop(captures);

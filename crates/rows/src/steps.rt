@@ -1,6 +1,7 @@
 //! Steps: the first match of a text that is searched in slices.
 
-use crate::cursors::{CUTTINGS, Recut};
+use crate::cursors::{CUTTINGS, Cut, Recut};
+use crate::inputs::pair_of;
 use crate::row::Row;
 use crate::slots::Asker;
 use api_meta::finder::Finder;
@@ -37,10 +38,10 @@ pub fn first(asker: &mut Asker, regex: &Regex, row: &Row) {
     let mut stepper = Stepper::new(finder, 0);
     for cutting in &CUTTINGS {
         for budget in [1, 3] {
-            let cursor = Recut::new(&row.text, *cutting);
-            let found = step(&mut stepper, cursor, row.text.len(), budget);
-            let span = found.map(|m| (m.start(), m.end()));
-            asker.verdict.expect(span == wanted, "steps", "match");
+            let cut = Cut::Anew(Recut::new(&row.text, *cutting));
+            let found = step(&mut stepper, cut, row.text.len(), budget);
+            let is_same = pair_of(&found) == wanted;
+            asker.verdict.expect(is_same, "steps", "match");
         }
     }
 }
