@@ -28,7 +28,11 @@ fn words_of(rt: &HostRuntime) -> io::Result<Vec<String>> {
 
 /// The arguments, borrowed.
 fn lent(alloc: Global, words: &[String]) -> Result<Vec<&str>, AllocError> {
-    words.iter().map(|word| word.as_str()).collect(alloc)
+    let mut lent = Vec::new(alloc);
+    for word in words {
+        lent.push(word.as_str())?;
+    }
+    Ok(lent)
 }
 
 /// Writes the line of an error, and returns its status. An error of the writer is ignored.
