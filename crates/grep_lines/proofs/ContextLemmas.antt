@@ -82,7 +82,7 @@ module _ (e : Extent) where
       let behind = later e (left_behind e m left) (n + 1) (p + length m.line + 1) rest in
       ap (λ b. cond b (item n p m ∷ behind) behind) h
 
-  later_no : (left n p : ℕ) (m : Marked) (rest : List Marked) → is_next left m rest ≡ false →
+  pub later_no : (left n p : ℕ) (m : Marked) (rest : List Marked) → is_next left m rest ≡ false →
       later e left n p (m ∷ rest) ≡ later e (left_behind e m left) (n + 1) (p + length m.line + 1) rest
   later_no left n p m rest h =
       let behind = later e (left_behind e m left) (n + 1) (p + length m.line + 1) rest in

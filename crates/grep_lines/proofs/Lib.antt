@@ -1,7 +1,9 @@
 mod LineLemmas
 mod SkipLemmas
 mod PageLemmas
+mod BlockLemmas
 mod PartLemmas
 mod ContextLemmas
+mod AdvanceLemmas
 mod StandsLemmas
 mod TouchedLemmas

@@ -93,7 +93,7 @@ module _ (stop : ℕ) where
     takes_whole (Some xs) i d other = whole_at xs (parts xs) i d other
 
   -- a line and its terminator, and then the others
-  lines_cut : (line rest : List ℕ) → HasNo stop line → lines stop (line ++ stop ∷ rest) ≡ line ∷ lines stop rest
+  pub lines_cut : (line rest : List ℕ) → HasNo stop line → lines stop (line ++ stop ∷ rest) ≡ line ∷ lines stop rest
   lines_cut [] rest free = ap (λ c. cond c ([] ∷ lines stop rest) (before_first stop (lines stop rest))) (eq-eqb stop stop refl)
   lines_cut (x ∷ line) rest free =
       ap (λ c. cond c ([] ∷ lines stop (line ++ stop ∷ rest)) (before_first x (lines stop (line ++ stop ∷ rest)))) (ne_eqb x stop (free 0 (omega arith)))

@@ -28,7 +28,7 @@ module _ (stop : ℕ) where
   some_before x [] = omega arith
   some_before x (l ∷ ls) = omega arith
 
-  some_lines : (x : ℕ) (xs : List ℕ) → 0 < length (lines stop (x ∷ xs))
+  pub some_lines : (x : ℕ) (xs : List ℕ) → 0 < length (lines stop (x ∷ xs))
   some_lines x xs = at (x == stop)
     where
       at : (b : Bool) → 0 < length (cond b ([] ∷ lines stop xs) (before_first x (lines stop xs)))
@@ -112,7 +112,7 @@ module _ (stop : ℕ) where
       }
 
   -- what ends with a terminator is whole
-  whole_line : (front line : List ℕ) → IsWhole stop (front ++ (line ++ stop ∷ []))
+  pub whole_line : (front line : List ℕ) → IsWhole stop (front ++ (line ++ stop ∷ []))
   whole_line front line k last =
       let sized : length (front ++ (line ++ stop ∷ [])) ≡ length front + (length line + 1) =
       length-append front (line ++ stop ∷ []) ∙ ap (λ n. length front + n) (length-append line (stop ∷ [])) in
@@ -131,7 +131,7 @@ module _ (stop : ℕ) where
         subst (λ l. picks l ≡ false) piece (unselected at (at + length line) (omega arith) near (line_stands page front line rest w e))
 
     -- no line of whole lines that end before the place is selected
-    none_selected : (n : ℕ) (front xs tail : List ℕ) → length xs ≤ n → IsWhole stop front → IsWhole stop xs → page ≡ front ++ (xs ++ tail) → length front + length xs ≤ place →
+    pub none_selected : (n : ℕ) (front xs tail : List ℕ) → length xs ≤ n → IsWhole stop front → IsWhole stop xs → page ≡ front ++ (xs ++ tail) → length front + length xs ≤ place →
         filter picks (lines stop xs) ≡ []
     none_selected n front [] tail short v w e fits = refl
     none_selected zero front (x ∷ xs) tail short v w e fits = absurd (omega (arith, short))

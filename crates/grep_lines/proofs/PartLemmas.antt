@@ -9,7 +9,7 @@ use Rattle.grep_lines.specs.Parts.{Placed, placed, selected, shifted}
 use Rattle.grep_lines.proofs.PageLemmas.{lines_append, some_left, whole_tail}
 
 -- the bytes of lines with their terminators
-size_of : List (List ℕ) → ℕ
+unfoldable pub size_of : List (List ℕ) → ℕ
 size_of [] = 0
 size_of (line ∷ rest) = length line + 1 + size_of rest
 
@@ -29,7 +29,7 @@ module _ (stop : ℕ) (x : ℕ) (xs : List ℕ) (w : IsWhole stop (x ∷ xs)) wh
       more ∙ ap (λ c. size_of (cond c ([] ∷ lines stop xs) (before_first x (lines stop xs)))) (sym e)
 
 -- whole lines have as many bytes as their text
-whole_size : (stop : ℕ) (xs : List ℕ) → IsWhole stop xs → length xs ≡ size_of (lines stop xs)
+pub whole_size : (stop : ℕ) (xs : List ℕ) → IsWhole stop xs → length xs ≡ size_of (lines stop xs)
 unfolding size_of
 whole_size stop [] w = refl
 whole_size stop (x ∷ xs) w = size_step stop x xs w (whole_size stop xs (whole_tail stop x xs w)) (x == stop) refl

@@ -1,5 +1,5 @@
 -- Which lines are printed: the selected ones, and lines around them.
-use Rattle.std.specs.Prelude.{◌≡◌, ℕ, ◌+◌, ◌-◌, ◌==◌, ◌&&◌, ◌||◌, ◌⊎◌, Bool, List, [], ◌∷◌, ◌++◌, Option, None, Some, if◌then◌else◌, filter, length, nat_lt, take}
+use Rattle.std.specs.Prelude.{◌≡◌, ℕ, ◌+◌, ◌-◌, ◌==◌, ◌&&◌, ◌||◌, ◌⊎◌, Bool, List, [], ◌∷◌, ◌++◌, Option, None, Some, if◌then◌else◌, filter, length, nat_lt, take, false, true}
 use Rattle.std.specs.List.{list_any}
 use Rattle.std.specs.IoError.{error_kind}
 use Rattle.std.specs.declared.io.Error.{Error}
@@ -55,6 +55,12 @@ pub data Part : Type 0 where
   separator : Part
   line_of : Shown → Part
 
+-- selected lines, the first of which has this number and begins at this place, as they are printed one behind another
+abbrev pub selected_parts : (number place : ℕ) → List (List ℕ) → List Part
+selected_parts number place [] = []
+selected_parts number place (line ∷ rest) =
+    line_of (record { number = number; place = place; selected = true; line = line }) ∷ selected_parts (number + 1) (place + length line + 1) rest
+
 -- what stands before the line with this number; `behind` is the number behind the line that was printed last
 abbrev pub gap : (behind : Option ℕ) → ℕ → List Part
 gap None number = []
@@ -77,6 +83,11 @@ selected_count t picks most text = length (filter is_selected (marked picks most
 abbrev pub Prints : (old new : Option (List Part)) → List Part → Type 0
 Prints None new parts = Unit {0}
 Prints (Some before) new parts = new ≡ Some (before ++ parts)
+
+-- They were printed, or nothing was.
+abbrev pub PrintsIf : (done : Bool) → (old new : Option (List Part)) → List Part → Type 0
+PrintsIf true old new parts = Prints old new parts
+PrintsIf false old new parts = new ≡ old
 
 -- A beginning of what is printed of a text was printed.
 abbrev pub PrintsBeginning : (terminator : ℕ) → Extent → (ℕ → List ℕ → Bool) → (old new : Option (List Part)) → (text : List ℕ) → Type 0

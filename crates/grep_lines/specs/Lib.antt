@@ -5,3 +5,4 @@ pub mod Parts
 pub mod Context
 pub mod Touched
 pub mod Ahead
+pub mod Blocks

@@ -3,10 +3,12 @@ ghost use Rattle.std.specs.Prelude.{◌≡◌, ◌≢◌, ◌<◌, ◌+◌, ◌^
 ghost use Rattle.std.specs.IoError.{error_kind};
 ghost use Rattle.std.specs.declared.io.Error.{Error};
 ghost use Rattle.grep_lines.specs.Ahead.{Advances, Flushes, IsPlaced, IsSound, Skips};
-ghost use Rattle.grep_lines.specs.Context.{IfPrint, IfRead, IsPrintFault, Part, Prints, PrintsBeginning, gap, printed, selected_count};
+ghost use Rattle.grep_lines.specs.Context.{IfPrint, IfRead, IsPrintFault, Part, Prints, PrintsBeginning, PrintsIf, gap, printed, selected_count, selected_parts};
+ghost use Rattle.grep_lines.specs.Lines.{lines};
 ghost use Rattle.grep_lines.specs.Context.Part.{line_of, separator};
 
-use crate::select::{LineSelector, next_line};
+use crate::select::LineSelector;
+use crate::steps::Plan;
 use std::alloc::Global;
 use std::collections::VecDeque;
 use std::io::{BufRead, ErrorKind};
@@ -50,6 +52,25 @@ pub trait LinePrinter<S: LineSelector> {
         ensures failed { IfErr result fails_by }
         ensures same { S.selects selector.new ≡ S.selects selector.old };
 
+    /// Prints selected lines at once, one behind another, if it can. Returns whether it did, and
+    /// else nothing is printed. Each has its terminator. The first one has this number, and begins at
+    /// this place of the text.
+    fn print_lines(
+        &mut self,
+        selector: &mut S,
+        number: u64,
+        place: u128,
+        terminator: u8,
+        text: &[u8],
+    ) -> io::Result<bool>
+        ensures ok { IfOk result (λ done. PrintsIf done (printed self.old) (printed self.new)
+            (selected_parts number place (lines terminator text.now))) }
+        ensures failed { IfErr result fails_by }
+        ensures same { S.selects selector.new ≡ S.selects selector.old }
+    {
+        Ok(false)
+    }
+
     /// Prints a separator.
     fn print_separator(&mut self) -> io::Result<()>
         ensures ok { OnOk result (Prints (printed self.old) (printed self.new) (separator ∷ [])) }
@@ -70,15 +91,15 @@ pub enum PrintError {
 pub(crate) struct Progress {
     alloc: Global,
     /// The lines before the next one that are printed if a line soon after them is selected.
-    kept: VecDeque<Vec<u8>>,
+    pub(crate) kept: VecDeque<Vec<u8>>,
     /// The number of the first of them, or of the next line.
-    next: u64,
+    pub(crate) next: u64,
     /// The place at which that line begins.
-    place: u128,
+    pub(crate) place: u128,
     /// The number of lines that are still context of the last selected line.
     pub(crate) left: u64,
     /// The number behind the line that was printed last.
-    behind: Option<u64>,
+    pub(crate) behind: Option<u64>,
 }
 
 impl Progress {
@@ -138,7 +159,7 @@ impl Progress {
     }
 
     /// Prints the lines that are kept, before a selected line.
-    fn print_kept<S: LineSelector, P: LinePrinter<S>>(
+    pub(crate) fn print_kept<S: LineSelector, P: LinePrinter<S>>(
         &mut self,
         selector: &mut S,
         printer: &mut P,
@@ -223,14 +244,6 @@ impl Progress {
     }
 }
 
-/// Whether a line is selected, behind `count` selected ones.
-fn selects_more<S: LineSelector>(selector: &mut S, line: &[u8], count: u64, most: u64) -> bool
-    ensures value { result ≡ (S.selects selector.old line.now && nat_lt 0 (most - count)) }
-    ensures same { S.selects selector.new ≡ S.selects selector.old }
-{
-    count < most && selector.selects(line)
-}
-
 /// Prints the selected lines of a reader and those around them, each once, and a separator between
 /// two that don't touch. Returns the number of selected lines.
 ///
@@ -258,22 +271,22 @@ pub fn print_selected<R: BufRead, S: LineSelector, P: LinePrinter<S>>(
 {
     let mut progress = Progress::new(alloc);
     let mut line = Vec::new(alloc);
+    let plan = Plan { terminator, extent };
     let mut count: u64 = 0;
-    for _read in 0..u64::MAX - 1 {
+    for _ in 0..u64::MAX {
         if count == extent.most && progress.left == 0 {
             return Ok(count);
         }
-        match next_line(reader, terminator, &mut line) {
-            Ok(true) => {}
-            Ok(false) => return Ok(count),
-            Err(fault) => return Err(PrintError::Read(fault)),
+        if !progress.has_room(1) {
+            return Err(PrintError::Read(io::Error::from(ErrorKind::Other)));
         }
-        let is_selected = selects_more(selector, &line, count, extent.most);
-        if let Err(fault) = progress.take(selector, printer, extent, is_selected, &mut line) {
-            return Err(PrintError::Print(fault));
-        }
-        if is_selected {
-            count += 1;
+        let taken = match progress.step(reader, selector, printer, plan, count, &mut line) {
+            Ok(taken) => taken,
+            Err(fault) => return Err(fault),
+        };
+        match taken {
+            Some(more) => count += more,
+            None => return Ok(count),
         }
     }
     Err(PrintError::Read(io::Error::from(ErrorKind::Other)))

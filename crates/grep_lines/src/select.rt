@@ -5,12 +5,23 @@ ghost use Rattle.std.specs.Io.KnownBytes.{Consumes, Keeps};
 ghost use Rattle.std.specs.IoError.{error_kind};
 ghost use Rattle.grep_lines.specs.Lines.{AreLinesOf, lines};
 ghost use Rattle.grep_lines.specs.Pages.{MayTake};
-ghost use Rattle.grep_lines.specs.Selected.{AreSkipped, IsNextSelected, IsStopped, TakesLine};
+ghost use Rattle.grep_lines.specs.Selected.{AreSkipped, IsNextSelected, IsStopped, IsTurn, TakesLine};
 
 use crate::pages::lines_before;
 use memchr::memchr;
 use std::io;
 use std::io::{BufRead, ErrorKind};
+
+/// What is known of the first lines of a page.
+#[derive(Clone, Copy)]
+pub struct Stretch {
+    /// A position in the page. The lines that end before it are all selected, or none is.
+    pub place: usize,
+    /// Whether they are selected.
+    pub is_selected: bool,
+    /// Where the line at that position ends, if it is known to be unlike them, by its terminator.
+    pub turn: Option<usize>,
+}
 
 /// A selector of lines.
 pub trait LineSelector {
@@ -22,6 +33,25 @@ pub trait LineSelector {
         ensures value { result ≡ selects self.old line.now }
         ensures same { selects self.new ≡ selects self.old };
 
+    /// The first lines of a page that are all selected, or none of which is, and the end of the next
+    /// one if that is known to be unlike them. These lines need no look of their own. The page begins
+    /// with a line. Lines end in the byte `terminator`. If nothing is known, no line is told of.
+    fn next_stretch(&mut self, terminator: u8, page: &[u8]) -> Stretch
+        ensures within { result.place ≤ length page.now }
+        ensures alike { (start end : ℕ) → start ≤ end → end < result.place
+            → AreLinesOf terminator page.now start end
+            → selects self.old (slice_range page.now start end) ≡ result.is_selected }
+        ensures turn { IfSome result.turn (IsTurn terminator (selects self.old)
+            result.is_selected page.now result.place) }
+        ensures same { selects self.new ≡ selects self.old }
+    {
+        Stretch {
+            place: 0,
+            is_selected: false,
+            turn: None,
+        }
+    }
+
     /// A position in a page at which a line begins, such that no line of the page that ends before
     /// it is selected. Those lines need no look of their own. It is 0 if nothing is known.
     /// Lines end in the byte `terminator`.
@@ -32,7 +62,12 @@ pub trait LineSelector {
             → selects self.old (slice_range page.now start end) ≡ false }
         ensures same { selects self.new ≡ selects self.old }
     {
-        0
+        let stretch = self.next_stretch(terminator, page);
+        if stretch.is_selected {
+            0
+        } else {
+            stretch.place
+        }
     }
 }
 

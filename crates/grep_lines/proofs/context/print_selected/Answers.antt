@@ -1,18 +1,18 @@
-use Rattle.std.proofs.Common.{Bool, ℕ, false, true, ◌≡◌, ◌+◌, ◌-◌, ◌&&◌, ◌∙◌, List, IfSome, ap, arith, cond, length, nat_lt, refl, subst, sym}
-use Rattle.grep_lines.specs.Selected.{TakesLine}
-use Rattle.grep_lines.proofs.StandsLemmas.{begun, few_more, stands_anywhere, stands_first, stands_next, told_at_end, told_enough}
+use Rattle.std.proofs.Common.{Bool, ℕ, ◌≤◌, ◌+◌, ◌∙◌, List, IfSome, MatchOption, ap, arith, length, refl, subst, sym}
+use Rattle.grep_lines.specs.Blocks.{IsAtEnd, TakesLines}
+use Rattle.grep_lines.specs.Context.{PrintsBeginning}
+use Rattle.grep_lines.proofs.AdvanceLemmas.{read_weaker, stands_on, told_none}
+use Rattle.grep_lines.proofs.StandsLemmas.{begun, stands_first, told_enough}
 use Rattle.grep_lines.proofs.context.print_selected.Goals as goal
-use Rattle.grep_lines.proofs.context.print_selected.Goals.{then-is_selected, else-is_selected}
 
 -- nothing was read
-pub loop-read-init : goal.loop-read-init
-loop-read-init g c =
+pub loop-init : goal.loop-init
+loop-init g c =
     let new = c.new-progress.ensures in
     record {
       sound = record { within = omega (arith, ap length new.kept); idle = λ _. new.left };
       placed = omega (arith, new.place, new.next);
       same = refl;
-      size = omega (arith, new.next, ap length new.kept);
       few = omega arith;
       stands =
           stands_first c.args.terminator c.args.extent (λ _. g.S.LineSelector.selects c.args.selector.now) (g.P.LinePrinter.printed c.args.printer.now) c.new-progress.result
@@ -22,88 +22,97 @@ loop-read-init g c =
 -- enough lines were selected, and those behind the last one printed
 pub returns-then-progress-eq0-clause-printed : goal.returns-then-progress-eq0-clause-printed
 returns-then-progress-eq0-clause-printed g c =
-    (told_enough c.args.terminator c.args.extent (λ _. g.S.LineSelector.selects c.args.selector.now) (g.P.LinePrinter.printed c.args.printer.now) c.loop-read.progress
-    (g.P.LinePrinter.printed c.loop-read.printer) c.loop-read.count 0 (g.R.Read.remaining c.args.reader.now) (g.R.Read.remaining c.loop-read.reader)
-    (omega arith) (omega arith) c.loop-read.invariant.stands).0
+    (told_enough c.args.terminator c.args.extent (λ _. g.S.LineSelector.selects c.args.selector.now) (g.P.LinePrinter.printed c.args.printer.now) c.loop.progress
+    (g.P.LinePrinter.printed c.loop.printer) c.loop.count 0 (g.R.Read.remaining c.args.reader.now) (g.R.Read.remaining c.loop.reader)
+    (omega arith) (omega arith) c.loop.invariant.stands).0
 
 pub returns-then-progress-eq0-clause-counted : goal.returns-then-progress-eq0-clause-counted
 returns-then-progress-eq0-clause-counted g c =
-    (told_enough c.args.terminator c.args.extent (λ _. g.S.LineSelector.selects c.args.selector.now) (g.P.LinePrinter.printed c.args.printer.now) c.loop-read.progress
-    (g.P.LinePrinter.printed c.loop-read.printer) c.loop-read.count 0 (g.R.Read.remaining c.args.reader.now) (g.R.Read.remaining c.loop-read.reader)
-    (omega arith) (omega arith) c.loop-read.invariant.stands).1
+    (told_enough c.args.terminator c.args.extent (λ _. g.S.LineSelector.selects c.args.selector.now) (g.P.LinePrinter.printed c.args.printer.now) c.loop.progress
+    (g.P.LinePrinter.printed c.loop.printer) c.loop.count 0 (g.R.Read.remaining c.args.reader.now) (g.R.Read.remaining c.loop.reader)
+    (omega arith) (omega arith) c.loop.invariant.stands).1
 
 -- the text's end was reached
-pub returns-in-Ok-false-clause-printed : goal.returns-in-Ok-false-clause-printed
-returns-in-Ok-false-clause-printed g c =
-    let mid = g.R.Read.remaining c.loop-read.reader in
-    let left = g.R.Read.remaining c.next_line.new.reader in
-    let line = c.next_line.new.line.items in
-    let ended : IfSome mid (λ text. TakesLine c.args.terminator text false line left) =
-    subst (λ b. IfSome mid (λ text. TakesLine c.args.terminator text b line left)) c.in-Ok-false.field-0-test c.in-Ok-false.ensures.taken in
-    (told_at_end c.args.terminator c.args.extent (λ _. g.S.LineSelector.selects c.args.selector.now) (g.P.LinePrinter.printed c.args.printer.now) c.loop-read.progress
-    (g.P.LinePrinter.printed c.loop-read.printer) c.loop-read.count 0 (g.R.Read.remaining c.args.reader.now) mid left line c.loop-read.invariant.sound ended
-    c.loop-read.invariant.stands).0
-
-pub returns-in-Ok-false-clause-counted : goal.returns-in-Ok-false-clause-counted
-returns-in-Ok-false-clause-counted g c =
-    let mid = g.R.Read.remaining c.loop-read.reader in
-    let left = g.R.Read.remaining c.next_line.new.reader in
-    let line = c.next_line.new.line.items in
-    let ended : IfSome mid (λ text. TakesLine c.args.terminator text false line left) =
-    subst (λ b. IfSome mid (λ text. TakesLine c.args.terminator text b line left)) c.in-Ok-false.field-0-test c.in-Ok-false.ensures.taken in
-    (told_at_end c.args.terminator c.args.extent (λ _. g.S.LineSelector.selects c.args.selector.now) (g.P.LinePrinter.printed c.args.printer.now) c.loop-read.progress
-    (g.P.LinePrinter.printed c.loop-read.printer) c.loop-read.count 0 (g.R.Read.remaining c.args.reader.now) mid left line c.loop-read.invariant.sound ended
-    c.loop-read.invariant.stands).1
-
--- a line more was read
-pub loop-read-preserved : goal.loop-read-preserved
-loop-read-preserved g c =
+pub returns-in-None-clause-printed : goal.returns-in-None-clause-printed
+returns-in-None-clause-printed g c =
     let e = c.args.extent in
+    let stop = c.args.terminator in
     let picks = g.S.LineSelector.selects c.args.selector.now in
-    let inv = c.loop-read.invariant in
-    let mid = g.R.Read.remaining c.loop-read.reader in
-    let left = g.R.Read.remaining c.next_line.new.reader in
-    let line = c.next_line.new.line.items in
-    let count = c.loop-read.count in
-    let more = c.if-is_selected.count in
-    let b = c.selects_more-is_selected.result in
-    let taken : IfSome mid (λ text. TakesLine c.args.terminator text true line left) =
-    subst (λ b. IfSome mid (λ text. TakesLine c.args.terminator text b line left)) c.in-Ok-true.field-0-test c.in-Ok-true.ensures.taken in
-    let passes : b ≡ (picks line && nat_lt 0 (e.most - count)) =
-    c.selects_more-is_selected.ensures.value
-    ∙ ap (λ (l : List ℕ). g.S.LineSelector.selects c.loop-read.selector l && nat_lt 0 (e.most - count)) c.deref.ensures.value
-    ∙ ap (λ (p : List ℕ → Bool). p line && nat_lt 0 (e.most - count)) inv.same in
-    let Counted : Type 0 = more ≡ cond b (count + 1) count in
-    let is : Counted =
-    elim c.if-is_selected.branch as (λ _. Counted) [
-      | then-is_selected w ↦ w.count-is ∙ ap (λ t. cond t (count + 1) count) (sym w.if-is_selected.true)
-      | else-is_selected w ↦ w.count-is ∙ ap (λ t. cond t (count + 1) count) (sym w.if-is_selected.false)
-    ] in
-    let ensured = c.in_default.ensures in
-    record {
-      sound = ensured.sound;
-      placed = ensured.placed;
-      same = c.take.ensures.same ∙ c.selects_more-is_selected.ensures.same ∙ inv.same;
-      size = omega (arith, ensured.next, inv.size);
-      few = few_more e.most count more (picks line) b inv.few is passes;
-      stands =
-          stands_anywhere c.args.terminator e picks c.take.new.self (g.P.LinePrinter.printed c.args.printer.now) (g.P.LinePrinter.printed c.take.new.printer) left more
-          (length line + 1) (g.R.Read.remaining c.args.reader.now)
-          (stands_next c.args.terminator e (λ _. picks) (g.P.LinePrinter.printed c.args.printer.now) c.loop-read.progress c.take.new.self
-          (g.P.LinePrinter.printed c.loop-read.printer) (g.P.LinePrinter.printed c.take.new.printer) count more 0 (length line + 1) line
-          (g.R.Read.remaining c.args.reader.now) mid left b inv.stands taken passes is (omega arith) ensured.ok);
-    }
+    let inv = c.loop.invariant in
+    let mid = g.R.Read.remaining c.loop.reader in
+    let left = g.R.Read.remaining c.step.new.reader in
+    let start = g.P.LinePrinter.printed c.args.printer.now in
+    let now = g.P.LinePrinter.printed c.loop.printer in
+    let new = g.P.LinePrinter.printed c.step.new.printer in
+    let count = c.loop.count in
+    let over : IfSome mid (IsAtEnd stop c.loop.progress c.step.new.self now new) =
+    subst (λ o. IfSome mid (λ text. MatchOption o (IsAtEnd stop c.loop.progress c.step.new.self now new text)
+    (λ more. TakesLines stop e (g.S.LineSelector.selects c.loop.selector) c.loop.progress c.step.new.self now new count more text left))) c.in-None.is c.in-Ok.ensures.ok in
+    (told_none stop e picks c.loop.progress c.step.new.self start now new count mid inv.sound over (g.R.Read.remaining c.args.reader.now) inv.stands).0
 
--- a line couldn't be read
-pub returns-in-Err-clause-begun : goal.returns-in-Err-clause-begun
-returns-in-Err-clause-begun g c =
-    begun c.args.terminator c.args.extent (λ _. g.S.LineSelector.selects c.args.selector.now) (g.P.LinePrinter.printed c.args.printer.now) c.loop-read.progress
-    (g.P.LinePrinter.printed c.loop-read.printer) c.loop-read.count 0 (g.R.Read.remaining c.args.reader.now) (g.R.Read.remaining c.loop-read.reader)
-    c.loop-read.invariant.stands
+pub returns-in-None-clause-counted : goal.returns-in-None-clause-counted
+returns-in-None-clause-counted g c =
+    let e = c.args.extent in
+    let stop = c.args.terminator in
+    let picks = g.S.LineSelector.selects c.args.selector.now in
+    let inv = c.loop.invariant in
+    let mid = g.R.Read.remaining c.loop.reader in
+    let left = g.R.Read.remaining c.step.new.reader in
+    let start = g.P.LinePrinter.printed c.args.printer.now in
+    let now = g.P.LinePrinter.printed c.loop.printer in
+    let new = g.P.LinePrinter.printed c.step.new.printer in
+    let count = c.loop.count in
+    let over : IfSome mid (IsAtEnd stop c.loop.progress c.step.new.self now new) =
+    subst (λ o. IfSome mid (λ text. MatchOption o (IsAtEnd stop c.loop.progress c.step.new.self now new text)
+    (λ more. TakesLines stop e (g.S.LineSelector.selects c.loop.selector) c.loop.progress c.step.new.self now new count more text left))) c.in-None.is c.in-Ok.ensures.ok in
+    (told_none stop e picks c.loop.progress c.step.new.self start now new count mid inv.sound over (g.R.Read.remaining c.args.reader.now) inv.stands).1
+
+-- lines were taken
+pub loop-preserved : goal.loop-preserved
+loop-preserved g c =
+    let e = c.args.extent in
+    let stop = c.args.terminator in
+    let picks = g.S.LineSelector.selects c.args.selector.now in
+    let inv = c.loop.invariant in
+    let mid = g.R.Read.remaining c.loop.reader in
+    let left = g.R.Read.remaining c.step.new.reader in
+    let start = g.P.LinePrinter.printed c.args.printer.now in
+    let now = g.P.LinePrinter.printed c.loop.printer in
+    let new = g.P.LinePrinter.printed c.step.new.printer in
+    let count = c.loop.count in
+    let more = c.in-Some.more in
+    let taken : IfSome mid (λ text. TakesLines stop e picks c.loop.progress c.step.new.self now new count more text left) =
+    subst (λ (p : List ℕ → Bool). IfSome mid (λ text. TakesLines stop e p c.loop.progress c.step.new.self now new count more text left)) inv.same
+    (subst (λ o. IfSome mid (λ text. MatchOption o (IsAtEnd stop c.loop.progress c.step.new.self now new text)
+    (λ more. TakesLines stop e (g.S.LineSelector.selects c.loop.selector) c.loop.progress c.step.new.self now new count more text left))) c.in-Some.is c.in-Ok.ensures.ok) in
+    record {
+      sound = c.in-Ok.ensures.sound;
+      placed = c.in-Ok.ensures.placed;
+      same = c.step.ensures.same ∙ inv.same;
+      few = subst (λ o. IfSome o (λ more. count + more ≤ e.most)) c.in-Some.is c.in-Ok.ensures.few;
+      stands = stands_on stop e picks c.loop.progress c.step.new.self now new count more start (g.R.Read.remaining c.args.reader.now) mid left inv.stands taken;
+    }
 
 -- there are too many lines
 pub returns-clause-begun : goal.returns-clause-begun
 returns-clause-begun g c =
-    begun c.args.terminator c.args.extent (λ _. g.S.LineSelector.selects c.args.selector.now) (g.P.LinePrinter.printed c.args.printer.now) c.loop-read.progress
-    (g.P.LinePrinter.printed c.loop-read.printer) c.loop-read.count 0 (g.R.Read.remaining c.args.reader.now) (g.R.Read.remaining c.loop-read.reader)
-    c.loop-read.invariant.stands
+    begun c.args.terminator c.args.extent (λ _. g.S.LineSelector.selects c.args.selector.now) (g.P.LinePrinter.printed c.args.printer.now) c.loop.progress
+    (g.P.LinePrinter.printed c.loop.printer) c.loop.count 0 (g.R.Read.remaining c.args.reader.now) (g.R.Read.remaining c.loop.reader)
+    c.loop.invariant.stands
+
+pub returns-then-not-has_room-clause-begun : goal.returns-then-not-has_room-clause-begun
+returns-then-not-has_room-clause-begun g c =
+    begun c.args.terminator c.args.extent (λ _. g.S.LineSelector.selects c.args.selector.now) (g.P.LinePrinter.printed c.args.printer.now) c.loop.progress
+    (g.P.LinePrinter.printed c.loop.printer) c.loop.count 0 (g.R.Read.remaining c.args.reader.now) (g.R.Read.remaining c.loop.reader)
+    c.loop.invariant.stands
+
+-- a line couldn't be read
+pub returns-in-Err-clause-begun : goal.returns-in-Err-clause-begun
+returns-in-Err-clause-begun g c =
+    let start = g.P.LinePrinter.printed c.args.printer.now in
+    let input = g.R.Read.remaining c.args.reader.now in
+    let picks = g.S.LineSelector.selects c.args.selector.now in
+    read_weaker c.in-Err.fault c.in-Err.ensures.unprinted
+    (λ same. subst (λ o. IfSome input (PrintsBeginning c.args.terminator c.args.extent (λ _. picks) start o)) (sym same)
+    (begun c.args.terminator c.args.extent (λ _. picks) start c.loop.progress (g.P.LinePrinter.printed c.loop.printer) c.loop.count 0 input (g.R.Read.remaining c.loop.reader)
+    c.loop.invariant.stands))
