@@ -1,6 +1,7 @@
 # Completions of rcgrep for fish.
 complete -c rcgrep -l regexp -s e -x -d 'A pattern. A line is selected if one of them matches.'
 complete -c rcgrep -l file -s f -x -d 'Each line of the file is a pattern.'
+complete -c rcgrep -l extended-regexp -s E -d 'Patterns are expressions, as they are unless -F is given.'
 complete -c rcgrep -l fixed-strings -s F -d 'Patterns are texts, not expressions.'
 complete -c rcgrep -l stated -d 'Patterns are of the stated grammar: it has no classes by property, set or POSIX name.'
 complete -c rcgrep -l ignore-case -s i -d 'Letters match in either case. With --stated only those of ASCII do.'
@@ -37,4 +38,4 @@ complete -c rcgrep -l text -s a -d 'Print lines of binary files too.'
 complete -c rcgrep -l no-binary -s I -d 'Pass over binary files.'
 complete -c rcgrep -l help -d 'Print this text.'
 complete -c rcgrep -l version -s V -d 'Print the version.'
-complete -c rcgrep -l generate -x -d 'Print the man page, or completions for bash, zsh or fish: man, bash, zsh, fish.'
+complete -c rcgrep -l generate -x -d 'Print completions for a shell, or the options as items of a man page: bash, zsh, fish, man.'

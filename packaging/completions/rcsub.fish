@@ -6,4 +6,4 @@ complete -c rcsub -l in-place -s i -d 'Change each file, and keep the old one un
 complete -c rcsub -l dry-run -s n -d 'Change no file, and print a diff of the lines that would change.'
 complete -c rcsub -l help -d 'Print this text.'
 complete -c rcsub -l version -s V -d 'Print the version.'
-complete -c rcsub -l generate -x -d 'Print the man page, or completions for bash, zsh or fish: man, bash, zsh, fish.'
+complete -c rcsub -l generate -x -d 'Print completions for a shell, or the options as items of a man page: bash, zsh, fish, man.'

@@ -182,6 +182,7 @@ impl<'w> Options<'w> {
     /// Sets an option about patterns that takes no value. Returns whether it is one.
     fn set_pattern_option(&mut self, id: Id) -> bool {
         match id {
+            Id::ExtendedRegexp => self.is_fixed = false,
             Id::FixedStrings => self.is_fixed = true,
             Id::Stated => self.is_stated = true,
             Id::IgnoreCase => self.ignore_case = true,

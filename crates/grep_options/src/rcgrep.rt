@@ -3,7 +3,7 @@
 use crate::table::{Entry, Id, Program, Section, Takes};
 
 /// The options of `rcgrep`.
-pub static OPTIONS: [Entry; 39] = [
+pub static OPTIONS: [Entry; 40] = [
     Entry {
         id: Id::Regexp,
         section: Section::Patterns,
@@ -19,6 +19,14 @@ pub static OPTIONS: [Entry; 39] = [
         name: "file",
         takes: Takes::Value("FILE"),
         help: "Each line of the file is a pattern.",
+    },
+    Entry {
+        id: Id::ExtendedRegexp,
+        section: Section::Patterns,
+        letter: Some('E'),
+        name: "extended-regexp",
+        takes: Takes::Nothing,
+        help: "Patterns are expressions, as they are unless -F is given.",
     },
     Entry {
         id: Id::FixedStrings,
@@ -314,7 +322,7 @@ pub static OPTIONS: [Entry; 39] = [
         letter: None,
         name: "generate",
         takes: Takes::Value("KIND"),
-        help: "Print the man page, or completions for bash, zsh or fish: man, bash, zsh, fish.",
+        help: "Print completions for a shell, or the options as items of a man page: bash, zsh, fish, man.",
     },
 ];
 

@@ -66,7 +66,7 @@ pub static SUB_OPTIONS: [Entry; 8] = [
         letter: None,
         name: "generate",
         takes: Takes::Value("KIND"),
-        help: "Print the man page, or completions for bash, zsh or fish: man, bash, zsh, fish.",
+        help: "Print completions for a shell, or the options as items of a man page: bash, zsh, fish, man.",
     },
 ];
 

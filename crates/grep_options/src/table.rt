@@ -28,6 +28,7 @@ impl Section {
 pub enum Id {
     Regexp,
     File,
+    ExtendedRegexp,
     FixedStrings,
     Stated,
     IgnoreCase,
