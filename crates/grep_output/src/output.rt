@@ -187,6 +187,22 @@ impl<'o, W: Write + Drop> Printer<'o, W> {
         self
     }
 
+    /// Whether selected lines are printed as they are, or none of them is.
+    fn takes_text(&self, text: &[u8]) -> bool {
+        let style = self.style;
+        style.is_quiet || self.out.is_binary || (style.is_plain() && !style.finds_binary(text))
+    }
+
+    /// Writes a separator, if one stands before the next line.
+    fn put_separator(&mut self) -> io::Result<()> {
+        if self.is_apart {
+            self.is_apart = false;
+            self.out.writer.write_all(SEPARATOR)?;
+        }
+        self.out.has_groups = self.style.separates;
+        Ok(())
+    }
+
     /// Finds the matches in a selected line, and counts it, if that is asked for.
     fn find_matches<F: MatchFinder>(
         &mut self,
@@ -214,6 +230,29 @@ impl<'o, W: Write + Drop> Printer<'o, W> {
 impl<'o, F: MatchFinder, W: Write + Drop> LinePrinter<F> for Printer<'o, W> {
     ghost printed = { λ _. None };
 
+    fn print_lines(
+        &mut self,
+        _selector: &mut F,
+        _number: u64,
+        _place: u128,
+        _terminator: u8,
+        text: &[u8],
+    ) -> io::Result<bool> {
+        let style = self.style;
+        if self.out.total.is_some() || !self.takes_text(text) {
+            return Ok(false);
+        }
+        if style.is_quiet || self.out.is_binary {
+            return Ok(true);
+        }
+        self.put_separator()?;
+        self.out.writer.write_all(text)?;
+        if style.line_buffered {
+            self.out.writer.flush()?;
+        }
+        Ok(true)
+    }
+
     fn print_line(
         &mut self,
         selector: &mut F,
@@ -231,11 +270,7 @@ impl<'o, F: MatchFinder, W: Write + Drop> LinePrinter<F> for Printer<'o, W> {
         if style.is_quiet || self.out.is_binary {
             return Ok(());
         }
-        if self.is_apart {
-            self.is_apart = false;
-            self.out.writer.write_all(SEPARATOR)?;
-        }
-        self.out.has_groups = style.separates;
+        self.put_separator()?;
         let line = Line {
             number,
             place,

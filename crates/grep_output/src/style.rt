@@ -67,6 +67,15 @@ impl<'o> Style<'o> {
             && (self.only_matching || self.is_colored || self.template.is_some())
     }
 
+    /// Whether a selected line is printed as it is, with nothing before it.
+    pub fn is_plain(&self) -> bool {
+        self.name.is_none()
+            && !self.numbers
+            && !self.places
+            && !self.only_matching
+            && !self.needs_matches()
+    }
+
     /// Whether this line shows that a file is binary, so that it isn't printed.
     pub fn finds_binary(&self, line: &[u8]) -> bool {
         !self.is_quiet && !self.is_text && memchr(0, line).is_some()

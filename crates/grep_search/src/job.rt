@@ -3,7 +3,7 @@
 use crate::fault::{Fault, read, written};
 use crate::pages::{PAGE, PageReader, bytes_of, page_len, read_pages};
 use grep_files::Identity;
-use grep_lines::{Extent, LinePrinter, Touched, next_selected, print_selected, print_touched};
+use grep_lines::{Extent, Touched, print_selected, print_touched};
 use grep_options::filter::{Options, Report};
 use grep_output::{MatchFinder, Output, Printer, Recorder, Style, Template};
 use memchr::memchr;
@@ -18,28 +18,6 @@ fn is_binary<R: BufRead>(reader: &mut R) -> bool {
         Ok(page) => memchr(0, page).is_some(),
         Err(_) => false,
     }
-}
-
-/// Prints the selected lines of a reader, without their places: at most `most`, and then the rest
-/// isn't read. Returns how many there were.
-fn print_lines<R: BufRead, F: MatchFinder, W: Write + Drop>(
-    alloc: Global,
-    finder: &mut F,
-    reader: &mut R,
-    printer: &mut Printer<'_, W>,
-    terminator: u8,
-    most: u64,
-) -> Result<u64, Fault> {
-    let mut line = Vec::new(alloc);
-    let mut number: u64 = 0;
-    for count in 0..most {
-        let Some(passed) = read(next_selected(reader, finder, terminator, &mut line))? else {
-            return Ok(count);
-        };
-        number = number.saturating_add(passed);
-        written(printer.print_line(finder, number, 0, true, &line))?;
-    }
-    Ok(most)
 }
 
 /// How lines are searched and printed, and where to.
@@ -133,20 +111,9 @@ impl Job<'_, '_, '_> {
         let style = self.style(name, report);
         let terminator = style.terminator;
         let mut printer = Printer::new(self.alloc, out, style);
-        if style.separates || style.places {
-            let extent = self.extent();
-            let printed = print_selected(
-                self.alloc,
-                reader,
-                finder,
-                &mut printer,
-                terminator,
-                extent,
-            );
-            return Ok(printed?);
-        }
-        let most = self.most(report);
-        print_lines(self.alloc, finder, reader, &mut printer, terminator, most)
+        let extent = self.extent_for(report);
+        let printed = print_selected(self.alloc, reader, finder, &mut printer, terminator, extent);
+        Ok(printed?)
     }
 
     /// Prints the lines of a reader that a match touches, or the others, with those around them if

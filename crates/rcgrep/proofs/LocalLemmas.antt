@@ -1,7 +1,7 @@
 -- Only proofs use this file.
 -- What a pattern spells in a line of a text by itself, it spells in the text too.
 use denote.Struct.Props.{props}
-use Rattle.std.proofs.Common.{ℕ, zero, suc, ◌≡◌, ◌<◌, ◌≤◌, ◌+◌, ◌-◌, ◌∙◌, [], ◌∷◌, Bool, false, true, List, Option, Some, None, All, IsTrue, not, ◌&&◌, ◌||◌, ap, ap₂, arith, min, refl, sym, subst, inl, inr, length, take, drop, get_or, get_or-take, length-take-le, length-drop, map, take_all, take-take, eq-eqb, true≢false}
+use Rattle.std.proofs.Common.{ℕ, zero, suc, ◌≡◌, ◌<◌, ◌≤◌, ◌+◌, ◌-◌, ◌∙◌, [], ◌∷◌, Bool, false, true, List, Option, Some, None, All, IfSome, IsTrue, not, ◌&&◌, ◌||◌, ap, ap₂, arith, min, refl, sym, subst, inl, inr, length, take, drop, get_or, get_or-take, length-take-le, length-drop, map, take_all, take-take, eq-eqb, true≢false}
 use Rattle.std.specs.List.{slice_get, slice_range}
 use Rattle.std.specs.Option.{is_some}
 use Rattle.std.proofs.lemmas.Bool.{or_from, or_left, or_right}
@@ -32,9 +32,10 @@ use Rattle.rc_program.proofs.PropertyLemmas.{property_law}
 use Rattle.api_meta.specs.Views.{regex_kind, sought}
 use Rattle.api_meta.specs.declared.regex.Regex.{Regex}
 use Rattle.rc_program.specs.Kinds.{answer_by}
-use Rattle.rcgrep.specs.Picked.{has_match}
+use Rattle.rcgrep.specs.Picked.{has_match, is_picked}
 use Rattle.grep_lines.specs.Lines.{AreLinesOf}
-use Rattle.rcgrep.specs.Local.{HasLineLooks, IsLocal, IsLocalPattern, IsLocalRegex, LocalLaw, is_line_look, start_or}
+use Rattle.grep_lines.specs.Selected.{IsTurn}
+use Rattle.rcgrep.specs.Local.{HasLineLooks, IsLineEnd, IsLineEndOf, IsLocal, IsLocalPattern, IsLocalRegex, LocalLaw, is_line_look, start_or}
 use Rattle.rcgrep.proofs.LineLemmas.{same_holds}
 use Rattle.regex_cursor.specs.Output.{whole}
 
@@ -87,6 +88,54 @@ module _ (t u : Text) (at size : ℕ) (same : (k b : ℕ) → slice_get t.conten
   spelled_on n (h ∷ hs) local p i j near (inl s) = inl (s.0, spells_on h (All-head IsLocalPattern h hs local).looks i j near s.1)
   spelled_on n (h ∷ hs) local p i j near (inr s) = inr (spelled_on (n + 1) hs (All-tail IsLocalPattern h hs local) p i j near s)
 
+-- ---- and what it spells in the text inside a line, it spells in the line by itself
+
+stands_rise : (ys bs : List ℕ) (i j : ℕ) → Stands ys bs i j → i ≤ j
+stands_rise ys [] i j e = omega (arith, e)
+stands_rise ys (b ∷ bs) i j s = omega (arith, stands_rise ys bs (i + 1) j s.1)
+
+module _ (t u : Text) (at size : ℕ) (same : (k b : ℕ) → at ≤ k → k < at + size → slice_get u.content k ≡ Some b → slice_get t.content (k - at) ≡ Some b)
+    (looks : (l : Look) → IsTrue (is_line_look l) → (p : ℕ) → p ≤ size → holds t l p ≡ holds u l (at + p)) where
+  stands_back : (bs : List ℕ) (i j : ℕ) → at ≤ i → j ≤ at + size → Stands u.content bs i j → Stands t.content bs (i - at) (j - at)
+  stands_back [] i j from to e = ap (λ k. k - at) e
+  stands_back (b ∷ bs) i j from to s =
+      let order = stands_rise u.content bs (i + 1) j s.1 in
+      let next : i + 1 - at ≡ i - at + 1 = omega (arith, from) in
+      (same i b from (omega (arith, order, to)) s.0, subst (λ k. Stands t.content bs k (j - at)) next (stands_back bs (i + 1) j (omega (arith, from)) to s.1))
+
+  turns_back : (R S : ℕ → ℕ → Type 0) → ((i j : ℕ) → R i j → i ≤ j) → ((i j : ℕ) → at ≤ i → j ≤ at + size → R i j → S (i - at) (j - at)) →
+      (n i j : ℕ) → at ≤ i → j ≤ at + size → Turns R n i j → Turns S n (i - at) (j - at)
+  turns_back R S rise back zero i j from to e = ap (λ k. k - at) e
+  turns_back R S rise back (suc n) i j from to t =
+      let first = rise i t.0 t.1 in
+      (t.0 - at, back i t.0 from (omega (arith, to, turns_rise R rise n t.0 j t.2)) t.1, turns_back R S rise back n t.0 j (omega (arith, from, first)) to t.2)
+
+  spells_back : (h : Re) → HasLineLooks h → (i j : ℕ) → at ≤ i → j ≤ at + size → Spells u h i j → Spells t h (i - at) (j - at)
+  spells_back empty lines i j from to e = ap (λ k. k - at) e
+  spells_back (literal bs) lines i j from to s = stands_back bs i j from to s
+  spells_back (byte_in rs) lines i j from to s = (s.0, same i s.0 from (omega (arith, s.3, to)) s.1, s.2, omega (arith, s.3, from))
+  spells_back (char_in rs) lines i j from to s = (s.0, s.1, s.2, stands_back _ i j from to s.3)
+  spells_back (look l) lines i j from to s =
+      let is = lines l (eq-eqb (look_number l) (look_number l) refl) in
+      (looks l is (i - at) (omega (arith, s.1, to)) ∙ ap (holds u l) (omega (arith, from)) ∙ s.0, ap (λ k. k - at) s.1)
+  spells_back (repeat least most greedy a) lines i j from to s =
+      (s.0, s.1, s.2, turns_back (Spells u a) (Spells t a) (spells_rise u a) (spells_back a lines) s.0 i j from to s.3)
+  spells_back (capture n name a) lines i j from to s = spells_back a lines i j from to s
+  spells_back (cat a rest) lines i j from to s =
+      let first = spells_rise u a i s.0 s.1 in (
+        s.0 - at,
+        spells_back a (λ l h. lines l (or_left (has_look a l) (has_look rest l) h)) i s.0 from (omega (arith, to, spells_rise u rest s.0 j s.2)) s.1,
+        spells_back rest (λ l h. lines l (or_right (has_look a l) (has_look rest l) h)) s.0 j (omega (arith, from, first)) to s.2,
+      )
+  spells_back (alt a rest) lines i j from to (inl s) = inl (spells_back a (λ l h. lines l (or_left (has_look a l) (has_look rest l) h)) i j from to s)
+  spells_back (alt a rest) lines i j from to (inr s) = inr (spells_back rest (λ l h. lines l (or_right (has_look a l) (has_look rest l) h)) i j from to s)
+  spells_back none lines i j from to s = absurd s
+
+  spelled_back : (n : ℕ) (hs : List Re) → All IsLocalPattern hs → (p i j : ℕ) → at ≤ i → j ≤ at + size → SpelledBy u n hs p i j → SpelledBy t n hs p (i - at) (j - at)
+  spelled_back n [] local p i j from to s = absurd s
+  spelled_back n (h ∷ hs) local p i j from to (inl s) = inl (s.0, spells_back h (All-head IsLocalPattern h hs local).looks i j from to s.1)
+  spelled_back n (h ∷ hs) local p i j from to (inr s) = inr (spelled_back (n + 1) hs (All-tail IsLocalPattern h hs local) p i j from to s)
+
 never_empty : (hs : List Re) → All IsLocalPattern hs → may_be_empty hs ≡ false
 never_empty [] local = refl
 never_empty (h ∷ hs) local =
@@ -125,6 +174,25 @@ module _ (q : Sought) (is : IsLocal q) where
           parts.1,
           omega (arith, near.2, inside, short),
           (group_law.shown_spells r.text q.grouped 0 q.patterns m.pattern (at + m.start) (at + m.end)).1 on,
+        )
+
+  module _ (text piece : List ℕ) (at : ℕ) (short : at + length piece < 18446744073709551616)
+      (same : (k b : ℕ) → at ≤ k → k < at + length piece → slice_get text k ≡ Some b → slice_get piece (k - at) ≡ Some b) (looks : LooksOn q piece text at) where
+    -- a match in the text that lies in the piece is one of the piece
+    spelled_here : (m : Found) → at ≤ m.start → m.end ≤ at + length piece → IsSpelledIn (search_for q (whole text)) m →
+        IsSpelledIn (search_for q (whole piece)) (record { pattern = m.pattern; start = m.start - at; end = m.end - at })
+    spelled_here m from to h =
+        let s = search_for q (whole text) in
+        let r = search_for q (whole piece) in
+        let near = spelled_within s m h in
+        let parts = (greatest_law.by_program places s m bounds refl).0 h in
+        let spelled = (group_law.shown_spells s.text q.grouped 0 q.patterns m.pattern m.start m.end).0 parts.3 in
+        let back = spelled_back r.text s.text at (length piece) same looks 0 q.patterns is.local m.pattern m.start m.end from to spelled in
+        (greatest_law.by_program places r (record { pattern = m.pattern; start = m.start - at; end = m.end - at }) bounds refl).1 (
+          (omega arith, omega (arith, near.1, from, to, short), λ e. absurd (true≢false (sym e))),
+          parts.1,
+          omega (arith, to, from, near.1, short),
+          (group_law.shown_spells r.text q.grouped 0 q.patterns m.pattern (m.start - at) (m.end - at)).1 back,
         )
 
   module _ (text : List ℕ) where
@@ -196,6 +264,40 @@ local_law q text start end is short order are near =
     no_match q is text piece start short (omega (arith, size, inside)) (subst (λ n. n < start_or (length text) (answer (search_for q (whole text)))) (sym size) near)
     (piece_same text start end order inside) looks (answer (search_for q (whole piece))) refl
 
+-- and where they stand there
+piece_back : (text : List ℕ) (start end : ℕ) → start ≤ end → end ≤ length text → (k b : ℕ) → start ≤ k → k < start + length (slice_range text start end) →
+    slice_get text k ≡ Some b → slice_get (slice_range text start end) (k - start) ≡ Some b
+piece_back text start end order inside k b from to e =
+    let piece = slice_range text start end in
+    let size : length piece ≡ end - start = length-take-le (end - start) (drop start text) (omega (arith, inside, length-drop start text)) in
+    let there : start + (k - start) ≡ k = omega (arith, from) in
+    let value : get_or piece (k - start) 0 ≡ b =
+    get_or-take (end - start) (drop start text) (k - start) 0 (omega (arith, from, to, size)) ∙ get_or-drop start text (k - start) 0 ∙ ap (λ n. get_or text n 0) there
+    ∙ get_or_from_slice_get text k b 0 e in
+    slice_get-get_or piece (k - start) 0 (omega (arith, from, to)) ∙ ap Some value
+
+-- lines that the match lies in have one
+lines_matched : (q : Sought) (text : List ℕ) (m : Found) (start end : ℕ) → IsLocal q → length text < 18446744073709551616 → answer (search_for q (whole text)) ≡ Some m →
+    start ≤ m.start → m.end ≤ end → start ≤ end → AreLinesOf 10 text start end → is_some (answer (search_for q (whole (slice_range text start end)))) ≡ true
+lines_matched q text m start end is short e from to order are =
+    let inside : end < length text = slice_get_within text end 10 are.behind in
+    let piece = slice_range text start end in
+    let size : start + length piece ≡ end = omega (arith, order, length-drop start text, length-take-le (end - start) (drop start text) (omega (arith, inside, length-drop start text))) in
+    let looks : LooksOn q piece text start = λ l line p within.
+    ap (λ t. holds t l p) (whole_text q piece is.terminator (omega (arith, short, size, inside)))
+    ∙ same_holds text start end order are p (omega (arith, size, within)) l line
+    ∙ sym (ap (λ t. holds t l (start + p)) (whole_text q text is.terminator short)) in
+    let spelled = spelled_here q is text piece start (omega (arith, size, inside, short)) (piece_back text start end order (omega (arith, inside))) looks m from
+    (omega (arith, size, to)) (greatest_law.answer_spelled (search_for q (whole text)) m e) in
+    at (record { pattern = m.pattern; start = m.start - start; end = m.end - start }) spelled (answer (search_for q (whole piece))) refl
+  where
+    at : (n : Found) → IsSpelledIn (search_for q (whole (slice_range text start end))) n → (o : Option Found) → answer (search_for q (whole (slice_range text start end))) ≡ o →
+        is_some o ≡ true
+    at n spelled None missing =
+        absurd (unpassed q is (slice_range text start end) n spelled
+        ((answer_law.answer_none (search_for q (whole (slice_range text start end)))).0 missing n.start spelled.is_start))
+    at n spelled (Some k) there = refl
+
 -- the lines of a part of a text are lines of the text
 lines_of_part : (page : List ℕ) (reach start end : ℕ) → start ≤ end → end < reach → AreLinesOf 10 page start end → AreLinesOf 10 (take reach page) start end
 lines_of_part page reach start end order near are = record {
@@ -237,6 +339,14 @@ piece_of_part page reach start end order inside =
     ap (take (end - start)) (ap (λ n. drop start (take n page)) rest ∙ drop-take start (reach - start) page)
     ∙ take-take (end - start) (reach - start) (drop start page) (omega (arith, inside))
 
+pub picked_none : (b : Bool) → is_picked b false ≡ b
+picked_none true = refl
+picked_none false = refl
+
+pub picked_some : (b : Bool) → is_picked b true ≡ not b
+picked_some true = refl
+picked_some false = refl
+
 -- no line that ends before the match of a part of a page has a match
 module _ (r : Regex) (page : List ℕ) (reach : ℕ) (inside : reach ≤ length page) (short : reach < 18446744073709551616) where
   abbrev first : ℕ
@@ -258,6 +368,41 @@ module _ (r : Regex) (page : List ℕ) (reach : ℕ) (inside : reach ≤ length 
 
   pub unmatched : ∥ IsLocalRegex r ∥₁ → (start end : ℕ) → start ≤ end → AreLinesOf 10 page start end → end < first → has_match r (slice_range page start end) ≡ false
   unmatched h start end order are near = ∥∥₁_elim h (hlevel props) (λ is. unmatched_by is start end order are near)
+
+  -- a line in which that match lies has one
+  turned_by : IsLocalRegex r → (m : Found) (start end : ℕ) → answer_by (regex_kind r) (search_for (sought r) (whole (take reach page))) ≡ Some m → start ≤ m.start →
+      IsLineEndOf (take reach page) m.start m.end end → AreLinesOf 10 page start end → has_match r (slice_range page start end) ≡ true
+  turned_by is m start end e from ends are =
+      let text = take reach page in
+      let size : length text ≡ reach = length-take-le reach page inside in
+      let kinded : (s : Search) → answer_by (regex_kind r) s ≡ answer s = λ s. ap (λ k. answer_by k s) is.kind in
+      let order : start ≤ end = omega (arith, from, ends.order) in
+      let near : end < reach = omega (arith, size, ends.within) in
+      ap is_some (kinded (search_for (sought r) (whole (slice_range page start end))))
+      ∙ ap (λ piece. is_some (answer (search_for (sought r) (whole piece)))) (sym (piece_of_part page reach start end order (omega (arith, near))))
+      ∙ lines_matched (sought r) text m start end is.local (omega (arith, size, short)) (sym (kinded (search_for (sought r) (whole text))) ∙ e) from ends.behind order
+      (lines_of_part page reach start end order near are)
+
+  pub turned : ∥ IsLocalRegex r ∥₁ → (m : Found) (start end : ℕ) → answer_by (regex_kind r) (search_for (sought r) (whole (take reach page))) ≡ Some m → start ≤ m.start →
+      IsLineEndOf (take reach page) m.start m.end end → AreLinesOf 10 page start end → has_match r (slice_range page start end) ≡ true
+  turned h m start end e from ends are = ∥∥₁_elim h (hlevel props) (λ is. turned_by is m start end e from ends are)
+
+  pub turn_of : ∥ IsLocalRegex r ∥₁ → (b : Bool) (o : Option Found) → answer_by (regex_kind r) (search_for (sought r) (whole (take reach page))) ≡ o → (place : ℕ) →
+      place ≡ start_or (length (take reach page)) o → (turn : Option ℕ) → IfSome turn (IsLineEnd (take reach page) o) →
+      IfSome turn (IsTurn 10 (λ line. is_picked b (has_match r line)) b page place)
+  turn_of h b o e place is None ends = tt
+  turn_of h b None e place is (Some end) ends = absurd ends
+  turn_of h b (Some m) e place is (Some end) ends =
+      let text = take reach page in
+      let size : length text ≡ reach = length-take-le reach page inside in
+      let near : end < reach = omega (arith, size, ends.within) in
+      record {
+        behind = omega (arith, is, ends.order);
+        within = omega (arith, near, inside);
+        ended = sym (get_or-take reach page end 0 near) ∙ ends.ended;
+        first = λ k from before ten. ends.first k (omega (arith, is, from)) before (get_or-take reach page k 0 (omega (arith, before, near)) ∙ ten);
+        unlike = λ start from are. ap (is_picked b) (turned h m start end e (omega (arith, is, from)) ends are) ∙ picked_some b;
+      }
 
   inside_by : IsLocalRegex r → first ≤ length page
   inside_by is =

@@ -1,6 +1,6 @@
 -- Only proofs and the contracts of private functions use this file.
 -- Which patterns match a line of a text alike, by itself and where it stands.
-use Rattle.std.specs.Prelude.{◌≡◌, ℕ, ◌<◌, ◌≤◌, Bool, false, true, IsTrue, List, All, length, Option, None, Some, is_some, slice_range}
+use Rattle.std.specs.Prelude.{◌≡◌, ◌≢◌, ℕ, ◌<◌, ◌≤◌, Bool, false, true, IsTrue, List, All, length, Option, None, Some, is_some, slice_index, slice_range}
 use Rattle.rc_text.specs.Found.{Found}
 use Rattle.rc_text.specs.declared.types.MatchKind.TheVariants.{LeftmostFirst}
 use Rattle.rc_pattern.specs.Re.{Re}
@@ -47,6 +47,19 @@ pub record IsLocalRegex (r : Regex) : Type 0 where
 abbrev pub start_or : ℕ → Option Found → ℕ
 start_or end None = end
 start_or end (Some m) = m.start
+
+-- The first newline from a match's start on stands at the place, and the match lies before it.
+pub record IsLineEndOf (text : List ℕ) (start end place : ℕ) : Type 0 where
+  pub order : start ≤ place
+  pub behind : end ≤ place
+  pub within : place < length text
+  pub ended : slice_index text place ≡ 10
+  pub first : (k : ℕ) → start ≤ k → k < place → slice_index text k ≢ 10
+
+-- It does so of a match that is there.
+abbrev pub IsLineEnd : List ℕ → Option Found → ℕ → Type 0
+IsLineEnd text None place = ⊥
+IsLineEnd text (Some m) place = IsLineEndOf text m.start m.end place
 
 -- no line of a text that ends before its first match has a match
 abbrev pub LocalLaw : Type 0

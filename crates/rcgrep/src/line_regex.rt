@@ -1,5 +1,5 @@
 //! Line matching: patterns that select lines.
-ghost use Rattle.std.specs.Prelude.{◌≡◌, ◌<◌, ◌≤◌, ◌++◌, IfOk, None, OnOk, cond, false, length, take};
+ghost use Rattle.std.specs.Prelude.{◌≡◌, ◌<◌, ◌≤◌, ◌++◌, IfOk, IfSome, None, OnOk, cond, false, length, take};
 ghost use Rattle.rc_text.specs.Joined.{joined};
 ghost use Rattle.rc_program.specs.Kinds.{answer_by};
 ghost use Rattle.rc_program.specs.Sought.{search_for};
@@ -8,13 +8,14 @@ ghost use Rattle.api_meta.specs.Views.{regex_kind, regex_patterns, regex_setting
 ghost use Rattle.regex_cursor.specs.Output.{IsWhole, whole};
 ghost use Rattle.rc_needles.specs.Needles.{find_needle};
 ghost use Rattle.rc_needles.specs.Prefilters.{needles_of};
-ghost use Rattle.rcgrep.specs.Local.{start_or};
+ghost use Rattle.rcgrep.specs.Local.{IsLineEnd, IsLineEndOf, start_or};
 ghost use Rattle.rcgrep.specs.Needed.{needle_or};
 ghost use Rattle.rcgrep.specs.Picked.{IsLine, IsLineFrom, found_from, has_match, is_picked, spans_of, text_matches};
 
 use crate::patterns::Patterns;
-use grep_lines::LineSelector;
+use grep_lines::{LineSelector, Stretch};
 use grep_output::MatchFinder;
+use memchr::memchr;
 use rc_needles::literal::find_from;
 use rc_needles::prefilter::Prefilter;
 use regex_cursor::cursor::{ChunkCursor, TooLong};
@@ -36,9 +37,6 @@ const GREATEST: usize = 1 << 20;
 /// The number of bytes of a page that are tested together for one past ASCII.
 const BLOCK: usize = 64;
 
-/// If a match begins this close behind a line, its line and the next one are tested by themselves.
-const CLOSE: usize = 64;
-
 /// Selects the lines in which a pattern matches, or the others. It keeps one cache for all lines.
 #[derive(Drop)]
 pub struct LineRegex<'p> {
@@ -49,7 +47,7 @@ pub struct LineRegex<'p> {
     is_inverted: bool,
     /// The number of bytes of a page that are searched at once next: four times what was skipped
     /// before a match, and twice as many if nothing was found. So the bytes that are read twice are
-    /// no more than some times the skipped ones. At 0 the next line is tested by itself.
+    /// no more than some times the skipped ones.
     reach: usize,
 }
 
@@ -113,25 +111,34 @@ impl<'p> LineRegex<'p> {
         self.find(line).is_some()
     }
 
-    /// Where the match in the text begins, or the end of the text.
-    fn find_start(&mut self, text: &[u8]) -> usize
-        ensures value { result ≡ start_or (length text.now)
+    /// What is known of the first lines of a page, of which this is a part, by the first match in it.
+    fn stretch_in(&mut self, text: &[u8]) -> Stretch
+        ensures place { result.place ≡ start_or (length text.now)
             (answer_by (regex_kind self.old.regex)
             (search_for (sought self.old.regex) (whole text.now))) }
+        ensures selected { result.is_selected ≡ self.old.is_inverted }
+        ensures turn { IfSome result.turn (IsLineEnd text.now
+            (answer_by (regex_kind self.old.regex)
+            (search_for (sought self.old.regex) (whole text.now)))) }
         ensures regex { self.new.regex ≡ self.old.regex }
         ensures inverted { self.new.is_inverted ≡ self.old.is_inverted }
     {
         let Some(found) = self.find(text) else {
             self.reach = self.reach.saturating_mul(2).min(GREATEST);
-            return text.len();
+            return Stretch {
+                place: text.len(),
+                is_selected: self.is_inverted,
+                turn: None,
+            };
         };
         let start = found.start();
-        self.reach = if start < CLOSE {
-            0
-        } else {
-            start.saturating_mul(4).clamp(LEAST, GREATEST)
-        };
-        start
+        let end = found.end();
+        self.reach = start.saturating_mul(4).clamp(LEAST, GREATEST);
+        Stretch {
+            place: start,
+            is_selected: self.is_inverted,
+            turn: line_end(text, start, end),
+        }
     }
 
     /// The number of bytes of a page that are searched at once. If a search would be slow from the
@@ -182,6 +189,23 @@ fn is_past_ascii(bytes: &[u8]) -> bool
     requires { 64 ≤ length bytes.now }
 {
     u8x64::from_slice(bytes).simd_ge(u8x64::splat(128)).any()
+}
+
+/// Where the line of a match from `start` to `end` ends, if it does so in the text, behind the match.
+fn line_end(text: &[u8], start: usize, end: usize) -> Option<usize>
+    ensures { IfSome result (IsLineEndOf text.now start end) }
+{
+    if start > text.len() {
+        return None;
+    }
+    let Some(behind) = memchr(b'\n', &text[start..]) else {
+        return None;
+    };
+    let place = start + behind;
+    if place < end {
+        return None;
+    }
+    Some(place)
 }
 
 /// Where the first needle in the page begins, or the end of the page.
@@ -248,9 +272,6 @@ impl LineSelector for LineRegex<'_> {
 
     fn selects(&mut self, line: &[u8]) -> bool {
         let has_match = self.has_match(line);
-        if !has_match {
-            self.reach = self.reach.max(LEAST);
-        }
         if self.is_inverted {
             !has_match
         } else {
@@ -258,18 +279,23 @@ impl LineSelector for LineRegex<'_> {
         }
     }
 
-    fn next_candidate(&mut self, terminator: u8, page: &[u8]) -> usize {
-        if self.is_inverted {
-            return 0;
-        }
+    fn next_stretch(&mut self, terminator: u8, page: &[u8]) -> Stretch {
         if let Some(needles) = &self.patterns.needles {
-            return needle_start(needles, page);
+            return Stretch {
+                place: needle_start(needles, page),
+                is_selected: self.is_inverted,
+                turn: None,
+            };
         }
-        if terminator != b'\n' || self.reach == 0 || !self.patterns.is_local {
-            return 0;
+        if terminator != b'\n' || !self.patterns.is_local {
+            return Stretch {
+                place: 0,
+                is_selected: self.is_inverted,
+                turn: None,
+            };
         }
         let reach = self.reach_in(page);
-        self.find_start(&page[..reach])
+        self.stretch_in(&page[..reach])
     }
 }
 
