@@ -14,6 +14,8 @@ pub struct Cache {
     pub(crate) lazy: Option<lazy::Cache>,
     /// The cache of the lazy DFA over symbols. With None, no search uses that.
     pub(crate) symbols: Option<lazy::Cache>,
+    /// Whether the lazy DFA over symbols replied to the last search.
+    pub(crate) by_symbols: bool,
 }
 
 // Crates above call this, and drop no part by themselves.
@@ -23,6 +25,7 @@ impl Drop for Cache {
             pass: _,
             lazy: _,
             symbols: _,
+            by_symbols: _,
         } = self;
     }
 }

@@ -258,6 +258,7 @@ impl Engines {
                 pass,
                 lazy,
                 symbols,
+                by_symbols: false,
             });
         };
         let states = if self.goes_overlapping() {
@@ -269,6 +270,7 @@ impl Engines {
             pass,
             lazy: Some(states),
             symbols,
+            by_symbols: false,
         })
     }
 

@@ -13,7 +13,7 @@ use rc_lazy_dfa::lazy;
 use rc_literals::guard::Guard;
 use rc_pikevm_search::literals::guards_of;
 use rc_text::cursor::Cursor;
-use rc_text::input::Input;
+use rc_text::input::{Input, byte_at};
 use rc_text::types::Match;
 use std::alloc::{AllocError, Global};
 
@@ -90,8 +90,44 @@ impl Engines {
         self.ask_by_route(tables, states, input, question, bounds)
     }
 
-    /// Replies as `ask_tables` does, or else by the lazy DFA over symbols. Returns None if there is
-    /// no DFA, or none has an answer.
+    /// Whether the DFA and the lazy DFA quit where the search begins: the byte before it is past
+    /// ASCII, which they may not read if there is a lazy DFA over symbols, and no literals lead them
+    /// on.
+    fn quits_at_once<C: Cursor>(&self, input: &mut Input<C>, bounds: Bounds) -> bool
+        ensures { Keeps input.old input.new }
+    {
+        if self.words.is_some() || self.needs.is_some() || bounds.low == 0 {
+            return false;
+        }
+        if guards_of(&self.engine.literals).is_some() {
+            return false;
+        }
+        match byte_at(input, bounds.low - 1) {
+            Some(byte) => byte > 127,
+            None => false,
+        }
+    }
+
+    /// Whether the lazy DFA over symbols is asked first: it replied to the last search, and the
+    /// others quit at once.
+    #[inline(always)]
+    fn goes_by_symbols<C: Cursor>(
+        &self,
+        by_symbols: bool,
+        input: &mut Input<C>,
+        bounds: Bounds,
+    ) -> bool
+        ensures { Keeps input.old input.new }
+    {
+        if !by_symbols {
+            return false;
+        }
+        self.quits_at_once(input, bounds)
+    }
+
+    /// Replies as `ask_tables` does, or else by the lazy DFA over symbols. If that replied last, it
+    /// alone is asked where the others quit at once. Returns None if there is no DFA, or none has an
+    /// answer.
     #[inline(always)]
     pub(crate) fn ask_dfas<C: Cursor>(
         &self,
@@ -109,9 +145,15 @@ impl Engines {
         ensures within { IfSome result (λ found. IfSome found (IsWithinBounds input.old)) }
         ensures cache { IsSameCacheIn self.now cache.old cache.new }
     {
+        if self.goes_by_symbols(cache.by_symbols, input, bounds) {
+            return self.ask_symbols(&mut cache.symbols, input, question, bounds);
+        }
         if let Some(found) = self.ask_tables(&mut cache.lazy, input, question, bounds) {
+            cache.by_symbols = false;
             return Some(found);
         }
-        self.ask_symbols(&mut cache.symbols, input, question, bounds)
+        let found = self.ask_symbols(&mut cache.symbols, input, question, bounds);
+        cache.by_symbols = found.is_some();
+        found
     }
 }
