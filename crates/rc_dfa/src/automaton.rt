@@ -36,7 +36,6 @@ pub enum Direction {
 /// A determinizer: a byte program with its byte classes and its steps, in both directions. It is
 /// entered at place 0, and at the entry of each of its patterns. Its tables read bytes, unless it is
 /// made one of symbols.
-#[derive(Drop)]
 pub struct Automaton {
     places: Vec<BytePlace>,
     reversed: Reversed,
@@ -56,6 +55,23 @@ pub struct Automaton {
     ghost alike: { TellsAlike (places_of places.items) needs terminator classes.items } by { TellsAlike-prop (places_of places.items) needs terminator classes.items },
     ghost sampled: { AreSamples classes.items samples.items },
     ghost rising: { AreRising classes.items },
+}
+
+// Crates above call this, and drop no part by themselves.
+impl Drop for Automaton {
+    fn drop(self) {
+        let Automaton {
+            places: _,
+            reversed: _,
+            entries: _,
+            needs: _,
+            terminator: _,
+            kind: _,
+            alphabet: _,
+            classes: _,
+            samples: _,
+        } = self;
+    }
 }
 
 /// Returns the class of each byte: by what the program distinguishes if `byte_classes` is set, else

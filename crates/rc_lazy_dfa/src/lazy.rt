@@ -23,7 +23,6 @@ use rc_text::types::Anchored;
 use std::alloc::{AllocError, Global};
 
 /// A lazy DFA: the determinizer, and the capacity of a cache. The states are in a `Cache`.
-#[derive(Drop)]
 pub struct Lazy {
     pub(crate) automaton: Automaton,
     capacity: usize,
@@ -32,15 +31,37 @@ pub struct Lazy {
     ghost roomy: { minimum ≤ capacity },
 }
 
+// Crates above call this, and drop no part by themselves.
+impl Drop for Lazy {
+    fn drop(self) {
+        let Lazy {
+            automaton: _,
+            capacity: _,
+            minimum: _,
+        } = self;
+    }
+}
+
 /// The states that searches reached so far, and the steps between them that are known, for each
 /// direction.
-#[derive(Drop)]
 pub struct Cache {
     forward: Half,
     reverse: Half,
     /// What overlapping searches keep, if the cache is for these too.
     overlapping: Option<Ends>,
     alloc: Global,
+}
+
+// Crates above call this, and drop no part by themselves.
+impl Drop for Cache {
+    fn drop(self) {
+        let Cache {
+            forward: _,
+            reverse: _,
+            overlapping: _,
+            alloc: _,
+        } = self;
+    }
 }
 
 /// Returns the least capacity that suffices, in bytes, or None if that is more than `usize::MAX`.

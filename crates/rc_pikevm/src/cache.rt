@@ -13,12 +13,23 @@ use std::marker::Model;
 use std::mem::size_of;
 
 /// All memory that a search needs, allocated once.
-#[derive(Drop)]
 pub struct Cache {
     pub(crate) scratch: Scratch,
     places: usize,
     threads: usize,
     columns: usize,
+}
+
+// Crates above call this, and drop no part by themselves.
+impl Drop for Cache {
+    fn drop(self) {
+        let Cache {
+            scratch: _,
+            places: _,
+            threads: _,
+            columns: _,
+        } = self;
+    }
 }
 
 impl Model for Cache {
