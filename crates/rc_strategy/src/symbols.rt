@@ -2,6 +2,8 @@
 //! may not be read alone, as at assertions that depend on Unicode words, the DFA and the lazy DFA
 //! quit. The lazy DFA over symbols reads on.
 
+ghost use Rattle.rc_text.specs.Text.{Keeps};
+
 use crate::cache::Cache;
 use crate::engines::Engines;
 use crate::question::Question;
@@ -17,10 +19,19 @@ use rc_text::input::{Input, byte_at};
 use rc_text::types::Match;
 use std::alloc::{AllocError, Global};
 
+/// Whether this byte of the content is past ASCII.
+fn is_past_ascii<C: Cursor>(input: &mut Input<C>, at: usize) -> bool
+    ensures { Keeps input.old input.new }
+{
+    match byte_at(input, at) {
+        Some(byte) => byte > 127,
+        None => false,
+    }
+}
+
 impl Engines {
     ghost use Rattle.std.specs.Prelude.{◌≡◌, IfOk, IfSome, is_some};
     ghost use Rattle.rc_text.specs.Bounds.{IsWithinBounds};
-    ghost use Rattle.rc_text.specs.Text.{Keeps};
     ghost use Rattle.rc_pikevm_search.specs.Engine.{engine_search};
     ghost use Rattle.rc_dfa_search.specs.Aims.{AreBounds};
     ghost use Rattle.rc_strategy.specs.Caches.{IsCacheOfBoth, IsSameCacheIn, KeepsStates};
@@ -90,22 +101,22 @@ impl Engines {
         self.ask_by_route(tables, states, input, question, bounds)
     }
 
-    /// Whether the DFA and the lazy DFA quit where the search begins: the byte before it is past
-    /// ASCII, which they may not read if there is a lazy DFA over symbols, and no literals lead them
-    /// on.
+    /// Whether the DFA and the lazy DFA quit where the search begins: the byte there or the one before
+    /// it is past ASCII, which they may not read if there is a lazy DFA over symbols, and no literals
+    /// lead them on.
     fn quits_at_once<C: Cursor>(&self, input: &mut Input<C>, bounds: Bounds) -> bool
         ensures { Keeps input.old input.new }
     {
-        if self.words.is_some() || self.needs.is_some() || bounds.low == 0 {
+        if self.words.is_some() || self.needs.is_some() {
             return false;
         }
         if guards_of(&self.engine.literals).is_some() {
             return false;
         }
-        match byte_at(input, bounds.low - 1) {
-            Some(byte) => byte > 127,
-            None => false,
+        if bounds.low > 0 && is_past_ascii(input, bounds.low - 1) {
+            return true;
         }
+        is_past_ascii(input, bounds.low)
     }
 
     /// Whether the lazy DFA over symbols is asked first: it replied to the last search, and the
