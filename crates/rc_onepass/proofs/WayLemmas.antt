@@ -7,7 +7,7 @@ use Rattle.rc_walks.specs.Walks.{Pair, IsIn}
 use Rattle.rc_program.specs.Scalars.{scalar_at}
 use Rattle.rc_program.specs.Program.{Place, choice, byte, branch, scalar, guard, slot, accept, Way, stays, reads, in_ranges, over_byte, over_scalar, branch_ways, ways_out, pair_at}
 use Rattle.rc_program.specs.Heads.{silent}
-use Rattle.rc_program.proofs.HeadsLemmas.{scalar_of_one}
+use Rattle.rc_program.proofs.SideLemmas.{at_one}
 use Rattle.rc_program.proofs.WayLemmas.{in_map, scalar_at_short, IsShort}
 use Rattle.rc_onepass.specs.OnePass.{Takes, named}
 
@@ -66,9 +66,9 @@ out_over test b bs (choice ns) i m l h = inl (from_choice ns i m h)
 out_over test b bs (byte rs n) i m l h = let r = from_if (in_ranges rs b) n i m h in inr (if_takes (in_ranges rs b) n m.0 r.0 r.1, r.2)
 out_over test b bs (branch ts) i m l h = inr (from_branch ts b i m h)
 out_over test b bs (scalar rs n) i m l h =
-    let r = from_if (in_ranges rs b) n i m (subst (λ o. IsIn m (map (pair_at i) (over_scalar rs n o))) (scalar_of_one b bs l) h) in
+    let r = from_if (in_ranges rs b) n i m (subst (λ o. IsIn m (map (pair_at i) (over_scalar rs n o))) (at_one b bs l) h) in
     inr (
-      subst (λ o. Contains (over_scalar rs n o) (reads 1 m.0)) (sym (scalar_of_one b [] l)) (if_takes (in_ranges rs b) n m.0 r.0 r.1),
+      subst (λ o. Contains (over_scalar rs n o) (reads 1 m.0)) (sym (at_one b [] l)) (if_takes (in_ranges rs b) n m.0 r.0 r.1),
       r.2,
     )
 out_over test b bs (guard k n) i m l h = inl (from_one (test k) n i m h)

@@ -1,10 +1,11 @@
 -- What the flags of a place tell that reads.
-use Rattle.std.proofs.Common.{◌≡◌, ℕ, ◌<◌, List, [], sym, subst, ap, ◌∙◌, refl, arith, ⊎_elim, Bool, true, false, ◌||◌, MatchBool}
+use Rattle.std.proofs.Common.{◌≡◌, ℕ, ◌<◌, List, [], sym, subst, ap, ◌∙◌, refl, arith, ⊎_elim, Bool, true, false, MatchBool}
 use Rattle.std.proofs.Math.Logic.{∥∥₁_elim}
-use Rattle.std.proofs.lemmas.Bool.{cases_Bool, lt-leb}
+use Rattle.std.proofs.lemmas.Bool.{cases_Bool}
 use Rattle.std.specs.List.{Contains}
 use Rattle.rc_program.specs.Heads.{silent, Reaches, here, on, may_take, MayGoOn}
 use Rattle.rc_program.specs.Program.{Place, byte, scalar, in_ranges, place_at}
+use Rattle.rc_program.proofs.HeadsLemmas.{ascii_leads}
 use denote.Struct.Props.{props}
 
 reached_is : (places : List Place) {p q : ℕ} → silent (place_at places p) ≡ [] → Reaches places p q → q ≡ p
@@ -32,4 +33,4 @@ byte_flag places p b n rs goes is m = flag_is places p b (ap silent is) goes m �
 pub scalar_flag : (places : List Place) (p b n : ℕ) (rs : List (ℕ × ℕ)) (goes : Bool) → place_at places p ≡ scalar rs n → b < 128 →
     MatchBool goes (MayGoOn places p b) (¬ MayGoOn places p b) → goes ≡ in_ranges rs b
 scalar_flag places p b n rs goes is low m =
-    flag_is places p b (ap silent is) goes m ∙ ap (λ q. may_take q b) is ∙ ap (λ x. x || in_ranges rs b) (lt-leb 128 b low)
+    flag_is places p b (ap silent is) goes m ∙ ap (λ q. may_take q b) is ∙ ascii_leads rs b low

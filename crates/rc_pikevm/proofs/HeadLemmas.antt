@@ -15,7 +15,7 @@ use Rattle.rc_program.specs.Answer.{only}
 use Rattle.rc_pattern.specs.declared.hir.Look.{Look}
 use Rattle.rc_program.specs.Heads.{silent, Reaches, here, on, may_take, MayGoOn, TellsHeads}
 use Rattle.rc_program.proofs.AnswerLemmas.{match_place_is}
-use Rattle.rc_program.proofs.HeadsLemmas.{IsReached, Taken, further, scalar_of_one}
+use Rattle.rc_program.proofs.HeadsLemmas.{AllStay, IsReached, Taken, further, takes_or_stays}
 use Rattle.rc_pikevm.specs.Sights.{Sight, IsUpTo, ends, ends_to, next_to}
 use Rattle.rc_pikevm.specs.Moves.{IsSetting, seen_by}
 use Rattle.rc_pikevm.specs.Near.{IsHere, seen_from}
@@ -34,30 +34,8 @@ first_take (suc n) [] some more = absurd (omega (arith, more))
 first_take (suc n) (x ∷ xs) some more = refl
 
 -- a place that doesn't take the byte ahead has no way out but those that read nothing
-choice_stays : (at : ℕ) (ns : List ℕ) (m : Pair) → IsIn m (map (pair_at at) (map stays ns)) → (k : ℕ) × Contains ns k × (m ≡ (k, at))
-choice_stays at [] m i = absurd i
-choice_stays at (n ∷ ns) m i =
-    ⊎_elim (λ e. (n, (0, omega arith, refl), sym e))
-    (λ j. let r = choice_stays at ns m j in (r.0, Contains-append_right (n ∷ []) ns r.0 r.1, r.2)) i
-
-not_both : (a b : Bool) → (a || b) ≡ false → (a ≡ false) × (b ≡ false)
-not_both true b e = absurd (true≢false e)
-not_both false b e = (refl, e)
-
-all_stay : (test : Look → Bool) (b : ℕ) (bs : List ℕ) (at : ℕ) (q : Place) (m : Pair) → may_take q b ≡ false →
-    IsIn m (map (pair_at at) (ways_out test (b ∷ bs) q)) → (k : ℕ) × Contains (silent q) k × (m ≡ (k, at))
-all_stay test b bs at (choice ns) m e i = choice_stays at ns m i
-all_stay test b bs at (byte rs n) m e i = absurd (subst (λ c. IsIn m (map (pair_at at) (if c then reads 1 n ∷ [] else []))) e i)
-all_stay test b bs at (branch ts) m e i = absurd (true≢false e)
-all_stay test b bs at (scalar rs n) m e i =
-    let both = not_both (nat_le 128 b) (in_ranges rs b) e in
-    absurd (subst (λ c. IsIn m (map (pair_at at) (if c then reads 1 n ∷ [] else []))) both.1
-    (subst (λ (o : Option (ℕ × ℕ)). IsIn m (map (pair_at at) (over_scalar rs n o))) (scalar_of_one b bs (leb-false 128 b both.0)) i))
-all_stay test b bs at (guard l n) m e i =
-    ⊎_elim (λ t. (n, (0, omega arith, refl), ⊎_elim (λ x. sym x) (λ never. absurd never) (subst (λ c. IsIn m (map (pair_at at) (if c then stays n ∷ [] else []))) t i)))
-    (λ f. absurd (subst (λ c. IsIn m (map (pair_at at) (if c then stays n ∷ [] else []))) f i)) (cases_Bool (test l))
-all_stay test b bs at (slot k n) m e i = (n, (0, omega arith, refl), ⊎_elim (λ x. sym x) (λ never. absurd never) i)
-all_stay test b bs at (accept p) m e i = absurd (true≢false e)
+all_stay : (test : Look → Bool) (b : ℕ) (bs : List ℕ) (at : ℕ) (q : Place) → may_take q b ≡ false → AllStay q at (ways_out test (b ∷ bs) q)
+all_stay test b bs at q e = ⊎_elim (λ t. absurd (true≢false (sym t ∙ e))) (λ stay. stay) (takes_or_stays test b bs at q)
 
 module _ (limit : Option ℕ) (s : Sight) (p at b : ℕ) (bs : List ℕ) (le : IsUpTo at limit) (is : ahead s.text s.hi at ≡ b ∷ bs) where
   -- a walk by places reached from p comes to one that takes the byte ahead, before it can come past the position
@@ -77,7 +55,7 @@ module _ (limit : Option ℕ) (s : Sight) (p at b : ℕ) (bs : List ℕ) (le : I
       onward_reached q r n same stay m i =
           let j = subst (λ (xs : List ℕ). IsIn m (map (pair_at at) (ways_out (λ l. holds s.text l at) xs (place_at s.places q)))) is
           (way_to limit s (q, at) m (subst (λ (k : Pair). IsIn m (next_to limit s k)) same i)) in
-          let k = all_stay (λ l. holds s.text l at) b bs at (place_at s.places q) m stay j in
+          let k = all_stay (λ l. holds s.text l at) b bs at (place_at s.places q) stay m j in
           (k.0, further s.places k.0 r k.1, k.2)
 
 -- no walk leads on over a byte over which none may go on from the place

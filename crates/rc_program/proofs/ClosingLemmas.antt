@@ -1,9 +1,9 @@
 -- How what is reached from a place is opened, and the flags over it.
-use Rattle.std.proofs.Common.{◌≡◌, ℕ, zero, suc, ◌+◌, ◌<◌, ◌≤◌, List, [], ◌∷◌, ◌++◌, length, map, take, min, set, ◌⊎◌, inl, inr, ⊎_elim, sym, subst, ap, ◌∙◌, refl, arith, Bool, true, false, true≢false, IsTrue, nat_le, ◌&&◌, ◌||◌, slice_index_or, Vec, append_assoc}
+use Rattle.std.proofs.Common.{◌≡◌, ℕ, zero, suc, ◌+◌, ◌<◌, ◌≤◌, List, [], ◌∷◌, ◌++◌, length, map, take, set, ◌⊎◌, inl, inr, ⊎_elim, sym, subst, ap, ◌∙◌, refl, arith, Bool, true, false, true≢false, IsTrue, nat_le, ◌&&◌, ◌||◌, slice_index_or, Vec, append_assoc}
 use Rattle.std.specs.List.{Contains}
 use Rattle.std.proofs.Math.Bool.{Bool-set, or-false}
 use Rattle.std.proofs.Math.Logic.{∥∥₁_elim}
-use Rattle.std.proofs.lemmas.Bool.{cases_eq, cases_lt, le-leb, lt-leb}
+use Rattle.std.proofs.lemmas.Bool.{cases_eq, cases_lt}
 use Rattle.std.proofs.lemmas.List.{get_or-map, get_or_append_left, map_push, take_more, length-append, length-set, map-set, get_or-set_same, get_or-set_other, append-nil}
 use Rattle.std.proofs.lemmas.List.Elements.{Contains-append_left, Contains-append_right, Contains-append_cases, Contains-push, Contains-push_cases}
 use Rattle.std.proofs.lemmas.List.Folds.{list_any_more, list_any_at, Any-from_list_any}
@@ -30,12 +30,6 @@ joined_both limit s t xs ys zs h k b small = k b small ∙ ap (λ x. x || t b) (
 pub joined_same : (limit : ℕ) (s t : ℕ → Bool) (xs ys : List Bool) → ((b : ℕ) → b < limit → s b ≡ t b) → AreJoined limit s xs ys → AreJoined limit t xs ys
 joined_same limit s t xs ys e h b small = h b small ∙ ap (λ x. slice_index_or xs b false || x) (e b small)
 
-pub joined_none : (limit : ℕ) (t : ℕ → Bool) (xs : List Bool) → ((b : ℕ) → b < limit → t b ≡ false) → AreJoined limit t xs xs
-joined_none limit t xs e b small = sym (ap (λ x. slice_index_or xs b false || x) (e b small) ∙ or-false _)
-
-pub joined_below : (most limit : ℕ) (t : ℕ → Bool) (xs ys : List Bool) → limit ≤ most → AreJoined most t xs ys → AreJoined limit t xs ys
-joined_below most limit t xs ys le h b small = h b (omega arith)
-
 abbrev pub in_range : Range → ℕ → Bool
 in_range r b = nat_le r.0 b && nat_le b r.1
 
@@ -57,20 +51,6 @@ joined_range limit f rs i d xs ys zs lt h k =
     joined_same limit (λ b. in_ranges (map f (take i rs)) b || in_range (f (slice_index_or rs i d)) b) (in_ranges (map f (take (i + 1) rs))) xs zs
     (λ b small. sym (ranges_more f rs i d b lt))
     (joined_both limit (in_ranges (map f (take i rs))) (in_range (f (slice_index_or rs i d))) xs ys zs h k)
-
--- below 128 a range is as if it ended there
-pub cut_range : (low high cut : ℕ) (xs ys : List Bool) → cut ≡ min high 127 → AreJoined 256 (λ b. nat_le low b && nat_le b cut) xs ys →
-    AreJoined 128 (in_range (low, high)) xs ys
-cut_range low high cut xs ys e h =
-    joined_same 128 (λ b. nat_le low b && nat_le b cut) (in_range (low, high)) xs ys
-    (λ b small. ap (λ t. nat_le low b && t) (same b small)) (joined_below 256 128 (λ b. nat_le low b && nat_le b cut) xs ys (omega arith) h)
-  where
-    same : (b : ℕ) → b < 128 → nat_le b cut ≡ nat_le b high
-    same b small =
-        ⊎_elim (λ l. lt-leb b cut (omega arith) ∙ sym (lt-leb b high l)) (λ l. le-leb b cut (omega arith) ∙ sym (le-leb b high l)) (cases_lt high b)
-
-pub high_range : (low high : ℕ) (xs : List Bool) → 128 ≤ low → AreJoined 128 (in_range (low, high)) xs xs
-high_range low high xs le = joined_none 128 (in_range (low, high)) xs (λ b small. ap (λ t. t && nat_le b high) (lt-leb low b (omega arith)))
 
 -- the place that code reads
 pub place_read : (ps : List code.Place) (i : ℕ) (q : code.Place) → i < length ps → q ≡ slice_index_or ps i q → place_at (places_of ps) i ≡ place_of q

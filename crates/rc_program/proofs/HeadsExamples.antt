@@ -1,5 +1,6 @@
 -- Over which bytes walks may go on, run on the program of `(?:a|\b)c?` and on places of scalars.
 use Rattle.std.proofs.Common.{◌≡◌, ℕ, true, false, List, [], ◌∷◌, map, Some, refl, codes, arith}
+use Rattle.std.specs.Char.{encode_utf8}
 use Rattle.rc_pattern.specs.Re.{literal, look, repeat}
 use Rattle.rc_pattern.specs.Meaning.{cat_all, alt_all}
 use Rattle.rc_pattern.specs.declared.hir.Look.TheVariants.{WordUnicode}
@@ -32,7 +33,19 @@ past_assertion = ∣ (7, on 4 (0, omega arith, refl) (on 6 (0, omega arith, refl
 may_end : (b : ℕ) → MayGoOn places 6 b
 may_end b = ∣ (10, on 9 (1, omega arith, refl) (on 10 (0, omega arith, refl) here), refl) ∣₁
 
--- over a class of scalars: a byte below 128 is one of them, or none goes on over it; any byte above may begin one
-scalars : map (may_take (scalar ((97, 122) ∷ (0xE0, 0xFF) ∷ []) 0)) (96 ∷ 97 ∷ 122 ∷ 123 ∷ 128 ∷ 0xC3 ∷ 0xFF ∷ [])
-    ≡ false ∷ true ∷ true ∷ false ∷ true ∷ true ∷ true ∷ []
-scalars = refl
+-- over `[a-zà-ÿ]`: C3 begins each of its letters past ASCII
+latin : map (may_take (scalar ((97, 122) ∷ (0xE0, 0xFF) ∷ []) 0)) (96 ∷ 97 ∷ 122 ∷ 123 ∷ 128 ∷ 0xC2 ∷ 0xC3 ∷ 0xC4 ∷ [])
+    ≡ false ∷ true ∷ true ∷ false ∷ false ∷ false ∷ true ∷ false ∷ []
+unfolding encode_utf8
+latin = refl
+
+-- over `[а-я]`: D0 and D1 begin its letters, and none of the bytes that go on with one, nor E4
+cyrillic : map (may_take (scalar ((0x430, 0x44F) ∷ []) 0)) (0x7F ∷ 0x80 ∷ 0xBF ∷ 0xCF ∷ 0xD0 ∷ 0xD1 ∷ 0xD2 ∷ 0xE4 ∷ [])
+    ≡ false ∷ false ∷ false ∷ false ∷ true ∷ true ∷ false ∷ false ∷ []
+unfolding encode_utf8
+cyrillic = refl
+
+-- over a class of all characters: no byte from F5 on begins one
+all : map (may_take (scalar ((0, 0x10_FFFF) ∷ []) 0)) (0 ∷ 0xF4 ∷ 0xF5 ∷ []) ≡ true ∷ true ∷ false ∷ []
+unfolding encode_utf8
+all = refl

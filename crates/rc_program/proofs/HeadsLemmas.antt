@@ -1,18 +1,21 @@
 -- Where no walk may go on over the byte ahead no walk sets out.
-use Rattle.std.proofs.Common.{◌≡◌, ℕ, ◌<◌, ◌⊎◌, List, [], ◌∷◌, length, map, inl, inr, ⊎_elim, sym, subst, ap, ◌∙◌, refl, arith, Bool, true, false, true≢false, IsTrue, Option, Some, nat_le, ◌||◌, if◌then◌else◌, slice_get, slice_index_or, Vec, ◌==◌}
-use Rattle.std.proofs.lemmas.Bool.{cases_Bool, lt-ltb, leb-false, eqb-false}
+use Rattle.std.proofs.Common.{◌≡◌, ℕ, ◌<◌, ◌⊎◌, List, [], ◌∷◌, length, map, inl, inr, ⊎_elim, sym, subst, ap, ◌∙◌, refl, arith, Bool, true, false, true≢false, IsTrue, Option, Some, nat_le, ◌||◌, if◌then◌else◌, slice_get, slice_index_or, Vec, ◌==◌, ◌&&◌, ◌++◌, ◌+◌, ◌/◌, ◌≤◌, None, ap₂, slice_index, encode_utf8}
+use Rattle.std.proofs.lemmas.Bool.{cases_Bool, cases_lt, lt-ltb, le-ltb, le-leb, leb-true, eqb-false, and_parts, and_from, or_left, or_right, or_cases}
+use Rattle.std.proofs.lemmas.Bool.Decides.{nat_tests}
 use Rattle.std.specs.List.{Contains}
 use Rattle.std.proofs.lemmas.List.{get_or-map, length-map}
 use Rattle.std.proofs.lemmas.List.Elements.{Contains-append_right}
 use Rattle.std.proofs.lemmas.Option.{none-some, same_Some}
+use Rattle.rc_pattern.specs.Re.{Range}
 use Rattle.rc_pattern.specs.declared.hir.Look.{Look}
 use Rattle.rc_walks.specs.Walks.{Pair, IsIn, IsWalk, stops, goes, HasNoWalk}
 use Rattle.rc_program.specs.Text.{Text, ahead, holds}
 use Rattle.rc_program.specs.Scalars.{scalar_at}
 use Rattle.rc_program.specs.Program.{Place, choice, byte, branch, scalar, guard, slot, accept, Way, stays, reads, in_ranges, over_scalar, ways_out, pair_at, place_at, ways}
 use Rattle.rc_program.specs.declared.place.Place as code
+use Rattle.rc_program.proofs.SideLemmas.{scalar_law, encode_one, encode_two, encode_three, encode_four}
 use Rattle.rc_program.specs.Places.{place_of, places_of}
-use Rattle.rc_program.specs.Heads.{silent, Reaches, here, on, may_take, MayGoOn, TellsHeads, AreHeads, flags_in, HeadsLaw}
+use Rattle.rc_program.specs.Heads.{silent, Reaches, here, on, may_take, MayGoOn, TellsHeads, AreHeads, flags_in, HeadsLaw, lead, leads}
 
 -- what is reached goes on to what stands in it
 pub further : (places : List Place) {p q : ℕ} (m : ℕ) → Reaches places p q → Contains (silent (place_at places q)) m → Reaches places p m
@@ -45,30 +48,81 @@ none_where : (q : Place) (i : ℕ) (b : Bool) (w : Way) → b ≡ false → AllS
 none_where q i true w e = absurd (true≢false e)
 none_where q i false w e = λ m h. absurd h
 
--- below 128 a byte is a scalar of its own
-pub scalar_of_one : (b : ℕ) (bs : List ℕ) → b < 128 → scalar_at (b ∷ bs) ≡ Some (b, 1)
-scalar_of_one b bs h = rw (lt-ltb b 128 h)
+-- which of four lengths, and the lead of it
+abbrev Led : ℕ → Type 0
+Led c = ((c < 128) × (lead c ≡ c)) ⊎ (((128 ≤ c) × (c < 2048) × (lead c ≡ 192 + c / 64))
+    ⊎ (((2048 ≤ c) × (c < 65536) × (lead c ≡ 224 + c / 4096)) ⊎ ((65536 ≤ c) × (lead c ≡ 240 + c / 262144))))
 
-scalar_stays : (rs : List (ℕ × ℕ)) (n i b : ℕ) (bs : List ℕ) → (nat_le 128 b || in_ranges rs b) ≡ false →
-    AllStay (scalar rs n) i (over_scalar rs n (scalar_at (b ∷ bs)))
-scalar_stays rs n i b bs e =
-    let parts = or_parts (nat_le 128 b) (in_ranges rs b) e in
-    subst (λ (o : Option (ℕ × ℕ)). AllStay (scalar rs n) i (over_scalar rs n o)) (sym (scalar_of_one b bs (leb-false 128 b parts.0)))
-    (none_where (scalar rs n) i (in_ranges rs b) (reads 1 n) parts.1)
+abbrev first : List ℕ → ℕ
+first xs = slice_index xs 0
+
+led : (c : ℕ) → Led c
+led c =
+    ⊎_elim (λ l. inl (l, ap first (encode_one c l)))
+    (λ g1. ⊎_elim (λ l. inr (inl (g1, l, ap first (encode_two c g1 l))))
+    (λ g2. ⊎_elim (λ l. inr (inr (inl (g2, l, ap first (encode_three c g2 l))))) (λ g3. inr (inr (inr (g3, ap first (encode_four c g3))))) (cases_lt c 65536))
+    (cases_lt c 2048)) (cases_lt c 128)
+
+some_encoded : (c : ℕ) → 0 < length (encode_utf8 c)
+some_encoded c =
+    ⊎_elim (λ l. omega (arith, ap length (encode_one c l)))
+    (λ g1. ⊎_elim (λ l. omega (arith, ap length (encode_two c g1 l)))
+    (λ g2. ⊎_elim (λ l. omega (arith, ap length (encode_three c g2 l))) (λ g3. omega (arith, ap length (encode_four c g3))) (cases_lt c 65536))
+    (cases_lt c 2048)) (cases_lt c 128)
+
+lead_rises : (a c : ℕ) → a ≤ c → lead a ≤ lead c
+lead_rises a c le = let x = led a in let y = led c in grind arith
+
+-- the lead of a scalar of the ranges lies between those of a range's ends
+leads_have : (rs : List Range) (c : ℕ) → in_ranges rs c ≡ true → in_ranges (map leads rs) (lead c) ≡ true
+leads_have [] c e = e
+leads_have (r ∷ rs) c e =
+    ⊎_elim
+    (λ here.
+    let p = and_parts (nat_le r.0 c) (nat_le c r.1) here in
+    or_left (nat_le (lead r.0) (lead c) && nat_le (lead c) (lead r.1)) (in_ranges (map leads rs) (lead c))
+    (and_from (nat_le (lead r.0) (lead c)) (nat_le (lead c) (lead r.1)) (le-leb (lead r.0) (lead c) (lead_rises r.0 c (leb-true r.0 c p.0)))
+    (le-leb (lead c) (lead r.1) (lead_rises c r.1 (leb-true c r.1 p.1)))))
+    (λ later. or_right (nat_le (lead r.0) (lead c) && nat_le (lead c) (lead r.1)) (in_ranges (map leads rs) (lead c)) (leads_have rs c later))
+    (or_cases (nat_le r.0 c && nat_le c r.1) (in_ranges rs c) e)
+
+-- below 128 a byte is the lead of no scalar but its own
+below_leads : (r : Range) (b : ℕ) → b < 128 → (nat_le (lead r.0) b && nat_le b (lead r.1)) ≡ (nat_le r.0 b && nat_le b r.1)
+below_leads r b low = let x = led r.0 in let y = led r.1 in grind (arith, nat_tests)
+
+pub ascii_leads : (rs : List Range) (b : ℕ) → b < 128 → in_ranges (map leads rs) b ≡ in_ranges rs b
+ascii_leads [] b low = refl
+ascii_leads (r ∷ rs) b low = ap₂ (λ x y. x || y) (below_leads r b low) (ascii_leads rs b low)
+
+-- the scalar of these bytes has the first of them as its lead
+scalar_led : (b c n : ℕ) (bs : List ℕ) → scalar_at (b ∷ bs) ≡ Some (c, n) → lead c ≡ b
+scalar_led b c n bs e =
+    let r = (scalar_law.begins (b ∷ bs) c n).0 e in same (encode_utf8 c) r.2.0 (some_encoded c) r.2.1
   where
-    or_parts : (x y : Bool) → (x || y) ≡ false → (x ≡ false) × (y ≡ false)
-    or_parts true y e = absurd (true≢false e)
-    or_parts false y e = (refl, e)
+    same : (xs rest : List ℕ) → 0 < length xs → b ∷ bs ≡ xs ++ rest → slice_index xs 0 ≡ b
+    same [] rest some is = absurd (omega (arith, some))
+    same (x ∷ xs) rest some is = sym (ap first is)
+
+scalar_stays : (rs : List Range) (n i b : ℕ) (bs : List ℕ) → in_ranges (map leads rs) b ≡ false →
+    AllStay (scalar rs n) i (over_scalar rs n (scalar_at (b ∷ bs)))
+scalar_stays rs n i b bs e = over (scalar_at (b ∷ bs)) refl
+  where
+    over : (o : Option (ℕ × ℕ)) → scalar_at (b ∷ bs) ≡ o → AllStay (scalar rs n) i (over_scalar rs n o)
+    over None is = λ m h. absurd h
+    over (Some s) is =
+        none_where (scalar rs n) i (in_ranges rs s.0) (reads s.1 n)
+        (⊎_elim (λ t. absurd (true≢false (sym (leads_have rs s.0 t) ∙ ap (in_ranges (map leads rs)) (scalar_led b s.0 s.1 bs is) ∙ e))) (λ f. f)
+        (cases_Bool (in_ranges rs s.0)))
 
 -- a place takes the byte ahead, or each way out of it reads nothing
-takes_or_stays : (test : Look → Bool) (b : ℕ) (bs : List ℕ) (i : ℕ) (q : Place) →
+pub takes_or_stays : (test : Look → Bool) (b : ℕ) (bs : List ℕ) (i : ℕ) (q : Place) →
     IsTrue (may_take q b) ⊎ AllStay q i (ways_out test (b ∷ bs) q)
 takes_or_stays test b bs i (choice ns) = inr (choices_stay i ns)
 takes_or_stays test b bs i (byte rs n) =
     ⊎_elim (λ e. inl e) (λ e. inr (none_where (byte rs n) i (in_ranges rs b) (reads 1 n) e)) (cases_Bool (in_ranges rs b))
 takes_or_stays test b bs i (branch ts) = inl refl
 takes_or_stays test b bs i (scalar rs n) =
-    ⊎_elim (λ e. inl e) (λ e. inr (scalar_stays rs n i b bs e)) (cases_Bool (nat_le 128 b || in_ranges rs b))
+    ⊎_elim (λ e. inl e) (λ e. inr (scalar_stays rs n i b bs e)) (cases_Bool (in_ranges (map leads rs) b))
 takes_or_stays test b bs i (guard l n) = inr (one_stays (guard l n) i n (test l) (first_in n []))
 takes_or_stays test b bs i (slot k n) = inr (one_stays (slot k n) i n true (first_in n []))
 takes_or_stays test b bs i (accept p) = inl refl

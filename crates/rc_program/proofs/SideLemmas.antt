@@ -13,23 +13,23 @@ use Rattle.rc_program.specs.Looks.{stands, side_before, side_after}
 abbrev Begins : List ℕ → ℕ → ℕ → Type 0
 Begins bs c n = IsScalar c × (n ≡ length (encode_utf8 c)) × ((rest : List ℕ) × (bs ≡ encode_utf8 c ++ rest))
 
-encode_one : (c : ℕ) → c < 128 → encode_utf8 c ≡ c ∷ []
+pub encode_one : (c : ℕ) → c < 128 → encode_utf8 c ≡ c ∷ []
 unfolding encode_utf8
 encode_one c a = rw (lt-ltb c 128 a) refl
 
-encode_two : (c : ℕ) → 128 ≤ c → c < 2048 → encode_utf8 c ≡ (192 + c / 64) ∷ (128 + c % 64) ∷ []
+pub encode_two : (c : ℕ) → 128 ≤ c → c < 2048 → encode_utf8 c ≡ (192 + c / 64) ∷ (128 + c % 64) ∷ []
 unfolding encode_utf8
 encode_two c a b = rw (le-ltb c 128 a, lt-ltb c 2048 b) refl
 
-encode_three : (c : ℕ) → 2048 ≤ c → c < 65536 → encode_utf8 c ≡ (224 + c / 4096) ∷ (128 + c / 64 % 64) ∷ (128 + c % 64) ∷ []
+pub encode_three : (c : ℕ) → 2048 ≤ c → c < 65536 → encode_utf8 c ≡ (224 + c / 4096) ∷ (128 + c / 64 % 64) ∷ (128 + c % 64) ∷ []
 unfolding encode_utf8
 encode_three c a b = rw (le-ltb c 128 (omega arith), le-ltb c 2048 a, lt-ltb c 65536 b) refl
 
-encode_four : (c : ℕ) → 65536 ≤ c → encode_utf8 c ≡ (240 + c / 262144) ∷ (128 + c / 4096 % 64) ∷ (128 + c / 64 % 64) ∷ (128 + c % 64) ∷ []
+pub encode_four : (c : ℕ) → 65536 ≤ c → encode_utf8 c ≡ (240 + c / 262144) ∷ (128 + c / 4096 % 64) ∷ (128 + c / 64 % 64) ∷ (128 + c % 64) ∷ []
 unfolding encode_utf8
 encode_four c a = rw (le-ltb c 128 (omega arith), le-ltb c 2048 (omega arith), le-ltb c 65536 a) refl
 
-at_one : (a : ℕ) (bs : List ℕ) → a < 128 → scalar_at (a ∷ bs) ≡ Some (a, 1)
+pub at_one : (a : ℕ) (bs : List ℕ) → a < 128 → scalar_at (a ∷ bs) ≡ Some (a, 1)
 at_one a bs h = rw (lt-ltb a 128 h) refl
 
 at_none : (a : ℕ) (bs : List ℕ) → 128 ≤ a → a < 192 → scalar_at (a ∷ bs) ≡ None

@@ -1,6 +1,7 @@
 -- First-byte sets: over which bytes walks may go on from a place, as far as one byte shows.
-use Rattle.std.specs.Prelude.{◌≡◌, ◌↔◌, ℕ, ◌<◌, Bool, true, false, ◌||◌, List, [], ◌∷◌, IsTrue, Some, map, nat_le, length, slice_get, slice_index_or, Vec}
+use Rattle.std.specs.Prelude.{◌≡◌, ◌↔◌, ℕ, ◌<◌, Bool, true, false, List, [], ◌∷◌, IsTrue, Some, encode_utf8, map, length, slice_get, slice_index, slice_index_or, Vec}
 use Rattle.std.specs.List.{Contains}
+use Rattle.rc_pattern.specs.Re.{Range}
 use Rattle.rc_walks.specs.Walks.{Pair, HasNoWalk}
 use Rattle.rc_program.specs.Text.{Text, ahead}
 use Rattle.rc_program.specs.Program.{Place, choice, byte, branch, scalar, guard, slot, accept, in_ranges, place_at, ways}
@@ -17,11 +18,19 @@ pub data Reaches (places : List Place) : ℕ → ℕ → Type 0 where
   here : {p : ℕ} → Reaches places p p
   on : {p q : ℕ} (m : ℕ) → Contains (silent (place_at places p)) m → Reaches places m q → Reaches places p q
 
+-- The first byte of a scalar in UTF-8.
+abbrev pub lead : ℕ → ℕ
+lead c = slice_index (encode_utf8 c) 0
+
+-- From the lead of the range's first scalar to that of its last.
+abbrev pub leads : Range → Range
+leads r = (lead r.0, lead r.1)
+
 -- A walk may go on there over the byte, as far as that byte alone shows, or it ends there.
 abbrev pub may_take : Place → ℕ → Bool
 may_take (byte rs n) b = in_ranges rs b
 may_take (branch ts) b = true
-may_take (scalar rs n) b = nat_le 128 b || in_ranges rs b
+may_take (scalar rs n) b = in_ranges (map leads rs) b
 may_take (accept p) b = true
 may_take _ b = false
 

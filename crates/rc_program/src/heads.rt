@@ -3,7 +3,7 @@
 ghost use Rattle.std.specs.Prelude.{◌≡◌, ℕ, ◌<◌, ◌≤◌, ◌&&◌, [], ◌∷◌, IfOk, OnOk, false, map, length, nat_le, slice_index_or, true};
 ghost use Rattle.rc_pattern.specs.Meaning.{byte_range, char_range};
 ghost use Rattle.rc_program.specs.Closing.{AreFlags, AreJoined, AreReached, Opens, OpensPast, takes};
-ghost use Rattle.rc_program.specs.Heads.{AreHeads, TellsHeads, flags_in, may_take, silent};
+ghost use Rattle.rc_program.specs.Heads.{AreHeads, TellsHeads, flags_in, lead, leads, may_take, silent};
 ghost use Rattle.rc_program.specs.Places.{place_of, places_of};
 ghost use Rattle.rc_program.specs.Program.{in_ranges, place_at};
 
@@ -218,10 +218,7 @@ fn join(flags: &mut [bool], place: &Place)
     match place {
         Place::Byte(byte, _) => fill(flags, *byte as usize, *byte as usize),
         Place::Bytes(ranges, _) => fill_bytes(flags, ranges),
-        Place::Scalar(ranges, _) => {
-            fill_scalars(flags, ranges);
-            fill(flags, 128, 255);
-        }
+        Place::Scalar(ranges, _) => fill_scalars(flags, ranges),
         Place::Accept(_) => fill(flags, 0, 255),
         _ => {}
     }
@@ -237,16 +234,23 @@ fn fill_bytes(flags: &mut [bool], ranges: &[ClassBytesRange])
     }
 }
 
-/// Sets the flags of the ASCII characters of the ranges.
+/// Sets the flags of the bytes that may begin a character of the ranges: for each range those from
+/// the first byte of its first character to that of its last.
 fn fill_scalars(flags: &mut [bool], ranges: &[ClassUnicodeRange])
     requires { length flags.old ≡ 256 }
-    ensures { AreJoined 128 (in_ranges (map char_range ranges.now)) flags.old flags.new }
+    ensures { AreJoined 256 (in_ranges (map leads (map char_range ranges.now))) flags.old flags.new }
 {
     for range in ranges {
-        if range.start < '\u{80}' {
-            fill(flags, range.start as usize, (range.end as usize).min(127));
-        }
+        fill(flags, lead(range.start) as usize, lead(range.end) as usize);
     }
+}
+
+/// Returns the first byte of the character in UTF-8.
+fn lead(c: char) -> u8
+    ensures { result ≡ lead c }
+{
+    let mut buffer = [0; 4];
+    c.encode_utf8(&mut buffer).as_bytes()[0]
 }
 
 /// Sets the flags from `low` to `high`, both included.
