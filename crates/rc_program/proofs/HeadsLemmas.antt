@@ -1,6 +1,6 @@
 -- Where no walk may go on over the byte ahead no walk sets out.
 use Rattle.std.proofs.Common.{◌≡◌, ℕ, ◌<◌, ◌⊎◌, List, [], ◌∷◌, length, map, inl, inr, ⊎_elim, sym, subst, ap, ◌∙◌, refl, arith, Bool, true, false, true≢false, IsTrue, Option, Some, nat_le, ◌||◌, if◌then◌else◌, slice_get, slice_index_or, Vec, ◌==◌, ◌&&◌, ◌++◌, ◌+◌, ◌/◌, ◌≤◌, None, ap₂, slice_index, encode_utf8}
-use Rattle.std.proofs.lemmas.Bool.{cases_Bool, cases_lt, lt-ltb, le-ltb, le-leb, leb-true, eqb-false, and_parts, and_from, or_left, or_right, or_cases}
+use Rattle.std.proofs.lemmas.Bool.{cases_Bool, cases_lt, le-leb, leb-true, eqb-false, and_parts, and_from, or_left, or_right, or_cases}
 use Rattle.std.proofs.lemmas.Bool.Decides.{nat_tests}
 use Rattle.std.specs.List.{Contains}
 use Rattle.std.proofs.lemmas.List.{get_or-map, length-map}
