@@ -1,16 +1,15 @@
 -- Places from which the byte that stands next lets no walk go on.
-use Rattle.std.proofs.Common.{◌≡◌, ℕ, ◌+◌, ◌-◌, ◌<◌, ◌≤◌, ◌⊎◌, List, [], ◌∷◌, zero, suc, length, take, map, refl, sym, ap, ◌∙◌, inl, inr, ⊎_elim, arith, Bool, true, false, true≢false, IsTrue, Option, None, ◌||◌, if◌then◌else◌, nat_le, subst, ◌≢◌, Some, slice_get, slice_index, slice_index_or, slice_range, length-take}
+use Rattle.std.proofs.Common.{◌≡◌, ℕ, ◌+◌, ◌-◌, ◌<◌, ◌≤◌, ◌⊎◌, List, [], ◌∷◌, zero, suc, length, take, map, refl, sym, ap, ◌∙◌, inl, inr, ⊎_elim, arith, Bool, true, false, true≢false, IsTrue, Option, None, subst, ◌≢◌, Some, slice_get, slice_index, slice_index_or, slice_range, length-take}
 use Rattle.std.specs.List.{Contains}
 use Rattle.std.proofs.Math.Logic.{∥∥₁_elim}
-use Rattle.std.proofs.lemmas.Bool.{cases_Bool, leb-false}
+use Rattle.std.proofs.lemmas.Bool.{cases_Bool}
 use Rattle.std.proofs.lemmas.Bool.Decides.{nat_tests}
-use Rattle.std.proofs.lemmas.List.Elements.{Contains-append_right}
 use Rattle.std.proofs.lemmas.Option.{none-some, same_Some}
 use Rattle.rc_text.specs.Text.{Searched, high}
 use Rattle.rc_text.proofs.Ranges.{get_or-slice_range, length-slice_range}
 use Rattle.rc_walks.specs.Walks.{Pair, IsIn, IsWalk, stops, goes}
 use Rattle.rc_program.specs.Text.{ahead, holds}
-use Rattle.rc_program.specs.Program.{Place, choice, byte, branch, scalar, guard, slot, accept, stays, reads, place_at, in_ranges, over_scalar, ways_out, pair_at}
+use Rattle.rc_program.specs.Program.{Place, byte, place_at, in_ranges, ways_out, pair_at}
 use Rattle.rc_program.specs.Answer.{only}
 use Rattle.rc_pattern.specs.declared.hir.Look.{Look}
 use Rattle.rc_program.specs.Heads.{silent, Reaches, here, on, may_take, MayGoOn, TellsHeads}
