@@ -19,7 +19,8 @@ use rc_text::cursor::Cursor;
 use rc_text::input::Input;
 use rc_text::types::{Anchored, MatchKind};
 
-/// If more bytes than these may begin a match, one of them is likely to: else most attempts fail.
+/// If more bytes of ASCII than these may begin a match, one of them is likely to: else most attempts
+/// fail.
 const MANY_BYTES: usize = 64;
 
 /// Which DFA a search uses, if any.
@@ -120,11 +121,14 @@ pub(crate) fn anchored_route(kind: MatchKind, lengths: &Lengths) -> Route
     }
 }
 
-/// Whether more than `MANY_BYTES` bytes may begin a match, as far as the program tells, and there
-/// are no prefix literals.
+/// Whether many characters may begin a match, as far as the program tells, and there are no prefix
+/// literals: more than `MANY_BYTES` bytes, or one past ASCII, which begins 64 characters at least.
 fn begins_with_many(engine: &Engine) -> bool {
     match (guards_of(&engine.literals), engine.program.head_table(0)) {
-        (None, Some(heads)) => heads.iter().filter(|flag| **flag).count() > MANY_BYTES,
+        (None, Some(heads)) => {
+            heads.iter().skip(128).any(|flag| *flag)
+                || heads.iter().filter(|flag| **flag).count() > MANY_BYTES
+        }
         _ => false,
     }
 }
