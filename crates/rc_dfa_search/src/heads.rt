@@ -41,8 +41,8 @@ fn skip_unset(flags: &[bool], piece: &[u8]) -> usize
 /// If the search is leftmost, not anchored, passes no match over, and such a byte is near, it first
 /// tries an anchored run there. So where matches are dense, nothing is searched backwards. If no
 /// match begins there, it searches on from that byte, or tries some more if the byte is past ASCII:
-/// of a character that begins no match, each byte may begin one as far as the flags tell. An `Err`
-/// says why the DFA has no answer.
+/// many characters begin with it, and some of them may begin no match. An `Err` says why the DFA
+/// has no answer.
 #[inline(always)]
 pub fn find_by_heads<H: Halves, C: Cursor>(
     halves: &H,
