@@ -115,7 +115,7 @@ impl Builder {
     ///
     /// The error is the first of these that applies: `Syntax`, with the first text that doesn't
     /// parse and a byte of it; then those of `build_many_from_hir`. All texts are parsed before any
-    /// pattern is built. The builder stays as it was.
+    /// pattern is built. The builder is unchanged.
     pub fn build_many(&self, alloc: Global, patterns: &[&str]) -> Result<Regex, BuildError>
         requires { length patterns.now ≤ most_patterns }
         ensures read { IfOk result (λ re. AllRead (builder_syntax self.now) (texts_of patterns.now)
@@ -141,7 +141,7 @@ impl Builder {
     /// is above the size limit; `PlaceLimit`, if the weight by the stated grammar is above
     /// 2,147,483,646; `DfaSizeLimit`, if the reachable states of one direction take more than their
     /// limit. `Memory` means out of memory, or that no memory could hold the tables. The builder
-    /// stays as it was.
+    /// is unchanged.
     pub fn build_many_from_hir(&self, alloc: Global, hirs: &[Hir]) -> Result<Regex, BuildError>
         requires { length hirs.now ≤ most_patterns }
         ensures patterns { IfOk result (λ re. dfa_patterns (dfa_of re) ≡ map meaning hirs.now) }

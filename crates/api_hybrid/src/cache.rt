@@ -33,7 +33,7 @@ impl Cache {
     }
 
     /// Makes this a cache for searches by another regex, with no states yet. An `Err` means out of
-    /// memory, and leaves the cache as it was.
+    /// memory, and leaves the cache unchanged.
     pub fn reset(&mut self, re: &Regex) -> Result<(), AllocError>
         ensures made { IfOk result (λ _. IsCacheFor re.now self.new) }
         ensures fresh { IfOk result (λ _. IsFresh self.new) }

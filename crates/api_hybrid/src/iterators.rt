@@ -38,7 +38,7 @@ impl<'r, 'c, C: Cursor> FindMatches<'r, 'c, C> {
     }
 
     /// The input. You may change it: the next search goes on in the changed input, and the iterator
-    /// is otherwise as before.
+    /// is otherwise unchanged.
     pub fn input(&mut self) -> &mut Input<C>
         ensures* kept { sem 𝓛 (Lends
             (the_row (record { mir = named 0; lft = [] })

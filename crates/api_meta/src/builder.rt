@@ -112,7 +112,7 @@ impl Builder {
     ///
     /// The error is the first of these that applies: `Syntax`, with the first text that doesn't
     /// parse and a byte of it; then those of `build_many_from_hir`. All texts are parsed before any
-    /// pattern is built. The builder stays as it was.
+    /// pattern is built. The builder is unchanged.
     pub fn build_many(&self, alloc: Global, patterns: &[&str]) -> Result<Regex, BuildError>
         requires { length patterns.now ≤ most_patterns }
         ensures read { IfOk result (λ r. AllRead (builder_syntax self.now) (texts_of patterns.now)
@@ -148,7 +148,7 @@ impl Builder {
     /// The error is the first of these that applies: `IllFormed`, with the first pattern that isn't
     /// well-formed; `SizeLimit`, if 32 times the weight of the patterns by the grammar that is set
     /// is above the size limit; `PlaceLimit`, if the weight by the stated grammar is above
-    /// 2,147,483,646. `Memory` means out of memory. The builder stays as it was.
+    /// 2,147,483,646. `Memory` means out of memory. The builder is unchanged.
     pub fn build_many_from_hir(&self, alloc: Global, hirs: &[Hir]) -> Result<Regex, BuildError>
         requires { length hirs.now ≤ most_patterns }
         ensures patterns { IfOk result (λ r. regex_patterns r ≡ map meaning hirs.now) }

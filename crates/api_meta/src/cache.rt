@@ -37,7 +37,7 @@ impl Cache {
     }
 
     /// Makes this a cache for searches by another regex. An `Err` means out of memory, and leaves
-    /// the cache as it was.
+    /// the cache unchanged.
     pub fn reset(&mut self, regex: &Regex) -> Result<(), AllocError>
         ensures made { OnOk result (IsCacheFor (regex_patterns regex.now)
             (regex_settings regex.now) self.new) }

@@ -163,7 +163,7 @@ impl<'r> Finder<'r> {
 
     /// Returns the match that `find` finds with the earliest flag off, with its groups, in captures
     /// that are made for it. Without a match the captures are empty. An `Err` means out of memory
-    /// for the captures, and leaves the input as it was.
+    /// for the captures, and leaves the input unchanged.
     pub fn captures<C: Cursor>(
         &mut self,
         alloc: Global,
@@ -193,7 +193,7 @@ impl<'r> Finder<'r> {
 
     /// Returns the match that `captures` finds, with its groups, in captures that are made for it,
     /// and how many bytes settle them, as `Regex::search_captures_reach_with` does. An `Err` means
-    /// out of memory for the captures, and leaves the input as it was.
+    /// out of memory for the captures, and leaves the input unchanged.
     pub fn captures_reach<C: Cursor>(
         &mut self,
         alloc: Global,

@@ -81,7 +81,7 @@ impl<'r, C: Cursor> FindMatches<'r, C> {
     }
 
     /// The input. You may change it: `next` then goes on in the changed input, and the iterator is
-    /// otherwise as before.
+    /// otherwise unchanged.
     pub fn input(&mut self) -> &mut Input<C>
         ensures* kept { sem 𝓛 (Lends (the_row (record { mir = named 1; lft = [] }) C.row C.Cursor)
             (input_row C.row C.Cursor) self.entry result (with_find_input self.old)) }
@@ -138,7 +138,7 @@ impl<'r, C: Cursor> CapturesMatches<'r, C> {
     }
 
     /// The input. You may change it: `next` then goes on in the changed input, and the iterator is
-    /// otherwise as before.
+    /// otherwise unchanged.
     pub fn input(&mut self) -> &mut Input<C>
         ensures* kept { sem 𝓛 (Lends (the_row (record { mir = named 1; lft = [] }) C.row C.Cursor)
             (input_row C.row C.Cursor) self.entry result (with_captures_input self.old)) }
@@ -239,7 +239,7 @@ impl<'r, C: Cursor> Split<'r, C> {
     ghost use Rattle.api_meta.specs.Left.{split_input, with_split_input};
 
     /// The input. You may change it: `next` then goes on in the changed input, and the iterator is
-    /// otherwise as before.
+    /// otherwise unchanged.
     pub fn input(&mut self) -> &mut Input<C>
         ensures* kept { sem 𝓛 (Lends (the_row (record { mir = named 1; lft = [] }) C.row C.Cursor)
             (input_row C.row C.Cursor) self.entry result (with_split_input self.old)) }
@@ -277,7 +277,7 @@ impl<'r, C: Cursor> SplitN<'r, C> {
     ghost use Rattle.api_meta.specs.Left.{SplitnKeeps, splitn_input, splitn_left, splitn_limit, with_splitn_input};
 
     /// The input. You may change it: `next` then goes on in the changed input, and the iterator is
-    /// otherwise as before.
+    /// otherwise unchanged.
     pub fn input(&mut self) -> &mut Input<C>
         ensures* kept { sem 𝓛 (Lends (the_row (record { mir = named 1; lft = [] }) C.row C.Cursor)
             (input_row C.row C.Cursor) self.entry result (with_splitn_input self.old)) }

@@ -34,7 +34,7 @@ impl Cache {
     }
 
     /// Makes this a cache for searches by another `PikeVM`. An `Err` means out of memory, and
-    /// leaves the cache as it was.
+    /// leaves the cache unchanged.
     pub fn reset(&mut self, vm: &PikeVM) -> Result<(), AllocError>
         ensures made { OnOk result (IsCacheFor (sought vm.now) self.new) }
         ensures unused { OnOk result (insertions_of self.new ≡ 0) }

@@ -98,7 +98,7 @@ impl GapBuffer {
     }
 
     /// Inserts bytes at the caret, which is behind them then. An `Err` means out of memory, and
-    /// leaves the text as it was.
+    /// leaves the text unchanged.
     pub fn insert(&mut self, bytes: &[u8]) -> Result<(), AllocError>
         ensures { MatchResult result (λ _. self.new ≡ inserted self.old bytes.now)
             (λ _. self.new ≡ self.old) }

@@ -13,7 +13,7 @@ use std::alloc::AllocError;
 
 /// Types over a text: bytes come in place of `deleted` bytes after the caret, or of all if there
 /// are fewer. The caret is behind them then. Returns this as an edit for a live list. An `Err`
-/// means out of memory, and leaves the text as it was.
+/// means out of memory, and leaves the text unchanged.
 pub fn type_over(text: &mut GapBuffer, deleted: usize, bytes: &[u8]) -> Result<Edit, AllocError>
     ensures text { MatchResult result (λ _. text.new ≡ typed text.old deleted bytes.now)
         (λ _. text.new ≡ text.old) }

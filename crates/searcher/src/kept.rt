@@ -39,7 +39,7 @@ impl KeptText {
     }
 
     /// Replaces the chunks from the index `start` on and before the index `end` by others. An `Err`
-    /// leaves the text as it was.
+    /// leaves the text unchanged.
     pub fn edit(
         &mut self,
         start: usize,

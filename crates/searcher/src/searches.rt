@@ -271,7 +271,7 @@ impl Searcher {
     /// Marks which patterns have a match in the text from `start` to `end`: the mark at the number
     /// of a pattern is 1 if it has one, and each other mark is 0. A pattern has a match if it
     /// matches some span there, even if no search finds that one because another is preferred. An
-    /// `Err` leaves the marks as they were.
+    /// `Err` leaves the marks unchanged.
     pub fn which_patterns(
         &mut self,
         chunks: &[&[u8]],
@@ -341,7 +341,7 @@ impl Searcher {
     ///
     /// The matches are those of the text that you pass. If that is another one than in the last
     /// call, the iteration goes on from the same position in the new text. An `Err` leaves
-    /// everything as it was.
+    /// everything unchanged.
     pub fn fill(
         &mut self,
         chunks: &[&[u8]],

@@ -3,7 +3,7 @@
 use std::alloc::AllocError;
 use thiserror::Error;
 
-/// Why a chunk was refused. Nothing of it was taken then, and the stream stands as it was.
+/// Why a chunk was refused. Nothing of it was taken then, and the stream is unchanged.
 #[derive(Clone, Copy, Debug, PartialEq, Eq, Error)]
 pub enum FeedError {
     /// The stream was finished.

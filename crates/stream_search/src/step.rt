@@ -110,7 +110,7 @@ impl<F: PartialFinder> StepperOf<F> {
     /// begins. If these are more than `budget`, it takes as many more as these, and always one at
     /// least. So at most half of what a slice reads was read before. `Done` is the match of the
     /// whole text from the start on, or none. `NotYet` means that more bytes decide it. After `Done`
-    /// the search stands as it was, and would end again. It takes no memory.
+    /// the search is unchanged, and would end again. It takes no memory.
     pub fn resume<C: Cursor + Drop>(&mut self, cursor: C, budget: usize) -> Progress
         ensures regex { self.new.regex ≡ self.old.regex }
         ensures done { (start : ℕ) → IsUnderWay (C.content cursor) start self.old

@@ -121,7 +121,7 @@ impl<F: PartialFinder> StreamSearcherOf<F> {
     ///
     /// The error is the first of these that applies: the stream was finished; it would be too long;
     /// it would have to keep more bytes than the limit; out of memory. Nothing of the chunk is
-    /// taken then, and the stream stands as it was.
+    /// taken then, and the stream is unchanged.
     pub fn feed(&mut self, chunk: &[u8]) -> Result<(), FeedError>
         ensures fed { IfOk result (λ _. (fed : List ℕ) (told : List Found) →
             WasFed fed told self.old → WasFed (fed ++ chunk.now) told self.new) }

@@ -106,7 +106,7 @@ pub extern "C" fn zf_compile(
 
 /// Frees what `other` holds, and fills it with a searcher of the patterns that the handle has. These
 /// aren't compiled again: what is compiled is shared, and freed with the last searcher of it. The
-/// status is `DONE`; `EMPTY`, and `other` is as it was; or `MEMORY`, and `other` is empty.
+/// status is `DONE`; `EMPTY`, and `other` is unchanged; or `MEMORY`, and `other` is empty.
 #[unsafe(no_mangle)]
 pub extern "C" fn zf_share(alloc: Global, handle: &mut Handle, other: &mut Handle) -> u32
     ensures shared { MatchOption handle.old.held.value (result ≡ empty)

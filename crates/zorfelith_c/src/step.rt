@@ -12,7 +12,7 @@ use std::alloc::Global;
 use stream_search::{Progress, StepperOf};
 
 /// Makes a search in slices, from `start` on, and keeps it in the handle in place of another one.
-/// Nothing is searched yet. The status is `DONE`; or `MEMORY`, and all is as it was.
+/// Nothing is searched yet. The status is `DONE`; or `MEMORY`, and all is unchanged.
 #[unsafe(no_mangle)]
 pub extern "C" fn zf_step_new(alloc: Global, handle: &mut Handle, start: usize) -> u32
     ensures { MatchOption handle.old.held.value

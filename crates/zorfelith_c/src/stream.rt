@@ -23,7 +23,7 @@ pub struct Kept {
 
 /// Begins a search of a stream of which nothing has come yet, and keeps it in the handle in place of
 /// another one. It has no limit to the bytes that it keeps. The status is `DONE`; or `MEMORY`, and
-/// all is as it was.
+/// all is unchanged.
 #[unsafe(no_mangle)]
 pub extern "C" fn zf_stream_new(alloc: Global, handle: &mut Handle) -> u32
     ensures { MatchOption handle.old.held.value

@@ -101,7 +101,7 @@ pub extern "C" fn zf_text_free(alloc: Global, text: &mut Text)
 }
 
 /// Replaces the chunks of the text from the index `start` on and before the index `end` by others:
-/// `DONE`; or `OUTSIDE`, `TOO_LONG` or `MEMORY`, and the text is as it was.
+/// `DONE`; or `OUTSIDE`, `TOO_LONG` or `MEMORY`, and the text is unchanged.
 #[unsafe(no_mangle)]
 pub extern "C" fn zf_text_edit(
     alloc: Global,
