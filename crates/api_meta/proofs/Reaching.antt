@@ -209,7 +209,7 @@ tells_below leftmost_longest s r caps settled told =
 
 -- WHAT THE ENGINES TELL
 
-below : (r : Regex) (i : Searched) (o : Settled) → IsAnswerBelow r.engines.engine.kind (engine_search r.engines.engine i) o.reach o.found →
+pub below : (r : Regex) (i : Searched) (o : Settled) → IsAnswerBelow r.engines.engine.kind (engine_search r.engines.engine i) o.reach o.found →
     IsAnswerBelow (regex_kind r) (search_for (sought r) i) o.reach o.found
 below r i o h =
     subst (λ k. IsAnswerBelow k (search_for (sought r) i) o.reach o.found) r.fits.kinded

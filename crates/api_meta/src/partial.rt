@@ -21,7 +21,7 @@ pub enum Partial {
 
 impl Regex {
     ghost use Rattle.rc_program.specs.Sought.{search_for};
-    ghost use Rattle.std.specs.Prelude.{◌≡◌, ◌≤◌, max};
+    ghost use Rattle.std.specs.Prelude.{◌≡◌, ◌≤◌, IfSome, max};
     ghost use Rattle.rc_program.specs.Kinds.{answer_by};
     ghost use Rattle.rc_reach.specs.Partial.{IsPartial, from_place};
     ghost use Rattle.rc_text.specs.Text.{Keeps, high, low};
@@ -50,6 +50,22 @@ impl Regex {
             (partial_of result) }
         ensures onward { IsOnward input.old result }
     {
+        match self.partial_by_needles(cache, input) {
+            Some(partial) => partial,
+            None => self.partial_by_reach(cache, input),
+        }
+    }
+
+    /// Returns what the content tells of a search, by its reach, or else by what is under way.
+    fn partial_by_reach<C: Cursor>(&self, cache: &mut Cache, input: &mut Input<C>) -> Partial
+        requires made { IsCacheFor (regex_patterns self.now) (regex_settings self.now) cache.old }
+        ensures cache { IsCacheFor (regex_patterns self.now) (regex_settings self.now) cache.new }
+        ensures room { HasSameRoom cache.old cache.new }
+        ensures keeps { Keeps input.old input.new }
+        ensures told { IsPartial (regex_kind self.now) (search_for (sought self.now) input.old)
+            (partial_of result) }
+        ensures onward { IsOnward input.old result }
+    {
         let reached = self.search_reach_with(cache, input);
         let are_here = has_bytes(input, reached.reach);
         if let (Some(found), true) = (reached.found, are_here) {
@@ -58,6 +74,30 @@ impl Regex {
         let by_length = self.undecided_by_length(reached.found, input);
         let idle = self.engines.undecided_from(&mut cache.inner, input);
         Partial::From(idle.max(by_length))
+    }
+
+    /// Returns what the content tells of a search that goes from needle to needle. Returns None if it
+    /// doesn't go so.
+    fn partial_by_needles<C: Cursor>(
+        &self,
+        cache: &mut Cache,
+        input: &mut Input<C>,
+    ) -> Option<Partial>
+        requires made { IsCacheFor (regex_patterns self.now) (regex_settings self.now) cache.old }
+        ensures cache { IsCacheFor (regex_patterns self.now) (regex_settings self.now) cache.new }
+        ensures room { HasSameRoom cache.old cache.new }
+        ensures keeps { Keeps input.old input.new }
+        ensures told { IfSome result (λ o. IsPartial (regex_kind self.now)
+            (search_for (sought self.now) input.old) (partial_of o)) }
+        ensures onward { IfSome result (IsOnward input.old) }
+    {
+        let told = self.engines.tell_partly(&mut cache.inner, input)?;
+        let are_here = has_bytes(input, told.settled.reach);
+        if let (Some(found), true) = (told.settled.found, are_here) {
+            return Some(Partial::Final(found));
+        }
+        let by_length = self.undecided_by_length(told.settled.found, input);
+        Some(Partial::From(told.from.max(by_length)))
     }
 
     /// Returns a position before which no match begins, as far as the lengths of the patterns tell:
@@ -91,6 +131,11 @@ fn has_bytes<C: Cursor>(input: &mut Input<C>, count: usize) -> bool
     ensures keeps { Keeps input.old input.new }
     ensures has { IsTrue result → count ≤ length input.old.content }
 {
-    move_to(input, count);
-    position(input) == count
+    match input.content_len() {
+        Some(len) => count <= len,
+        None => {
+            move_to(input, count);
+            position(input) == count
+        }
+    }
 }

@@ -8,12 +8,14 @@ ghost use Rattle.rc_program.specs.Program.{program};
 ghost use Rattle.rc_needles.specs.Guards.{Guards};
 ghost use Rattle.rc_needles.specs.Needles.{NoneAt, longest};
 ghost use Rattle.rc_needles.specs.Prefilters.{needles_of};
+ghost use Rattle.rc_dfa.specs.Machine.{bytes};
 ghost use Rattle.rc_dfa_reach.specs.RunReach.{seen_to};
 ghost use Rattle.rc_dfa_search.specs.Aims.{AreBounds, AreHalvesOf, search_for};
 ghost use Rattle.rc_dfa_search.specs.Legs.{GoesByNeedles};
-ghost use Rattle.rc_dfa_search.specs.Reaches.{NoneBeginBelow};
+ghost use Rattle.rc_dfa_search.specs.Reaches.{IsAnswerBelow, NoneBeginBelow};
 
-use crate::needles::{Leg, read_leg, read_on};
+use crate::needles::{Left, Leg, read_leg, read_on, settle_by_needles};
+use crate::reach::{Settled, settle_here};
 use crate::search::{Aim, Bounds};
 use rc_dfa::halves::Halves;
 use rc_literals::guard::{Guard, next_start};
@@ -61,19 +63,22 @@ fn next_needle<C: Cursor>(
     }
 }
 
-/// Returns a position as `last_idle` does, if each match begins with a needle. A run begins at the
-/// next needle. Where it rests, the needle after that position is next. So it reads what a search
-/// reads that finds nothing. No needle is longer than `longest_len`.
-pub fn last_idle_by_needles<H: Halves, C: Cursor>(
+/// Returns a position as `last_idle` does, if each match begins with a needle and none before `at`.
+/// A run begins at the next needle. Where it rests, the needle after that position is next. So it
+/// reads what a search reads that finds nothing. No needle is longer than `longest_len`.
+fn last_idle_by_needles<H: Halves, C: Cursor>(
     halves: &H,
     cache: &mut H::Cache,
     input: &mut Input<C>,
     needles: &Prefilter,
     longest_len: usize,
-    bounds: Bounds,
+    at: usize,
+    bound: usize,
 ) -> Result<usize, MatchError>
     requires cache { H.IsCache halves.now cache.old }
-    requires bounds { AreBounds input.old bounds }
+    requires above { low input.old ≤ at }
+    requires ordered { at ≤ bound }
+    requires bound { bound ≡ high input.old }
     requires longest { longest_len ≡ longest (needles_of needles.now) }
     ensures cache { H.IsCache halves.now cache.new }
     ensures keeps { Keeps input.old input.new }
@@ -81,26 +86,97 @@ pub fn last_idle_by_needles<H: Halves, C: Cursor>(
         (of : AreHalvesOf (H.AreOf halves.now) aim hs terminator)
         → GoesByNeedles aim input.old.anchored → aim.kind ≡ LeftmostFirst
         → Guards (program hs) terminator (needles_of needles.now)
+        → NoneBeginBelow (search_for aim hs terminator input.old)
+        (seen_to of.ahead.alphabet (high input.old)) at
         → IfOk result (NoneBeginBelow (search_for aim hs terminator input.old)
         (seen_to of.ahead.alphabet (high input.old))) }
-    ensures within { IfOk result (λ k. (low input.old ≤ k) × (k ≤ high input.old)) }
+    ensures within { IfOk result (λ k. (at ≤ k) × (k ≤ high input.old)) }
 {
-    let high = bounds.high;
-    let mut at = bounds.low;
+    let mut at = at;
     let mut behind: usize = 0;
     'needles: loop {
-        let next = next_needle(input, needles, longest_len, at, high);
+        let next = next_needle(input, needles, longest_len, at, bound);
         let from = next.at;
         if !next.is_needle {
             return Ok(from);
         }
         behind = read_on(behind, from - at);
-        let rest_from = from + behind.min((high - from) / 2);
-        let left = Bounds { low: from, high };
+        let rest_from = from + behind.min((bound - from) / 2);
+        let left = Bounds {
+            low: from,
+            high: bound,
+        };
         let came = read_leg(halves, cache, input, left, false, rest_from)?;
         match came.leg {
             Leg::Rested(i) if from < i => at = i,
             _ => return Ok(from),
         }
     }
+}
+
+/// What a search tells, if more bytes may follow its bounds.
+#[derive(Clone, Copy)]
+pub struct Told {
+    /// The match, and how many bytes settle it.
+    pub settled: Settled,
+    /// No match begins before this position, whatever follows.
+    pub from: usize,
+}
+
+/// Returns the match, if each match begins with a needle, and a position before which none begins,
+/// whatever follows. It first tries an anchored run at the first needle. If no match begins there,
+/// it goes from needle to needle to the last position at which nothing is under way, and searches
+/// from there on. So what lies behind the last match is sought through once. No needle is longer
+/// than `longest_len`. An `Err` says why the DFA has no answer.
+pub fn tell_by_needles<H: Halves, C: Cursor>(
+    halves: &H,
+    cache: &mut H::Cache,
+    input: &mut Input<C>,
+    aim: Aim,
+    needles: &Prefilter,
+    longest_len: usize,
+    bounds: Bounds,
+) -> Result<Told, MatchError>
+    requires cache { H.IsCache halves.now cache.old }
+    requires bounds { AreBounds input.old bounds }
+    requires goes { GoesByNeedles aim input.old.anchored }
+    requires preferred { aim.kind ≡ LeftmostFirst }
+    requires longest { longest_len ≡ longest (needles_of needles.now) }
+    ensures cache { H.IsCache halves.now cache.new }
+    ensures keeps { Keeps input.old input.new }
+    ensures settled { (hs : List Re) (terminator : ℕ)
+        (of : AreHalvesOf (H.AreOf halves.now) aim hs terminator)
+        → Guards (program hs) terminator (needles_of needles.now)
+        → of.ahead.alphabet ≡ bytes
+        → IfOk result (λ o. IsAnswerBelow aim.kind (search_for aim hs terminator input.old)
+        o.settled.reach o.settled.found) }
+    ensures idle { (hs : List Re) (terminator : ℕ)
+        (of : AreHalvesOf (H.AreOf halves.now) aim hs terminator)
+        → Guards (program hs) terminator (needles_of needles.now)
+        → IfOk result (λ o. NoneBeginBelow (search_for aim hs terminator input.old)
+        (seen_to of.ahead.alphabet (high input.old)) o.from) }
+    ensures within { IfOk result (λ o. (low input.old ≤ o.from) × (o.from ≤ high input.old)) }
+{
+    let high = bounds.high;
+    let next = next_needle(input, needles, longest_len, bounds.low, high);
+    let at = next.at;
+    if next.is_needle {
+        let here = settle_here(halves, cache, input, at, high)?;
+        if here.found.is_some() {
+            let settled = Settled {
+                found: here.found,
+                reach: high.max(here.reach),
+            };
+            return Ok(Told { settled, from: at });
+        }
+    }
+    let from = last_idle_by_needles(halves, cache, input, needles, longest_len, at, high)?;
+    let left = Left {
+        at: from,
+        reach: high,
+        bounds,
+    };
+    let guard = Guard::Begins(needles);
+    let settled = settle_by_needles(halves, cache, input, aim, guard, longest_len, left)?;
+    Ok(Told { settled, from })
 }

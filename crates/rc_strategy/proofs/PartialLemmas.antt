@@ -15,7 +15,8 @@ use Rattle.rc_program.proofs.KindLemmas.{kinds_law}
 use Rattle.rc_reach.specs.Partial.{IsPartial, from_place}
 use Rattle.rc_dfa.specs.Machine.{Machine}
 use Rattle.rc_dfa_search.specs.Aims.{AreHalvesOf, search_for}
-use Rattle.rc_dfa_search.specs.Reaches.{NoneBeginBelow}
+use Rattle.rc_dfa_search.specs.Reaches.{IsAnswerBelow, NoneBeginBelow}
+use Rattle.rc_dfa_search.specs.declared.undecided.Told.{Told}
 use Rattle.rc_dfa_search.specs.declared.search.Aim.{Aim}
 use Rattle.rc_dfa_search.proofs.SettledLemmas.{agrees_less}
 use Rattle.rc_pikevm_search.specs.Engine.{engine_search}
@@ -59,3 +60,24 @@ module _ (e : Engine) (patterns : ℕ) (s : Searched) (a : Aim) (AreOf : Machine
       none_partial e.kind (engine_search e s) (high s) k (omega arith)
       (subst (λ places. NoneBeginBelow (search_over places e.program.terminator e.program.passes_over s) (high s) k) (sym h.program)
       (subst (λ b. Unbegun (aim_of e patterns) (seen_to b (high s))) f.read one)))
+
+  -- what they tell in one search
+  pub tables_tell_from : (r : Result Told MatchError) →
+      ((hs : List Re) → places_of e.program.places.items ≡ program hs → (of : AreHalvesOf AreOf a hs e.program.terminator) →
+      IfOk r (λ o. NoneBeginBelow (search_for a hs e.program.terminator s) (seen_to of.ahead.alphabet (high s)) o.from)) →
+      IfOk r (λ o. IsPartial e.kind (engine_search e s) (from_place o.from))
+  tables_tell_from (Err x) tells = tt
+  tables_tell_from (Ok o) tells = tables_rest (Ok o.from) tells
+
+  pub tables_tell_settled : (r : Result Told MatchError) →
+      ((hs : List Re) → places_of e.program.places.items ≡ program hs → (of : AreHalvesOf AreOf a hs e.program.terminator) → of.ahead.alphabet ≡ bytes →
+      IfOk r (λ o. IsAnswerBelow a.kind (search_for a hs e.program.terminator s) o.settled.reach o.settled.found)) →
+      IfOk r (λ o. IsAnswerBelow e.kind (engine_search e s) o.settled.reach o.settled.found)
+  tables_tell_settled (Err x) tells = tt
+  tables_tell_settled (Ok o) tells =
+      ∥∥₁_elim own (hlevel props)
+      (λ (f : AreHalvesOver bytes e patterns AreOf).
+      let h = f.are_halves in
+      let Below : Aim → Type 0 = λ x. IsAnswerBelow x.kind (search_for x h.hs e.program.terminator s) o.settled.reach o.settled.found in
+      let one = subst (λ x. (of : AreHalvesOf AreOf x h.hs e.program.terminator) → of.ahead.alphabet ≡ bytes → Below x) same (tells h.hs h.program) h.halves f.read in
+      subst (λ places. IsAnswerBelow e.kind (search_over places e.program.terminator e.program.passes_over s) o.settled.reach o.settled.found) (sym h.program) one)

@@ -5,15 +5,16 @@ ghost use Rattle.rc_text.specs.declared.types.MatchKind.TheVariants.{LeftmostFir
 
 use crate::cache::Cache;
 use crate::engines::Engines;
-use crate::route::TableChoice;
+use crate::route::{Route, TableChoice};
 use rc_dense_dfa::dense::NoCache;
 use rc_dfa::halves::Halves;
 use rc_dfa_search::idle::last_idle;
 use rc_dfa_search::reach::tells_reach;
 use rc_dfa_search::search::{Bounds, bounds_of};
-use rc_dfa_search::undecided::last_idle_by_needles;
+use rc_dfa_search::undecided::{Told, tell_by_needles};
 use rc_lazy_dfa::lazy;
 use rc_literals::guard::Guard;
+use rc_needles::prefilter::Prefilter;
 use rc_text::cursor::Cursor;
 use rc_text::input::{Input, low};
 use rc_text::types::{Anchored, MatchError, MatchKind};
@@ -28,6 +29,11 @@ impl Engines {
     ghost use Rattle.rc_dfa_search.specs.Legs.{GoesByNeedles};
     ghost use Rattle.rc_strategy.specs.Caches.{IsCacheIn, IsCacheOfBoth, IsSameCacheIn, KeepsStates};
     ghost use Rattle.rc_dfa.specs.Machine.{bytes};
+    ghost use Rattle.rc_needles.specs.Guards.{Guards};
+    ghost use Rattle.rc_needles.specs.Needles.{longest};
+    ghost use Rattle.rc_needles.specs.Prefilters.{needles_of};
+    ghost use Rattle.rc_program.specs.Places.{places_of};
+    ghost use Rattle.rc_dfa_search.specs.Reaches.{IsAnswerBelow};
     ghost use Rattle.rc_strategy.specs.Tables.{AreHalvesOver, aim_of};
 
     /// Whether a DFA tells where nothing is under way in a search of this input: it isn't anchored,
@@ -43,8 +49,15 @@ impl Engines {
         }
     }
 
-    /// Returns a position before which no match begins, by a DFA. If each match begins with a needle
-    /// that is sought fast, it goes from needle to needle. An `Err` says why it has no answer.
+    /// Whether a DFA search of this input goes along the text, forwards and then backwards.
+    fn goes_along<C: Cursor>(&self, input: &Input<C>) -> bool {
+        match self.route(input) {
+            Route::Along => true,
+            _ => false,
+        }
+    }
+
+    /// Returns a position before which no match begins, by a DFA. An `Err` says why it has no answer.
     fn idle_in<H: Halves, C: Cursor>(
         &self,
         halves: &H,
@@ -63,10 +76,6 @@ impl Engines {
             (engine_search self.now.engine input.old) (from_place k)) }
         ensures within { IfOk result (λ k. (low input.old ≤ k) × (k ≤ high input.old)) }
     {
-        if let Some(Guard::Begins(needles)) = self.guard() {
-            let longest_len = self.longest.prefix;
-            return last_idle_by_needles(halves, cache, input, needles, longest_len, bounds);
-        }
         last_idle(halves, cache, input, self.aim(), bounds)
     }
 
@@ -124,5 +133,107 @@ impl Engines {
             Some(idle) => idle,
             None => from,
         }
+    }
+
+    /// Returns the match and a position before which none begins, whatever follows, by a DFA that
+    /// goes from needle to needle. An `Err` says why it has no answer.
+    fn tell_in<H: Halves, C: Cursor>(
+        &self,
+        halves: &H,
+        cache: &mut H::Cache,
+        input: &mut Input<C>,
+        needles: &Prefilter,
+        bounds: Bounds,
+    ) -> Result<Told, MatchError>
+        requires own { ∥ AreHalvesOver bytes self.now.engine self.now.patterns (H.AreOf halves.now) ∥₁ }
+        requires cache { H.IsCache halves.now cache.old }
+        requires goes { GoesByNeedles (aim_of self.now.engine self.now.patterns) input.old.anchored }
+        requires preferred { self.now.engine.kind ≡ LeftmostFirst }
+        requires bounds { AreBounds input.old bounds }
+        requires guards { Guards (places_of self.now.engine.program.places.items)
+            self.now.engine.program.terminator (needles_of needles.now) }
+        requires longest { self.now.longest.prefix ≡ longest (needles_of needles.now) }
+        ensures cache { H.IsCache halves.now cache.new }
+        ensures keeps { Keeps input.old input.new }
+        ensures settled { IfOk result (λ o. IsAnswerBelow self.now.engine.kind
+            (engine_search self.now.engine input.old) o.settled.reach o.settled.found) }
+        ensures told { IfOk result (λ o. IsPartial self.now.engine.kind
+            (engine_search self.now.engine input.old) (from_place o.from)) }
+        ensures within { IfOk result (λ o. (low input.old ≤ o.from) × (o.from ≤ high input.old)) }
+    {
+        tell_by_needles(
+            halves,
+            cache,
+            input,
+            self.aim(),
+            needles,
+            self.longest.prefix,
+            bounds,
+        )
+    }
+
+    /// Returns the match and a position before which none begins, whatever follows, by the DFA, or
+    /// else by the lazy DFA if the cache has its states. Returns None if there is neither, or it has
+    /// no answer.
+    fn tell_by_tables<C: Cursor>(
+        &self,
+        cache: &mut Option<lazy::Cache>,
+        input: &mut Input<C>,
+        needles: &Prefilter,
+        bounds: Bounds,
+    ) -> Option<Told>
+        requires made { IsCacheOfBoth self.now.lazy cache.old }
+        requires goes { GoesByNeedles (aim_of self.now.engine self.now.patterns) input.old.anchored }
+        requires preferred { self.now.engine.kind ≡ LeftmostFirst }
+        requires bounds { AreBounds input.old bounds }
+        requires guards { Guards (places_of self.now.engine.program.places.items)
+            self.now.engine.program.terminator (needles_of needles.now) }
+        requires longest { self.now.longest.prefix ≡ longest (needles_of needles.now) }
+        ensures keeps { Keeps input.old input.new }
+        ensures settled { IfSome result (λ o. IsAnswerBelow self.now.engine.kind
+            (engine_search self.now.engine input.old) o.settled.reach o.settled.found) }
+        ensures told { IfSome result (λ o. IsPartial self.now.engine.kind
+            (engine_search self.now.engine input.old) (from_place o.from)) }
+        ensures within { IfSome result (λ o. (low input.old ≤ o.from) × (o.from ≤ high input.old)) }
+        ensures cache { KeepsStates self.now.lazy cache.old cache.new }
+    {
+        match self.table_choice(cache.is_some()) {
+            TableChoice::AllStates(tables) => self
+                .tell_in(tables, &mut NoCache, input, needles, bounds)
+                .ok(),
+            TableChoice::MetStates(tables) => {
+                let Some(states) = cache else {
+                    return None;
+                };
+                self.tell_in(tables, states, input, needles, bounds).ok()
+            }
+            TableChoice::NoTables => None,
+        }
+    }
+
+    /// Returns the match that `find` returns, how many bytes settle it, and a position as
+    /// `undecided_from` does, in one search. Returns None if searches of this input don't go along
+    /// the text from prefix literal to prefix literal, or no DFA has an answer. It allocates only
+    /// what `undecided_from` does.
+    pub fn tell_partly<C: Cursor>(&self, cache: &mut Cache, input: &mut Input<C>) -> Option<Told>
+        requires made { IsCacheIn self.now 0 cache.old }
+        ensures keeps { Keeps input.old input.new }
+        ensures settled { IfSome result (λ o. IsAnswerBelow self.now.engine.kind
+            (engine_search self.now.engine input.old) o.settled.reach o.settled.found) }
+        ensures told { IfSome result (λ o. IsPartial self.now.engine.kind
+            (engine_search self.now.engine input.old) (from_place o.from)) }
+        ensures within { IfSome result (λ o. (low input.old ≤ o.from) × (o.from ≤ high input.old)) }
+        ensures cache { IsSameCacheIn self.now cache.old cache.new }
+    {
+        let Some(Guard::Begins(needles)) = self.guard() else {
+            return None;
+        };
+        let Some(bounds) = bounds_of(input) else {
+            return None;
+        };
+        if !self.goes_along(input) || !self.tells_idle(input) {
+            return None;
+        }
+        self.tell_by_tables(&mut cache.lazy, input, needles, bounds)
     }
 }

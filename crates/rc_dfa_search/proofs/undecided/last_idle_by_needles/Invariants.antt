@@ -17,12 +17,13 @@ abbrev pub invariant-needles : goal.invariant-needles
 invariant-needles g l = record {
   cache : g.H.Halves.IsCache l.halves l.cache;
   keeps : Keeps l.fn.input l.input;
-  above : low l.fn.input ≤ l.at;
-  below : l.at ≤ l.fn.bounds.high;
+  above : l.fn.at ≤ l.at;
+  below : l.at ≤ l.fn.bound;
   idle : (aim : Aim) (hs : List Re) (terminator : ℕ) (of : AreHalvesOf (g.H.Halves.AreOf l.halves) aim hs terminator) → GoesByNeedles aim l.fn.input.anchored
       → aim.kind ≡ LeftmostFirst → Guards (program hs) terminator (needles_of l.needles)
+      → NoneBeginBelow (search_for aim hs terminator l.fn.input) (seen_to of.ahead.alphabet (high l.fn.input)) l.fn.at
       → NoneBeginBelow (search_for aim hs terminator l.fn.input) (seen_to of.ahead.alphabet (high l.fn.input)) l.at;
 }
 
 abbrev pub decreases-needles : goal.decreases-needles
-decreases-needles g l = l.fn.bounds.high - l.at
+decreases-needles g l = l.fn.bound - l.at

@@ -1,24 +1,12 @@
-use Rattle.std.proofs.Common.{◌≤◌, ◌∙◌, length, refl, subst}
-use Rattle.rc_program.specs.Sought.{search_for}
+use Rattle.std.proofs.Common.{subst}
+use Rattle.rc_reach.specs.Partial.{IsPartial}
+use Rattle.api_meta.specs.Partials.{partial_of}
 use Rattle.api_meta.specs.Views.{regex_kind, sought}
-use Rattle.api_meta.proofs.Cached.{keeps_room, stays_for}
-use Rattle.api_meta.proofs.Partials.{is_final}
+use Rattle.api_meta.proofs.Reaching.{kept}
 use Rattle.api_meta.proofs.regex.Regex.search_partial_with.Goals as goal
 
-pub returns-in-Some-true-clause-told : goal.returns-in-Some-true-clause-told
-returns-in-Some-true-clause-told g c =
+pub returns-in-None-clause-told : goal.returns-in-None-clause-told
+returns-in-None-clause-told g c =
     let r = c.args.self.now in
-    let reached = c.search_reach_with-reached in
-    is_final (regex_kind r) (search_for (sought r) c.args.input.now) reached.result.found c.in-Some-true.found reached.result.reach reached.ensures.found
-    c.in-Some-true.is-0 reached.ensures.settled
-    (subst (λ bytes. reached.result.reach ≤ length bytes) reached.ensures.keeps.content (c.in-Some-true.ensures.has refl))
-
-pub returns-clause-cache : goal.returns-clause-cache
-returns-clause-cache g c =
-    stays_for c.args.self.now c.search_reach_with-reached.new.cache.inner c.undecided_from-idle.new.cache c.search_reach_with-reached.ensures.cache
-    c.undecided_from-idle.ensures.cache
-
-pub returns-clause-room : goal.returns-clause-room
-returns-clause-room g c =
-    keeps_room c.args.self.now c.search_reach_with-reached.new.cache.inner c.undecided_from-idle.new.cache c.undecided_from-idle.ensures.cache
-    ∙ c.search_reach_with-reached.ensures.room
+    subst (λ s. IsPartial (regex_kind r) s (partial_of c.partial_by_reach.result))
+    (kept (sought r) c.args.input.now c.partial_by_needles.new.input c.partial_by_needles.ensures.keeps) c.partial_by_reach.ensures.told
