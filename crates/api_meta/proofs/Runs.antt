@@ -16,9 +16,9 @@ use Rattle.rc_program.specs.Matches.{from_on}
 use Rattle.rc_pikevm_search.specs.Tells.{TellsOf, TellsSpan, AllTell, KeepsAll}
 use Rattle.rc_pikevm_search.specs.Walks.{walks_left}
 use Rattle.api_meta.specs.Left.{captures_input, captures_left, captures_regex, captures_walks, CapturesLaw, CapturesNext, FindNext, find_left, MatchedLaw, SplitNext, split_left, SplitnNext, splitn_left}
+use Rattle.api_meta.specs.Seeking.{Finding}
 use Rattle.api_meta.specs.Views.{regex_kind, regex_names, sought}
 use Rattle.api_meta.specs.declared.iterators.CapturesMatches.{CapturesMatches}
-use Rattle.api_meta.specs.declared.iterators.FindMatches.{FindMatches}
 use Rattle.rc_program.specs.Sought.{search_for}
 
 module _ {X : Type 0} (P : X → Type 0) where
@@ -111,20 +111,20 @@ captures_law kind names search start s one kinded named same walks left = record
       sym (ap (map Some) (sym left) ∙ c.matched ∙ ap (λ ms. map match_of items ++ map Some ms) ys.2.0.0 ∙ append-nil (map match_of items));
 }
 
-module _ {C : Type 0} where
-  pub find_runs : YieldsInOrder (FindNext {C = C}) find_left
-  find_runs p u = as_is p (find_left p.from) (from_front (FindNext {C = C}) (λ x. x) find_left (λ s t h. ap length h.0.0) (λ s x t h. h.0) p u)
+pub find_runs : YieldsInOrder FindNext find_left
+find_runs p u = as_is p (find_left p.from) (from_front FindNext (λ x. x) find_left (λ s t h. ap length h.0.0) (λ s x t h. h.0) p u)
 
+find_came : (items : List Found) (s t : Finding) → Yields FindNext s items t → find_left s ≡ items ++ find_left t
+find_came [] s t e = ap find_left e
+find_came (m ∷ items) s t (j, went, ys) = went.0 ∙ ap (λ ms. m ∷ ms) (find_came items j t ys)
+
+-- until there is none, all come
+pub find_drained : (items : List Found) (s : Finding) → Drains FindNext s items → find_left s ≡ items
+find_drained items s (u, (t, ys, step)) = find_came items s t ys ∙ ap (λ ms. items ++ ms) step.0.0 ∙ append-nil items
+
+module _ {C : Type 0} where
   pub split_runs : YieldsInOrder (SplitNext {C = C}) split_left
   split_runs p u = as_is p (split_left p.from) (from_front (SplitNext {C = C}) (λ x. x) split_left (λ s t h. ap length h.0.0) (λ s x t h. h.0) p u)
 
   pub splitn_runs : YieldsInOrder (SplitnNext {C = C}) splitn_left
   splitn_runs p u = as_is p (splitn_left p.from) (from_front (SplitnNext {C = C}) (λ x. x) splitn_left (λ s t h. ap length h.0.0) (λ s x t h. h.0) p u)
-
-  find_came : (items : List Found) (s t : FindMatches C) → Yields FindNext s items t → find_left s ≡ items ++ find_left t
-  find_came [] s t e = ap find_left e
-  find_came (m ∷ items) s t (j, went, ys) = went.0 ∙ ap (λ ms. m ∷ ms) (find_came items j t ys)
-
-  -- until there is none, all come
-  pub find_drained : (items : List Found) (s : FindMatches C) → Drains FindNext s items → find_left s ≡ items
-  find_drained items s (u, (t, ys, step)) = find_came items s t ys ∙ ap (λ ms. items ++ ms) step.0.0 ∙ append-nil items

@@ -19,10 +19,9 @@ use Rattle.rc_program.specs.Sought.{search_for}
 use Rattle.rc_pikevm_search.specs.Moved.{IsMoved}
 use Rattle.rc_pikevm_search.specs.Tells.{TellsOf, TellsSpan, AllTell, KeepsAll}
 use Rattle.rc_pikevm_search.specs.Walks.{walks_left}
-use Rattle.api_meta.specs.Seeking.{Seeking}
+use Rattle.api_meta.specs.Seeking.{Finding, Seeking}
 use Rattle.api_meta.specs.Views.{regex_kind, regex_names, sought}
 use Rattle.api_meta.specs.declared.regex.Regex.{Regex}
-use Rattle.api_meta.specs.declared.iterators.FindMatches.{FindMatches}
 use Rattle.api_meta.specs.declared.iterators.CapturesMatches.{CapturesMatches}
 use Rattle.api_meta.specs.declared.iterators.Pieces.{Pieces}
 use Rattle.api_meta.specs.declared.iterators.Split.{Split}
@@ -87,36 +86,36 @@ GivesCaptures f i r g j = MatchOption r
     (λ item. MatchResult item (λ caps. HoldsNext f i caps g j) (λ _. (0 < length (left_in f i)) × (left_in g j ≡ [])))
 
 -- whose matches they are
-abbrev pub find_regex : {C : Type 0} → FindMatches C → Regex
+abbrev pub find_regex : Finding → Regex
 find_regex s = s.seeker.regex
 
 -- the input that is kept
-abbrev pub find_input : {C : Type 0} → FindMatches C → Searched
+abbrev pub find_input : Finding → Searched
 find_input s = s.input
 
 -- the same, but for the input that is kept
-abbrev pub with_find_input : {C : Type 0} → FindMatches C → Searched → FindMatches C
+abbrev pub with_find_input : Finding → Searched → Finding
 with_find_input s i = record s { input = i }
 
 -- the matches that are left
-abbrev pub find_left : {C : Type 0} → FindMatches C → List Found
+abbrev pub find_left : Finding → List Found
 find_left s = left_in s.seeker s.input
 
 -- no match comes any more, whatever the input becomes
-abbrev pub IsFindOver : {C : Type 0} → FindMatches C → Type 0
+abbrev pub IsFindOver : Finding → Type 0
 IsFindOver s = IsTrue s.seeker.is_done
 
 -- the same regex, and the same input but for its chunk, its position and the start of its span
-abbrev pub FindKeeps : {C : Type 0} → FindMatches C → FindMatches C → Type 0
+abbrev pub FindKeeps : Finding → Finding → Type 0
 FindKeeps s t = Goes s.seeker s.input t.seeker t.input
 
 -- What `next` gives, and what it keeps. Without a match it is over.
-abbrev pub FindNext : {C : Type 0} → FindMatches C → Option Found → FindMatches C → Type 0
+abbrev pub FindNext : Finding → Option Found → Finding → Type 0
 FindNext s r t = YieldsFirst find_left s r t × FindKeeps s t × IfNone r (IsFindOver t)
 
 -- each run of calls gives the matches in order
-abbrev pub FindRuns : {C : Type 0} → FindMatches C → Type 0
-FindRuns {C} s = YieldsInOrder (FindNext {C = C}) find_left
+abbrev pub FindRuns : Finding → Type 0
+FindRuns s = YieldsInOrder FindNext find_left
 
 abbrev pub captures_regex : {C : Type 0} → CapturesMatches C → Regex
 captures_regex s = s.seeker.seeker.regex

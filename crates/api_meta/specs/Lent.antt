@@ -9,17 +9,16 @@ use Rattle.rc_text.specs.Text.{Searched}
 use Rattle.rc_captures.specs.declared.captures.Captures.{Captures}
 use Rattle.api_meta.specs.Caches.{HasSameRoom, IsCacheFor}
 use Rattle.api_meta.specs.Left.{CapturesKeeps, CapturesNext, FindKeeps, FindNext, captures_left, find_left}
-use Rattle.api_meta.specs.Seeking.{seeking}
+use Rattle.api_meta.specs.Seeking.{Finding, seeking}
 use Rattle.api_meta.specs.Views.{regex_patterns, regex_settings}
 use Rattle.api_meta.specs.declared.iterators.CapturesMatches.{CapturesMatches}
-use Rattle.api_meta.specs.declared.iterators.FindMatches.{FindMatches}
 use Rattle.api_meta.specs.declared.lists.CapturesMatchesWith.{CapturesMatchesWith}
 use Rattle.api_meta.specs.declared.lists.FindMatchesWith.{FindMatchesWith}
 use Rattle.api_meta.specs.declared.regex.Regex.{Regex}
 
 module _ {C : Type 0} where
   -- an iterator with a cache of its own that stands there
-  abbrev pub find_by : FindMatchesWith C → FindMatches C
+  abbrev pub find_by : FindMatchesWith C → Finding
   find_by s = record { seeker = seeking s.regex.now s.cache.now.inner s.standing; input = s.input.now }
 
   abbrev pub find_with_regex : FindMatchesWith C → Regex

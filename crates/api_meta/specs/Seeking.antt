@@ -1,5 +1,6 @@
 -- What an iterator seeks by, as contracts see it.
 use Rattle.std.specs.Prelude.{ℕ, Bool, Option}
+use Rattle.rc_text.specs.Text.{Searched}
 use Rattle.rc_strategy.specs.declared.cache.Cache.{Cache}
 use Rattle.api_meta.specs.declared.regex.Regex.{Regex}
 use Rattle.api_meta.specs.declared.seeker.Standing.{Standing}
@@ -18,3 +19,8 @@ seeking r c s = record { regex = r; cache = c; last = s.last; is_done = s.is_don
 -- The same, in a cache for searches with all groups.
 pub record GroupSeeking : Type 0 where
   pub seeker : Seeking
+
+-- By what an iterator over matches seeks, and its input.
+pub record Finding : Type 0 where
+  pub seeker : Seeking
+  pub input : Searched

@@ -6,11 +6,13 @@
 use crate::regex::Regex;
 use crate::seeker::{GroupSeeker, Seeker};
 use rc_captures::captures::Captures;
+use rc_strategy::list::ListMemo;
 use rc_text::cursor::Cursor;
 use rc_text::input::{Input, content_fits, high};
 use rc_text::types::{Match, Span};
 use std::alloc::AllocError;
 use std::iter::FusedIterator;
+use std::marker::Model;
 
 /// An iterator over the matches of a regex in an input, from left to right.
 ///
@@ -20,6 +22,24 @@ use std::iter::FusedIterator;
 pub struct FindMatches<'r, C: Cursor> {
     pub(crate) seeker: Seeker<'r>,
     pub(crate) input: Input<C>,
+    /// What is kept of the runs over the input.
+    pub(crate) memo: ListMemo,
+}
+
+impl<'r, C: Cursor> Model for FindMatches<'r, C> {
+    ghost use Rattle.rc_strategy.specs.Lists.{IsListMemo};
+    ghost use Rattle.api_meta.specs.Seeking.{Finding};
+    ghost use Rattle.rc_strategy.specs.contracts.cache.Cache as caches;
+    ghost use Rattle.api_meta.specs.contracts.regex.Regex as regexes;
+    ghost use Rattle.std.specs.Coded.{codes};
+
+    ghost Value = { Finding };
+
+    ghost coded = { Prim.hlevel (codes, regexes.the_row.coded, caches.the_row.coded) };
+
+    ghost view = { λ s. record { seeker = s.seeker; input = s.input } };
+
+    ghost invariant = { λ s. IsListMemo s.seeker.regex.engines s.input s.memo };
 }
 
 /// An iterator over the matches of a regex in an input, from left to right, each with its groups.
@@ -87,6 +107,7 @@ impl<'r, C: Cursor> FindMatches<'r, C> {
             (input_row C.row C.Cursor) self.entry result (with_find_input self.old)) }
         ensures input { result.now ≡ find_input self.old }
     {
+        self.memo.clear();
         let FindMatches { input, .. } = self;
         input
     }
@@ -116,7 +137,7 @@ impl<'r, C: Cursor + Drop> Iterator for FindMatches<'r, C> {
     ghost remaining = { item_count find_left };
 
     fn next(&mut self) -> Option<Match> {
-        self.seeker.next_match(&mut self.input)
+        self.seeker.next_along(&mut self.input, &mut self.memo)
     }
 }
 
@@ -161,6 +182,7 @@ impl<'r, C: Cursor + Drop> CapturesMatches<'r, C> {
         let matches = FindMatches {
             seeker: self.seeker.seeker,
             input: self.input,
+            memo: ListMemo::new(),
         };
         matches.count()
     }

@@ -27,6 +27,7 @@ use rc_settings::error::BuildError;
 use rc_settings::meta::Config;
 use rc_strategy::cache;
 use rc_strategy::engines::Engines;
+use rc_strategy::list::ListMemo;
 use rc_text::cursor::Cursor;
 use rc_text::input::{Input, content_fits};
 use rc_text::types::{HalfMatch, Match, PatternID};
@@ -571,7 +572,12 @@ impl Regex {
                 is_done: false,
             },
         };
-        Ok(FindMatches { seeker, input })
+        let memo = ListMemo::new();
+        Ok(FindMatches {
+            seeker,
+            input,
+            memo,
+        })
     }
 
     /// Returns an iterator over the matches of `find_iter`, each with its groups. An `Err` means

@@ -12,6 +12,7 @@ ghost use Rattle.rc_pikevm_search.specs.Moved.{IsMoved};
 ghost use Rattle.rc_pikevm_search.specs.Tells.{KeepsAll, TellsBy};
 ghost use Rattle.rc_pikevm_search.specs.Walks.{next_start};
 ghost use Rattle.rc_strategy.specs.Caches.{IsSameCacheIn};
+ghost use Rattle.rc_strategy.specs.Lists.{IsListMemo};
 ghost use Rattle.api_meta.specs.Caches.{IsCacheIn};
 ghost use Rattle.api_meta.specs.Views.{regex_names};
 
@@ -19,6 +20,7 @@ use crate::regex::Regex;
 use rc_captures::captures::Captures;
 use rc_program::matches::is_again;
 use rc_strategy::cache::Cache;
+use rc_strategy::list::ListMemo;
 use rc_text::cursor::Cursor;
 use rc_text::input::{Input, advance_start};
 use rc_text::types::Match;
@@ -185,6 +187,35 @@ impl Standing {
         Some(found)
     }
 
+    /// Returns what `next_match` does. The memo is one of the input's text.
+    pub(crate) fn next_along<C: Cursor>(
+        &mut self,
+        regex: &Regex,
+        cache: &mut Cache,
+        input: &mut Input<C>,
+        memo: &mut ListMemo,
+    ) -> Option<Match>
+        requires made { IsCacheIn regex.now 0 cache.old }
+        requires memo { IsListMemo regex.now.engines input.old memo.old }
+        ensures cache { IsCacheIn regex.now 0 cache.new }
+        ensures steps { GivesNext (seeking regex.now cache.old self.old) input.old result
+            (seeking regex.now cache.new self.new) input.new }
+        ensures moves { IsMoved input.old input.new }
+        ensures over { IfNone result (IsTrue self.new.is_done) }
+        ensures memo { IsListMemo regex.now.engines input.new memo.new }
+    {
+        if self.is_done {
+            return None;
+        }
+        let Some(found) = regex.engines.next_along(cache, input, self.last, memo) else {
+            self.is_done = true;
+            return None;
+        };
+        input.set_start(found.end());
+        self.last = Some(found.end());
+        Some(found)
+    }
+
     /// Returns the last item if there is no memory for captures: an error if a match is left,
     /// otherwise `None`. The iteration is over.
     fn lacks_memory<C: Cursor>(
@@ -258,6 +289,23 @@ impl<'r> Seeker<'r> {
         ensures over { IfNone result (IsTrue self.new.is_done) }
     {
         self.standing.next_match(self.regex, &mut self.cache, input)
+    }
+
+    /// Returns what `next_match` does. The memo is one of the input's text.
+    pub(crate) fn next_along<C: Cursor>(
+        &mut self,
+        input: &mut Input<C>,
+        memo: &mut ListMemo,
+    ) -> Option<Match>
+        requires memo { IsListMemo self.old.regex.engines input.old memo.old }
+        ensures steps { GivesNext self.old input.old result self.new input.new }
+        ensures moves { IsMoved input.old input.new }
+        ensures regex { self.new.regex ≡ self.old.regex }
+        ensures over { IfNone result (IsTrue self.new.is_done) }
+        ensures memo { IsListMemo self.new.regex.engines input.new memo.new }
+    {
+        let cache = &mut self.cache;
+        self.standing.next_along(self.regex, cache, input, memo)
     }
 
     /// Returns the captures of the next match in the input. It allocates only these, and ends the

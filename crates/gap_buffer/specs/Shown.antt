@@ -10,7 +10,7 @@ use Rattle.api_meta.specs.Views.{regex_kind, regex_patterns, regex_settings, sou
 use Rattle.api_meta.specs.Caches.{IsCacheFor}
 use Rattle.api_meta.specs.declared.cache.Cache.{Cache}
 use Rattle.api_meta.specs.Left.{find_left}
-use Rattle.api_meta.specs.declared.iterators.FindMatches.{FindMatches}
+use Rattle.api_meta.specs.Seeking.{Finding}
 use Rattle.api_meta.specs.declared.regex.Regex.{Regex}
 use Rattle.regex_cursor.specs.Output.{whole}
 
@@ -35,7 +35,7 @@ abbrev pub matches_of : Regex → List ℕ → List Found
 matches_of r content = matches_by_kind (regex_kind r) (search_for (sought r) (whole content)) 0 None
 
 -- all matches in the content are left
-abbrev pub LeavesAll : {C : Type 0} → Regex → List ℕ → FindMatches C → Type 0
+abbrev pub LeavesAll : Regex → List ℕ → Finding → Type 0
 LeavesAll r content s = find_left s ≡ matches_of r content
 
 -- the match begins before the place

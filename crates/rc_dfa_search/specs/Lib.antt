@@ -1,4 +1,5 @@
 pub mod Machines
+pub mod Memos
 pub mod Classes
 pub mod Leftmost
 pub mod Halves

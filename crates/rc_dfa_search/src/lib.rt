@@ -1,6 +1,7 @@
 //! DFA search: a forward and a reverse search together give a match's span and pattern.
 #![tactic(auto)]
 
+pub mod again;
 pub mod build;
 pub mod first;
 pub mod guarded;

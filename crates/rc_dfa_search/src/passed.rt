@@ -79,8 +79,74 @@ fn may_end_past<C: Cursor>(
 }
 
 /// Returns what `seek_end` does, where all starts before `start` were passed over. Each run ends
-/// where it meets a mark of those before, and the last end that was passed over isn't looked at
-/// again. A memo is large, so this isn't inlined.
+/// where it meets a mark of the memo, and leaves marks of its own. The last end that was passed over
+/// isn't looked at again.
+pub(crate) fn seek_along<H: Halves, C: Cursor>(
+    halves: &H,
+    cache: &mut H::Cache,
+    input: &mut Input<C>,
+    aim: Aim,
+    bounds: Bounds,
+    start: usize,
+    memo: &mut Memo,
+) -> Result<Option<End>, MatchError>
+    requires cache { H.IsCache halves.now cache.old }
+    requires low { (low input.old ≤ bounds.low) × (bounds.low ≤ start) }
+    requires high { bounds.high ≡ high input.old }
+    requires ordered { start ≤ bounds.high }
+    requires asked { Asks aim.patterns input.old.anchored }
+    requires stands { (hs : List Re) (terminator : ℕ)
+        (of : AreHalvesOf (H.AreOf halves.now) aim hs terminator)
+        → Stands hs aim.kind (is_early aim) of.ahead of.back input.old.anchored
+        (search_from aim hs terminator input.old bounds.low) start }
+    requires memo { H.IsMemo halves.now cache.old input.old bounds.high (is_early aim) memo.old }
+    ensures cache { H.IsCache halves.now cache.new }
+    ensures keeps { Keeps input.old input.new }
+    ensures none { (hs : List Re) (terminator : ℕ)
+        → AreHalvesOf (H.AreOf halves.now) aim hs terminator
+        → IfOk result (λ end. IfNone end (IsAnswerBy aim.kind aim.earliest
+        (search_from aim hs terminator input.old bounds.low) None)) }
+    ensures some { (hs : List Re) (terminator : ℕ)
+        (of : AreHalvesOf (H.AreOf halves.now) aim hs terminator)
+        → IfOk result (λ end. IfSome end
+        (IsEnd hs aim.kind (is_early aim) of.ahead of.back input.old.anchored
+        (search_from aim hs terminator input.old bounds.low))) }
+    ensures within { IfOk result (λ end. IfSome end
+        (λ e. (bounds.low ≤ e.from) × (e.from ≤ e.at) × (e.at ≤ high input.old)
+        × Asks aim.patterns input.old.anchored)) }
+    ensures fault { (hs : List Re) (terminator : ℕ)
+        → AreHalvesOf (H.AreOf halves.now) aim hs terminator
+        → IfErr result (IsFault hs (search_for aim hs terminator input.old)
+        (H.GivesUp halves.now cache.old cache.new (cost_from input.old start))) }
+    ensures spends { H.Spends halves.now cache.old cache.new (cost_from input.old start) }
+    ensures memo { H.IsMemo halves.now cache.new input.new bounds.high (is_early aim) memo.new }
+{
+    let anchored = input.get_anchored().is_anchored();
+    let high = bounds.high;
+    let mut from = start;
+    let mut refused = None;
+    'starts: loop {
+        let left = Bounds { low: from, high };
+        let Some(met) = run_along(halves, cache, input, aim, left, memo)? else {
+            return Ok(None);
+        };
+        if may_end_past(input, aim, met.at, refused) {
+            return Ok(Some(End {
+                from,
+                pattern: met.pattern,
+                at: met.at.max(from).min(high),
+            }));
+        }
+        if anchored || from >= high {
+            return Ok(None);
+        }
+        refused = Some(met.at);
+        from += 1;
+    }
+}
+
+/// Returns what `seek_end` does, where all starts before `start` were passed over. Each run ends
+/// where it meets a mark of those before. A memo is large, so this isn't inlined.
 #[inline(never)]
 pub(crate) fn seek_later<H: Halves, C: Cursor>(
     halves: &H,
@@ -119,27 +185,6 @@ pub(crate) fn seek_later<H: Halves, C: Cursor>(
         (H.GivesUp halves.now cache.old cache.new (cost_from input.old start))) }
     ensures spends { H.Spends halves.now cache.old cache.new (cost_from input.old start) }
 {
-    let anchored = input.get_anchored().is_anchored();
-    let high = bounds.high;
-    let mut from = start;
     let mut memo = Memo::new(0);
-    let mut refused = None;
-    'starts: loop {
-        let left = Bounds { low: from, high };
-        let Some(met) = run_along(halves, cache, input, aim, left, &mut memo)? else {
-            return Ok(None);
-        };
-        if may_end_past(input, aim, met.at, refused) {
-            return Ok(Some(End {
-                from,
-                pattern: met.pattern,
-                at: met.at.max(from).min(high),
-            }));
-        }
-        if anchored || from >= high {
-            return Ok(None);
-        }
-        refused = Some(met.at);
-        from += 1;
-    }
+    seek_along(halves, cache, input, aim, bounds, start, &mut memo)
 }

@@ -313,7 +313,7 @@ fn start_by(aim: Aim, end: End, met: Met) -> Met
 
 /// Returns the start and the pattern of the match with this end.
 #[inline(always)]
-fn seek_start<H: Halves, C: Cursor>(
+pub(crate) fn seek_start<H: Halves, C: Cursor>(
     halves: &H,
     cache: &mut H::Cache,
     input: &mut Input<C>,
@@ -379,6 +379,22 @@ pub fn id_of(pattern: usize, offset: usize) -> Result<PatternID, MatchError>
     }
 }
 
+/// Returns the match from its start to its end. `Err` means that the number of its pattern is too
+/// large for a `PatternID`, which is no pattern's.
+#[inline(always)]
+pub(crate) fn match_of(start: Met, end: End) -> Result<Match, MatchError>
+    requires { start.at ≤ end.at }
+    ensures found { IfOk result (λ m. m ≡ match_by end start) }
+    ensures refused { IfErr result (λ _. greatest_pattern < start.pattern) }
+{
+    let pattern = id_of(start.pattern, end.at)?;
+    let span = Span {
+        start: start.at,
+        end: end.at,
+    };
+    Ok(Match::new(pattern, span))
+}
+
 /// Returns the match that begins at the lower bound or later: a forward run finds its end, and from
 /// there a reverse run its start, unless that is known, as that of an empty match is. If any match
 /// is enough, it is some match. If a match is passed over that ends off a boundary, another forward
@@ -416,12 +432,8 @@ pub fn find_between<H: Halves, C: Cursor>(
     let Some(start) = seek_start(halves, cache, input, aim, end)? else {
         return Ok(None);
     };
-    let pattern = id_of(start.pattern, end.at)?;
-    let span = Span {
-        start: start.at,
-        end: end.at,
-    };
-    Ok(Some(Match::new(pattern, span)))
+    let found = match_of(start, end)?;
+    Ok(Some(found))
 }
 
 /// Returns the match of a search. It fails as `find_between` does.

@@ -3,6 +3,7 @@ pub mod NarrowLemmas
 pub mod SettleLemmas
 pub mod SlotLemmas
 pub mod LimitLemmas
+pub mod ListLemmas
 pub mod SpanLemmas
 pub mod ToEndLemmas
 pub mod TableLemmas

@@ -1,6 +1,7 @@
 pub mod Caches
 pub mod Early
 pub mod Limits
+pub mod Lists
 pub mod Makes
 pub mod Narrow
 pub mod Needed

@@ -6,6 +6,7 @@ pub mod engines;
 mod entries;
 pub mod laws;
 pub mod lengths;
+pub mod list;
 mod longest;
 mod lookahead;
 mod onepass;

@@ -78,7 +78,7 @@ impl Engines {
     /// Whether a DFA search of this input tells its reach: it goes forwards, and the match is
     /// leftmost.
     #[inline(always)]
-    fn tells_reach<C: Cursor>(&self, input: &Input<C>) -> bool
+    pub(crate) fn tells_reach<C: Cursor>(&self, input: &Input<C>) -> bool
         ensures { IsTrue result → TellsReach (aim_of self.now.engine self.now.patterns) }
     {
         if !tells_reach(self.aim()) {
@@ -221,7 +221,7 @@ impl Engines {
 
     /// Returns the match by the DFA, or else by the lazy DFA if the cache has its states, and how
     /// many bytes settle it. Returns None if there is neither, or it has no answer.
-    fn settle_along<C: Cursor>(
+    pub(crate) fn settle_along<C: Cursor>(
         &self,
         cache: &mut Option<lazy::Cache>,
         input: &mut Input<C>,

@@ -1,4 +1,4 @@
-use Rattle.std.proofs.Common.{◌≡◌, ℕ, ◌+◌, ◌-◌, Bool, List, Option, Some, None, IfSome, sym, ap, subst, ◌∙◌, refl}
+use Rattle.std.proofs.Common.{◌≡◌, ℕ, ◌+◌, ◌-◌, Bool, List, Option, Some, None, IfSome, sym, subst, refl}
 use Rattle.std.specs.Option.{option_map}
 use Rattle.rc_text.specs.Found.{Found}
 use Rattle.rc_text.specs.Text.{high, low}
@@ -77,17 +77,17 @@ returns-in_err-start-clause-spends g c = spent g (goal.at.returns-in_err-start-c
 pub returns-in_default-2-clause-spends : goal.returns-in_default-2-clause-spends
 returns-in_default-2-clause-spends g c = spent g (goal.at.returns-in_default-2-clause-spends g c).After-seek_start
 
-pub returns-in_err-pattern-clause-spends : goal.returns-in_err-pattern-clause-spends
-returns-in_err-pattern-clause-spends g c = spent g (goal.at.returns-in_err-pattern-clause-spends g c).After-seek_start
+pub returns-in_err-found-clause-spends : goal.returns-in_err-found-clause-spends
+returns-in_err-found-clause-spends g c = spent g (goal.at.returns-in_err-found-clause-spends g c).After-seek_start
 
 pub returns-clause-spends : goal.returns-clause-spends
 returns-clause-spends g c = spent g (goal.at.returns-clause-spends g c).After-seek_start
 
-pub returns-in_err-pattern-clause-fault : goal.returns-in_err-pattern-clause-fault
-returns-in_err-pattern-clause-fault g c hs terminator of =
-    let k = (goal.at.returns-in_err-pattern-clause-fault g c).In_ok-start in
+pub returns-in_err-found-clause-fault : goal.returns-in_err-found-clause-fault
+returns-in_err-found-clause-fault g c hs terminator of =
+    let k = (goal.at.returns-in_err-found-clause-fault g c).In_ok-start in
     let start = c.in-Some-2.start in
-    absurd (has_number hs start.pattern of.few c.in_err-pattern.ensures.refused
+    absurd (has_number hs start.pattern of.few c.in_err-found.ensures.refused
     (answer_below hs (is_early c.args.aim) c.args.aim.kind (search_from c.args.aim hs terminator c.args.input.now c.args.bounds.low) (match_by c.in-Some.end start) refl
     (found_so g k hs terminator of (Some start) c.in-Some-2.is)))
 
@@ -98,9 +98,5 @@ returns-in_default-2-clause-found g c hs terminator of =
 pub returns-clause-found : goal.returns-clause-found
 returns-clause-found g c hs terminator of =
     let s = search_from c.args.aim hs terminator c.args.input.now c.args.bounds.low in
-    let x : ℕ = c.in-Some-2.start.at in
-    let e : ℕ = c.in-Some.end.at in
-    let f : Found = record { pattern = c.in-Some-2.start.pattern; start = x; end = e } in
-    let same : c.new.result ≡ f = c.new.ensures ∙ ap (λ p. let h : Found = record { pattern = p; start = x; end = e } in h) c.in_ok-pattern.ensures.id in
-    subst (λ (m : Found). IsAnswerWhere (is_early c.args.aim) c.args.aim.kind s (Some m)) (sym same)
+    subst (λ (m : Found). IsAnswerWhere (is_early c.args.aim) c.args.aim.kind s (Some m)) (sym c.in_ok-found.ensures.found)
     (found_so g (goal.at.returns-clause-found g c).In_ok-start hs terminator of (Some c.in-Some-2.start) c.in-Some-2.is)

@@ -3,7 +3,7 @@ use Rattle.rc_text.specs.Text.{Keeps, low, high}
 use Rattle.rc_pattern.specs.Re.{Re}
 use Rattle.rc_dfa_search.specs.Aims.{AreHalvesOf, is_early, search_from}
 use Rattle.rc_dfa_search.specs.Ends.{Stands, may_end}
-use Rattle.rc_dfa_search.proofs.passed.seek_later.Given as goal
+use Rattle.rc_dfa_search.proofs.passed.seek_along.Given as goal
 
 abbrev pub invariant-starts : goal.invariant-starts
 invariant-starts g l = record {
