@@ -92,11 +92,12 @@ impl Regex {
         ensures onward { IfSome result (IsOnward input.old) }
     {
         let told = self.engines.tell_partly(&mut cache.inner, input)?;
-        let are_here = has_bytes(input, told.settled.reach);
-        if let (Some(found), true) = (told.settled.found, are_here) {
+        let settled = told.settled;
+        let are_here = has_bytes(input, settled.reach);
+        if let (Some(found), true) = (settled.found, are_here) {
             return Some(Partial::Final(found));
         }
-        let by_length = self.undecided_by_length(told.settled.found, input);
+        let by_length = self.undecided_by_length(settled.found, input);
         Some(Partial::From(told.from.max(by_length)))
     }
 
