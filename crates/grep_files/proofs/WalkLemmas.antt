@@ -1,35 +1,41 @@
 -- Walks that go on, and the entries of a folder that is entered.
-use Rattle.std.proofs.Common.{ℕ, ◌≡◌, ◌+◌, ◌<◌, ◌++◌, ◌∷◌, ◌∙◌, [], true, List, ap, ap₂, append-nil, append_assoc, arith, drop, get_or, length, length-append, map, refl, subst, sym}
-use Rattle.std.specs.Prelude.{All, String, string_bytes, string_cmp}
+use Rattle.std.proofs.Common.{ℕ, Bool, ◌≡◌, ◌+◌, ◌<◌, ◌++◌, ◌∷◌, ◌∙◌, [], false, true, List, ap, ap₂, append-nil, append_assoc, arith, drop, get_or, length, length-append, map, refl, subst, sym}
+use Rattle.std.specs.Prelude.{All, IsTrue, String, string_bytes, string_cmp}
 use Rattle.std.specs.Ordering.{is_lt}
 use Rattle.std.specs.declared.alloc.Global.{Global}
 use Rattle.std.proofs.Math.Seq.{drop-append_seam}
+use Rattle.std.proofs.lemmas.Bool.{true≢false}
 use Rattle.std.proofs.lemmas.List.{get_or-append-add, get_or-map, length-map}
 use Rattle.std.proofs.lemmas.List.Elements.{All-drop, All-map, All-nil, All-weaker}
 use Rattle.grep_files.specs.Entered.{ArePaths}
-use Rattle.grep_files.specs.Walks.{AreEntries, GoesOn, IsEntered, IsEntry, Text}
+use Rattle.grep_files.specs.Walks.{AreEntries, GoesOn, IsEntered, IsEntry, IsOpen, Text}
 use Rattle.grep_files.specs.Walks.GoesOn.{enters, there}
 use Rattle.grep_files.specs.declared.walk.Choice.{Choice}
 use Rattle.grep_files.specs.declared.walk.FoundFile.{FoundFile}
 
 goes_further : {c : Choice} {a b d : List FoundFile} → GoesOn c a b → GoesOn c b d → GoesOn c a d
 goes_further there more = more
-goes_further (enters folder entries may are rest) more = enters folder entries may are (goes_further rest more)
+goes_further (enters folder entries may are none_shut rest) more = enters folder entries may are none_shut (goes_further rest more)
 
 -- one folder more is entered
 pub goes_into : {c : Choice} {a : List FoundFile} (left : List FoundFile) (folder : FoundFile) (entries : List FoundFile) → GoesOn c a (folder ∷ left) → IsEntered c (string_bytes folder.path) →
-    AreEntries c entries → GoesOn c a (entries ++ left)
-goes_into left folder entries on may are = goes_further on (enters folder entries may are there)
+    AreEntries c entries → IsOpen c (string_bytes folder.path) entries → GoesOn c a (entries ++ left)
+goes_into left folder entries on may are none_shut = goes_further on (enters folder entries may are none_shut there)
 
 -- the same of a folder that was the first that was left
 pub entered_more : (c own : Choice) (a b left now entries : List FoundFile) (folder : FoundFile) (path : Text) → GoesOn c a b → b ≡ folder ∷ left → own ≡ c → IsEntered own path →
-    path ≡ string_bytes folder.path → AreEntries own entries → now ≡ entries ++ left → GoesOn c a now
-entered_more c own a b left now entries folder path went is same may named are put =
+    path ≡ string_bytes folder.path → AreEntries own entries → IsOpen own (string_bytes folder.path) entries → now ≡ entries ++ left → GoesOn c a now
+entered_more c own a b left now entries folder path went is same may named are none_shut put =
     let on : GoesOn c a (folder ∷ left) = subst (λ (l : List FoundFile). GoesOn c a l) is went in
     let here : IsEntered c path = subst (λ (x : Choice). IsEntered x path) same may in
     let enters_it : IsEntered c (string_bytes folder.path) = subst (λ (x : Text). IsEntered c x) named here in
     let own_are : AreEntries c entries = subst (λ (x : Choice). AreEntries x entries) same are in
-    subst (λ (l : List FoundFile). GoesOn c a l) (sym put) (goes_into left folder entries on enters_it own_are)
+    let own_open : IsOpen c (string_bytes folder.path) entries = subst (λ (x : Choice). IsOpen x (string_bytes folder.path) entries) same none_shut in
+    subst (λ (l : List FoundFile). GoesOn c a l) (sym put) (goes_into left folder entries on enters_it own_are own_open)
+
+-- a folder that is let in isn't passed over
+pub not_shut : (b shut : Bool) → b ≡ shut → b ≡ false → IsTrue shut → ⊥
+not_shut b shut is free h = true≢false (sym h ∙ sym is ∙ free)
 
 pub no_entries : (c : Choice) → AreEntries c []
 no_entries c = record { ordered = λ k d low high. absurd (omega (arith, high)); taken = All-nil _ }

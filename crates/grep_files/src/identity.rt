@@ -11,7 +11,7 @@ const STDIN: &str = "/proc/self/fd/0";
 
 const STDOUT: &str = "/proc/self/fd/1";
 
-/// The device and the inode of a regular file.
+/// The device and the inode of a regular file, or of a folder.
 #[derive(Clone, Copy, PartialEq, Eq)]
 pub struct Identity {
     device: u64,
@@ -24,6 +24,18 @@ impl Identity {
         ensures { IsSome result ↔ IsFile (file_type metadata.now) }
     {
         if !metadata.is_file() {
+            return None;
+        }
+        Some(Identity {
+            device: metadata.dev(),
+            inode: metadata.ino(),
+        })
+    }
+
+    /// That of a folder, or `None` if the path is none, or the system doesn't tell it.
+    pub fn of_folder(rt: &HostRuntime, path: &str) -> Option<Identity> {
+        let metadata = fs::metadata(rt, path).ok()?;
+        if !metadata.is_dir() {
             return None;
         }
         Some(Identity {

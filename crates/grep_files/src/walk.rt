@@ -1,14 +1,16 @@
 //! Folder walk: the files that a command line names, and those in folders, in the order of their
 //! names.
 ghost use Rattle.std.specs.Prelude.{◌≡◌, ◌∷◌, ◌↔◌, [], All, IfErr, IfOk, IfSome, IsTrue, MatchOption, MatchResult, false, map, string_bytes};
-ghost use Rattle.grep_files.specs.Walks.{GoesOn, fits_any, IsEntered, IsEntry, IsTaken, ahead, choice_of, is_chosen, seen};
+ghost use Rattle.grep_files.specs.Walks.{GoesOn, fits_any, IsEntered, IsEntry, IsTaken, ahead, choice_of, is_chosen, is_shut, seen};
 ghost use Rattle.grep_files.specs.Entered.{ArePaths, HasEntered};
 
 use crate::glob::fits;
+use crate::identity::Identity;
 use std::alloc::{AllocError, Global};
 use std::collections::VecDeque;
 use std::fs::{DirEntry, FileType, ReadDir};
 use std::io::ErrorKind;
+use std::path::Path;
 use std::{fs, io};
 
 /// Which files of folders are searched.
@@ -20,6 +22,10 @@ pub struct Choice<'w> {
     pub include: Vec<&'w str>,
     /// The name of a file fits none of these.
     pub exclude: Vec<&'w str>,
+    /// The name of a folder fits none of these.
+    pub exclude_dir: Vec<&'w str>,
+    /// Whether links in folders are followed.
+    pub follows_links: bool,
     /// Whether names that begin with a dot are searched too.
     pub hidden: bool,
 }
@@ -39,13 +45,16 @@ pub struct WalkError {
     pub fault: io::Error,
 }
 
-/// A walk over files and folders. A link in a folder isn't followed, so no folder is searched twice.
+/// A walk over files and folders. A link in a folder isn't followed unless that is asked for. Then a
+/// folder that a link leads back to isn't entered on the way through itself.
 #[derive(Drop)]
 pub struct Walk<'w> {
     alloc: Global,
     choice: Choice<'w>,
     /// The files and folders that are left, in order.
     left: VecDeque<FoundFile>,
+    /// The length of the path of the last file or folder of the command line, without slashes behind it.
+    named_len: usize,
 }
 
 /// Whether a name fits one of the globs.
@@ -58,6 +67,22 @@ fn fits_any(alloc: Global, globs: &[&str], name: &str) -> Result<bool, AllocErro
         }
     }
     Ok(false)
+}
+
+/// Whether a folder is one of those on the way to it, as its path has them, from the named one on,
+/// whose path has so many bytes: a link led back.
+fn is_on_the_way(rt: &HostRuntime, path: &str, named_len: usize) -> bool {
+    let path = path.trim_end_matches('/');
+    let Some(own) = Identity::of_folder(rt, path) else {
+        return false;
+    };
+    for (place, _) in path.match_indices('/') {
+        let front = path.get(..place).unwrap_or("");
+        if place >= named_len && Identity::of_folder(rt, front) == Some(own) {
+            return true;
+        }
+    }
+    false
 }
 
 impl<'w> Choice<'w> {
@@ -79,17 +104,41 @@ impl<'w> Choice<'w> {
             return Ok(false);
         }
         if kind.is_dir() {
-            return Ok(true);
+            return Ok(!fits_any(alloc, &self.exclude_dir, name)?);
         }
-        Ok(kind.is_file() && self.is_chosen(alloc, name)?)
+        let is_read = kind.is_file() || (self.follows_links && kind.is_symlink());
+        Ok(is_read && self.is_chosen(alloc, name)?)
+    }
+
+    /// What kind of file an entry is: that to which a link leads, if links are followed and it leads
+    /// to one.
+    fn kind_of(&self, rt: &HostRuntime, entry: &DirEntry) -> io::Result<FileType> {
+        let kind = entry.file_type()?;
+        if self.follows_links && kind.is_symlink() {
+            if let Ok(metadata) = fs::metadata(rt, entry.path().as_str()) {
+                return Ok(metadata.file_type());
+            }
+        }
+        Ok(kind)
+    }
+
+    /// Whether a folder is passed over by its name. One without a name, as `.`, never is.
+    fn is_shut(&self, alloc: Global, path: &str) -> Result<bool, AllocError>
+        ensures { IfOk result (λ b. b ≡ is_shut self.now path.now) }
+    {
+        match Path::new(path).file_name() {
+            Some(name) => fits_any(alloc, &self.exclude_dir, name),
+            None => Ok(false),
+        }
     }
 
     /// The path of an entry of a folder if it is searched.
-    fn path_of(&self, alloc: Global, entry: io::Result<DirEntry>) -> io::Result<Option<String>>
+    fn path_of(&self, rt: &HostRuntime, entry: io::Result<DirEntry>) -> io::Result<Option<String>>
         ensures { IfOk result (λ o. IfSome o (λ p. IsEntry self.now (string_bytes p))) }
     {
+        let alloc = rt.alloc();
         let entry = entry?;
-        let kind = entry.file_type()?;
+        let kind = self.kind_of(rt, &entry)?;
         if !self.takes(alloc, kind, entry.file_name())? {
             return Ok(None);
         }
@@ -101,15 +150,15 @@ impl<'w> Choice<'w> {
     /// fault of the first entry that can't be read.
     fn paths_in(
         &self,
-        alloc: Global,
+        rt: &HostRuntime,
         entries: ReadDir,
     ) -> Result<(Vec<String>, Option<io::Error>), AllocError>
         ensures { IfOk result (λ r. ArePaths self.now r.0.items) }
     {
-        let mut paths = Vec::new(alloc);
+        let mut paths = Vec::new(rt.alloc());
         let mut first_fault = None;
         for entry in entries {
-            match self.path_of(alloc, entry) {
+            match self.path_of(rt, entry) {
                 Ok(Some(path)) => paths.push(path)?,
                 Ok(None) => {}
                 Err(fault) => {
@@ -143,16 +192,24 @@ impl<'w> Walk<'w> {
             alloc,
             choice,
             left,
+            named_len: 0,
         })
     }
 
-    /// Takes the entries of a folder for the next files. An `Err` is a fault of the folder, or of an
-    /// entry; the others are taken.
+    /// Takes the entries of a folder for the next files, unless it is passed over: its name is
+    /// excluded, or a link led back to it. An `Err` is a fault of the folder, or of an entry; the
+    /// others are taken.
     fn enter(&mut self, rt: &HostRuntime, path: &str) -> io::Result<()>
-        ensures { HasEntered self.old self.new }
+        ensures { HasEntered path.now self.old self.new }
     {
+        if self.choice.is_shut(self.alloc, path)? {
+            return Ok(());
+        }
+        if self.choice.follows_links && is_on_the_way(rt, path, self.named_len) {
+            return Ok(());
+        }
         let entries = fs::read_dir(rt, path)?;
-        let (mut paths, fault) = self.choice.paths_in(self.alloc, entries)?;
+        let (mut paths, fault) = self.choice.paths_in(rt, entries)?;
         while let Some(path) = paths.pop() {
             self.left.push_front(FoundFile {
                 path,
@@ -162,6 +219,15 @@ impl<'w> Walk<'w> {
         match fault {
             Some(fault) => Err(fault),
             None => Ok(()),
+        }
+    }
+
+    /// The length of the path of the command line by which the walk came to the next file.
+    fn named_len_at(&self, next: &FoundFile) -> usize {
+        if next.is_in_folder {
+            self.named_len
+        } else {
+            next.path.as_str().trim_end_matches('/').len()
         }
     }
 
@@ -192,6 +258,7 @@ impl<'w> Walk<'w> {
             let Some(file) = self.left.pop_front() else {
                 return Ok(None);
             };
+            self.named_len = self.named_len_at(&file);
             if !self.is_folder(rt, file.path.as_str()) {
                 return Ok(Some(file));
             }

@@ -70,8 +70,14 @@ pub struct Options<'w> {
     pub numbers: bool,
     /// Whether the place of each line, or match, is printed.
     pub places: bool,
+    /// Whether the column of the first match in a line, or of each match, is printed.
+    pub columns: bool,
     /// Whether names of files are printed, if that is said.
     pub names: Option<bool>,
+    /// Whether a NUL byte stands behind each name of a file.
+    pub null: bool,
+    /// The name of the standard input, if one is given.
+    pub label: Option<&'w str>,
     /// The greatest number of selected lines of a file.
     pub most: u64,
     pub color: When,
@@ -80,8 +86,11 @@ pub struct Options<'w> {
     pub after: Option<u64>,
     pub around: Option<u64>,
     pub recursive: bool,
+    /// Whether links in folders are followed.
+    pub follows_links: bool,
     pub include: Vec<&'w str>,
     pub exclude: Vec<&'w str>,
+    pub exclude_dir: Vec<&'w str>,
     pub hidden: bool,
     /// Whether lines end in a NUL byte.
     pub null_data: bool,
@@ -161,7 +170,10 @@ impl<'w> Options<'w> {
             stats: false,
             numbers: false,
             places: false,
+            columns: false,
             names: None,
+            null: false,
+            label: None,
             most: u64::MAX,
             color: When::Never,
             line_buffered: false,
@@ -169,8 +181,10 @@ impl<'w> Options<'w> {
             after: None,
             around: None,
             recursive: false,
+            follows_links: false,
             include: Vec::new(alloc),
             exclude: Vec::new(alloc),
+            exclude_dir: Vec::new(alloc),
             hidden: false,
             null_data: false,
             text: false,
@@ -211,8 +225,13 @@ impl<'w> Options<'w> {
             Id::OnlyMatching => self.only_matching = true,
             Id::LineNumber => self.numbers = true,
             Id::ByteOffset => self.places = true,
+            Id::Column => {
+                self.numbers = true;
+                self.columns = true;
+            }
             Id::NoFilename => self.names = Some(false),
             Id::WithFilename => self.names = Some(true),
+            Id::Null => self.null = true,
             Id::LineBuffered => self.line_buffered = true,
             Id::Json => self.json = true,
             Id::Stats => self.stats = true,
@@ -225,6 +244,10 @@ impl<'w> Options<'w> {
     fn set_file_option(&mut self, id: Id) -> bool {
         match id {
             Id::Recursive => self.recursive = true,
+            Id::DereferenceRecursive => {
+                self.recursive = true;
+                self.follows_links = true;
+            }
             Id::Hidden => self.hidden = true,
             Id::NullData => self.null_data = true,
             Id::Text => self.text = true,
@@ -251,7 +274,11 @@ impl<'w> Options<'w> {
             Id::File => self.pattern_files.push(value)?,
             Id::Include => self.include.push(value)?,
             Id::Exclude => self.exclude.push(value)?,
+            Id::ExcludeDir => self
+                .exclude_dir
+                .push(value.strip_suffix('/').unwrap_or(value))?,
             Id::Replace => self.template = Some(value),
+            Id::Label => self.label = Some(value),
             Id::Generate => return Err(Refusal::Generate(value)),
             _ => self.set_number(id, number(value)?),
         }

@@ -3,7 +3,7 @@
 use crate::table::{Entry, Id, Program, Section, Takes};
 
 /// The options of `rcgrep`.
-pub static OPTIONS: [Entry; 40] = [
+pub static OPTIONS: [Entry; 45] = [
     Entry {
         id: Id::Regexp,
         section: Section::Patterns,
@@ -165,6 +165,14 @@ pub static OPTIONS: [Entry; 40] = [
         help: "Print the place of each line, or match with -o, before it, in bytes.",
     },
     Entry {
+        id: Id::Column,
+        section: Section::Output,
+        letter: None,
+        name: "column",
+        takes: Takes::Nothing,
+        help: "As -n, and print the column of the first match, or of each with -o, in bytes.",
+    },
+    Entry {
         id: Id::NoFilename,
         section: Section::Output,
         letter: Some('h'),
@@ -179,6 +187,22 @@ pub static OPTIONS: [Entry; 40] = [
         name: "with-filename",
         takes: Takes::Nothing,
         help: "Print the name of the file before each line.",
+    },
+    Entry {
+        id: Id::Null,
+        section: Section::Output,
+        letter: Some('Z'),
+        name: "null",
+        takes: Takes::Nothing,
+        help: "Print a NUL byte behind each name of a file, and no colon or newline.",
+    },
+    Entry {
+        id: Id::Label,
+        section: Section::Output,
+        letter: None,
+        name: "label",
+        takes: Takes::Value("LABEL"),
+        help: "Print this as the name of the standard input.",
     },
     Entry {
         id: Id::MaxCount,
@@ -253,6 +277,14 @@ pub static OPTIONS: [Entry; 40] = [
         help: "Search the files in folders, in the order of their names.",
     },
     Entry {
+        id: Id::DereferenceRecursive,
+        section: Section::Files,
+        letter: Some('R'),
+        name: "dereference-recursive",
+        takes: Takes::Nothing,
+        help: "As -r, and follow links.",
+    },
+    Entry {
         id: Id::Include,
         section: Section::Files,
         letter: None,
@@ -267,6 +299,14 @@ pub static OPTIONS: [Entry; 40] = [
         name: "exclude",
         takes: Takes::Value("GLOB"),
         help: "In folders, pass over files whose name fits. It may stand more than once.",
+    },
+    Entry {
+        id: Id::ExcludeDir,
+        section: Section::Files,
+        letter: None,
+        name: "exclude-dir",
+        takes: Takes::Value("GLOB"),
+        help: "Pass over folders whose name fits. It may stand more than once.",
     },
     Entry {
         id: Id::Hidden,

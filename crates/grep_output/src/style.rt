@@ -11,6 +11,9 @@ use std::io::Write;
 /// The text before a highlighted match, and the text after it.
 const MARK: (&str, &str) = ("\x1b[01;31m", "\x1b[0m");
 
+/// The greatest number of digits of a number.
+const DIGITS: usize = 20;
+
 /// A line of a file.
 #[derive(Clone, Copy)]
 pub struct Line<'l> {
@@ -39,6 +42,10 @@ pub struct Style<'o> {
     pub numbers: bool,
     /// Whether the place of each line, or match, stands before it.
     pub places: bool,
+    /// Whether the column of a match stands before it, or before its line that of the first one.
+    pub columns: bool,
+    /// Whether a NUL byte stands behind the name, and no mark.
+    pub null: bool,
     /// Whether only matches are printed.
     pub only_matching: bool,
     /// What matches are replaced by, if they are.
@@ -59,12 +66,26 @@ pub struct Style<'o> {
     pub terminator: u8,
 }
 
+/// Writes a number, and a mark behind it.
+fn put_number<W: Write>(out: &mut W, number: u64, mark: u8) -> io::Result<()> {
+    let mut text = [mark; DIGITS + 1];
+    let mut left = number;
+    for place in (0..DIGITS).rev() {
+        text[place] = b'0' + (left % 10) as u8;
+        left /= 10;
+        if left == 0 {
+            return out.write_all(&text[place..]);
+        }
+    }
+    out.write_all(&text)
+}
+
 impl<'o> Style<'o> {
     /// Whether the matches in a selected line are asked for.
     pub fn needs_matches(&self) -> bool {
         !self.is_quiet
             && !self.is_inverted
-            && (self.only_matching || self.is_colored || self.template.is_some())
+            && (self.only_matching || self.is_colored || self.columns || self.template.is_some())
     }
 
     /// Whether a selected line is printed as it is, with nothing before it.
@@ -82,20 +103,30 @@ impl<'o> Style<'o> {
     }
 
     /// Writes what comes before a line, or before a match at `start` in it: the name of its file, its
-    /// number, and its place, each with a mark behind it, `:` for a selected line and `-` for one of
-    /// context.
-    fn put_prefix<W: Write>(&self, out: &mut W, line: Line<'_>, start: usize) -> io::Result<()> {
-        let mark = if line.is_selected { ':' } else { '-' };
+    /// number, the column of the first match, and its place, each with a mark behind it, `:` for a
+    /// selected line and `-` for one of context. Where no match is known there is no column.
+    fn put_prefix<W: Write>(
+        &self,
+        out: &mut W,
+        line: Line<'_>,
+        start: usize,
+        first: Option<Span>,
+    ) -> io::Result<()> {
+        let mark = if line.is_selected { b':' } else { b'-' };
         if let Some(name) = self.name {
-            write!(out, "{name}{mark}")?;
+            out.write_all(name.as_bytes())?;
+            out.write_all(&[if self.null { 0 } else { mark }])?;
         }
         if self.numbers {
-            let number = line.number;
-            write!(out, "{number}{mark}")?;
+            put_number(out, line.number, mark)?;
+        }
+        if let (true, Some(found)) = (self.columns, first) {
+            put_number(out, (found.start as u64).saturating_add(1), mark)?;
         }
         if self.places {
             let place = line.place.saturating_add(start as u128);
-            write!(out, "{place}{mark}")?;
+            write!(out, "{place}")?;
+            out.write_all(&[mark])?;
         }
         Ok(())
     }
@@ -136,7 +167,7 @@ impl<'o> Style<'o> {
     {
         for found in matches {
             if !found.is_empty() {
-                self.put_prefix(out, line, found.start)?;
+                self.put_prefix(out, line, found.start, Some(*found))?;
                 self.put_match(out, finder, line, *found)?;
                 out.write_all(&[self.terminator])?;
             }
@@ -154,7 +185,7 @@ impl<'o> Style<'o> {
     ) -> io::Result<()>
         ensures same { F.selects finder.new ≡ F.selects finder.old }
     {
-        self.put_prefix(out, line, 0)?;
+        self.put_prefix(out, line, 0, matches.first().copied())?;
         let mut end = 0;
         for found in matches {
             if self.template.is_some() || !found.is_empty() {

@@ -58,6 +58,24 @@ impl Job<'_, '_, '_> {
         }
     }
 
+    /// The name of the standard input: in records, or else in what is printed.
+    fn stdin_name(&self, in_records: bool) -> &str {
+        match self.options.label {
+            Some(label) => label,
+            None if in_records => STDIN_RECORD,
+            None => STDIN,
+        }
+    }
+
+    /// The name of a file in messages.
+    fn name_of<'p>(&'p self, path: &'p str) -> &'p str {
+        if path == "-" {
+            self.stdin_name(false)
+        } else {
+            path
+        }
+    }
+
     /// Searches the standard input.
     fn search_stdin<F: MatchFinder>(
         &self,
@@ -66,11 +84,7 @@ impl Job<'_, '_, '_> {
         out: &mut Output<SharedStdout<'_>>,
     ) -> Result<bool, Fault> {
         let file = SearchedFile {
-            name: if self.options.json {
-                STDIN_RECORD
-            } else {
-                STDIN
-            },
+            name: self.stdin_name(self.options.json),
             is_in_folder: false,
             size: None,
         };
@@ -103,7 +117,7 @@ impl Job<'_, '_, '_> {
     /// Reports a file that couldn't be searched, unless messages are off.
     fn report_fault(&self, rt: &HostRuntime, path: &str, fault: &io::Error) {
         if !self.options.no_messages {
-            let name = name_of(path);
+            let name = self.name_of(path);
             let _ = writeln!(rt.stderr(), "rcgrep: {name}: {fault}");
         }
     }
@@ -121,7 +135,7 @@ impl Job<'_, '_, '_> {
             Ok(is_any) => return Ok(Some(is_any)),
             Err(Fault::Read(fault)) => self.report_fault(rt, found.path.as_str(), &fault),
             Err(Fault::IsOutput) => {
-                let name = name_of(found.path.as_str());
+                let name = self.name_of(found.path.as_str());
                 let _ = writeln!(rt.stderr(), "rcgrep: {name}: {IS_OUTPUT}");
             }
             Err(Fault::Write(fault)) => return Err(fault),
@@ -175,11 +189,6 @@ impl Job<'_, '_, '_> {
     }
 }
 
-/// The name of a file in messages.
-fn name_of(path: &str) -> &str {
-    if path == "-" { STDIN } else { path }
-}
-
 /// The status of a search.
 fn status_of(is_any: bool, has_failed: bool) -> u8 {
     if has_failed {
@@ -205,6 +214,8 @@ fn choice_of<'w>(alloc: Global, options: &Options<'w>) -> io::Result<Choice<'w>>
         is_recursive: options.recursive,
         include: Vec::from_slice(alloc, &options.include)?,
         exclude: Vec::from_slice(alloc, &options.exclude)?,
+        exclude_dir: Vec::from_slice(alloc, &options.exclude_dir)?,
+        follows_links: options.follows_links,
         hidden: options.hidden,
     })
 }

@@ -46,6 +46,8 @@ impl Job<'_, '_, '_> {
             },
             numbers: options.numbers,
             places: options.places && !is_quiet,
+            columns: options.columns,
+            null: options.null,
             only_matching: options.only_matching,
             template: self.template,
             is_inverted: options.invert,
@@ -188,11 +190,16 @@ impl Job<'_, '_, '_> {
         report: Report,
         count: u64,
     ) -> io::Result<()> {
+        let (mark, end) = if self.options.null {
+            ('\0', '\0')
+        } else {
+            (':', '\n')
+        };
         match report {
-            Report::Count if self.options.shows_names() => writeln!(out, "{name}:{count}"),
+            Report::Count if self.options.shows_names() => writeln!(out, "{name}{mark}{count}"),
             Report::Count => writeln!(out, "{count}"),
-            Report::NameIfAny if count > 0 => writeln!(out, "{name}"),
-            Report::NameIfNone if count == 0 => writeln!(out, "{name}"),
+            Report::NameIfAny if count > 0 => write!(out, "{name}{end}"),
+            Report::NameIfNone if count == 0 => write!(out, "{name}{end}"),
             _ => Ok(()),
         }
     }
