@@ -83,7 +83,7 @@ module _ (picks : List ℕ → Bool) where
       left true = omega arith
       left false = omega arith
 
-selected_of : (b : Bool) (ls : List (List ℕ)) → length (filter is_selected (marked_as b ls)) ≡ cond b (length ls) 0
+pub selected_of : (b : Bool) (ls : List (List ℕ)) → length (filter is_selected (marked_as b ls)) ≡ cond b (length ls) 0
 selected_of true [] = refl
 selected_of false [] = refl
 selected_of true (l ∷ ls) = ap suc (selected_of true ls)

@@ -7,3 +7,4 @@ mod ContextLemmas
 mod AdvanceLemmas
 mod StandsLemmas
 mod TouchedLemmas
+mod StretchLemmas

@@ -15,10 +15,10 @@ use Rattle.grep_lines.specs.Selected.{AreSkipped}
 use Rattle.grep_lines.proofs.LineLemmas.{Parts, none, whole, cut, parts}
 
 -- What goes on behind a whole text's first line.
-record Behind (stop : ℕ) (xs line rest : List ℕ) : Type 0 where
-  split : xs ≡ line ++ stop ∷ rest
-  first : lines stop xs ≡ line ∷ lines stop rest
-  ended : IsWhole stop rest
+pub record Behind (stop : ℕ) (xs line rest : List ℕ) : Type 0 where
+  pub split : xs ≡ line ++ stop ∷ rest
+  pub first : lines stop xs ≡ line ∷ lines stop rest
+  pub ended : IsWhole stop rest
 
 module _ (stop : ℕ) where
   pub whole_tail : (x : ℕ) (xs : List ℕ) → IsWhole stop (x ∷ xs) → IsWhole stop xs
@@ -86,7 +86,7 @@ module _ (stop : ℕ) where
   through_all [] = refl
   through_all (x ∷ xs) = through_step x xs (through_all xs) (x == stop)
 
-  behind : (x : ℕ) (xs : List ℕ) → IsWhole stop (x ∷ xs) → Parts stop (x ∷ xs) → (line : List ℕ) × (rest : List ℕ) × Behind stop (x ∷ xs) line rest
+  pub behind : (x : ℕ) (xs : List ℕ) → IsWhole stop (x ∷ xs) → Parts stop (x ∷ xs) → (line : List ℕ) × (rest : List ℕ) × Behind stop (x ∷ xs) line rest
   behind x xs w (none empty) = absurd (omega (arith, ap length empty))
   behind x xs w (whole l t d free) = absurd (free (length xs) (omega arith) (w (length xs) (omega arith)))
   behind x xs w (cut line t l) =
@@ -98,7 +98,7 @@ module _ (stop : ℕ) where
       ∙ w (length line + suc k) (omega (arith, sized, last)) in
       (line, rest, record { split = split; first = l; ended = ended })
 
-  line_stands : (page front line rest : List ℕ) → IsWhole stop front → page ≡ front ++ (line ++ stop ∷ rest) → AreLinesOf stop page (length front) (length front + length line)
+  pub line_stands : (page front line rest : List ℕ) → IsWhole stop front → page ≡ front ++ (line ++ stop ∷ rest) → AreLinesOf stop page (length front) (length front + length line)
   line_stands page front line rest w e =
       let sized : length page ≡ length front + (length line + suc (length rest)) =
       ap length e ∙ length-append front (line ++ stop ∷ rest) ∙ ap (λ n. length front + n) (length-append line (stop ∷ rest)) in

@@ -1,6 +1,6 @@
 -- Only proofs and the contracts of private functions use this file.
 -- Whole lines that are all selected, or none of which is.
-use Rattle.std.specs.Prelude.{◌≡◌, ◌≤◌, ℕ, ◌+◌, ◌-◌, Bool, false, not, List, [], ◌++◌, Option, Some, if◌then◌else◌, filter, length, map}
+use Rattle.std.specs.Prelude.{◌≡◌, ◌≤◌, ℕ, ◌+◌, ◌-◌, Bool, false, not, List, [], ◌∷◌, ◌++◌, Option, Some, if◌then◌else◌, filter, length, map}
 use Rattle.grep_lines.specs.Lines.{lines}
 use Rattle.grep_lines.specs.Pages.{IsWhole}
 use Rattle.grep_lines.specs.Context.{Marked, Part, Prints, is_selected, marked, selected_parts}
@@ -18,6 +18,17 @@ pub record IsBlock (t : ℕ) (picks : List ℕ → Bool) (b : Block) : Type 0 wh
   pub whole : IsWhole t b.text.now
   pub counted : b.count ≡ length (lines t b.text.now)
   pub alike : filter (is_unlike b.is_selected picks) (lines t b.text.now) ≡ []
+
+-- the lines, the first of which begins at the place, are all selected, or none is
+abbrev pub AreAlike : (ℕ → List ℕ → Bool) → Bool → (place : ℕ) → List (List ℕ) → Type 0
+AreAlike picks selected place [] = Unit {0}
+AreAlike picks selected place (line ∷ rest) = (picks place line ≡ selected) × AreAlike picks selected (place + length line + 1) rest
+
+-- So are those of a block that begins at the place, and they are counted.
+pub record IsBlockAt (t : ℕ) (picks : ℕ → List ℕ → Bool) (place : ℕ) (b : Block) : Type 0 where
+  pub whole : IsWhole t b.text.now
+  pub counted : b.count ≡ length (lines t b.text.now)
+  pub alike : AreAlike picks b.is_selected place (lines t b.text.now)
 
 -- how many of its lines are selected
 abbrev pub selected_in : Block → ℕ
@@ -56,6 +67,15 @@ pub record TakesLines (t : ℕ) (e : Extent) (picks : List ℕ → Bool) (old ne
   pub known : left ≡ Some rest
   pub ms : List Marked
   pub split : marked (λ _. picks) (e.most - count) 0 (lines t text) ≡ ms ++ marked (λ _. picks) (e.most - (count + more)) 0 (lines t rest)
+  pub counted : length (filter is_selected ms) ≡ more
+  pub told : AdvancesBy e old new before after ms
+
+-- The same, where a test looks at the place of a line too: the text begins at `place`, and these lines have `len` bytes.
+pub record TakesLinesAt (t : ℕ) (e : Extent) (picks : ℕ → List ℕ → Bool) (old new : Progress) (before after : Option (List Part)) (count more place len : ℕ) (text : List ℕ) (left : Option (List ℕ)) : Type 0 where
+  pub rest : List ℕ
+  pub known : left ≡ Some rest
+  pub ms : List Marked
+  pub split : marked picks (e.most - count) place (lines t text) ≡ ms ++ marked picks (e.most - (count + more)) (place + len) (lines t rest)
   pub counted : length (filter is_selected ms) ≡ more
   pub told : AdvancesBy e old new before after ms
 

@@ -187,7 +187,7 @@ impl Progress {
     }
 
     /// Takes a block of lines.
-    fn take_block<S: LineSelector, P: LinePrinter<S>>(
+    pub(crate) fn take_block<S: LineSelector, P: LinePrinter<S>>(
         &mut self,
         selector: &mut S,
         printer: &mut P,

@@ -1,7 +1,7 @@
 //! Reader search: what is printed of one reader.
 
 use crate::fault::{Fault, read, written};
-use crate::pages::{PAGE, PageReader, bytes_of, page_len, read_pages};
+use crate::pages::{PageReader, bytes_of, page_len, read_pages};
 use grep_files::Identity;
 use grep_lines::{Extent, Touched, print_selected, print_touched};
 use grep_options::filter::{Options, Report};
@@ -136,8 +136,7 @@ impl Job<'_, '_, '_> {
         let Some(touched) = Touched::new(&spans, self.options.invert) else {
             return Err(Fault::Read(io::Error::from(ErrorKind::Other)));
         };
-        let pages_again = PageReader::new(&chunks);
-        let mut lines = read(BufReader::with_capacity(self.alloc, PAGE, pages_again))?;
+        let mut lines = PageReader::new(&chunks);
         let style = self.style(name, report);
         let terminator = style.terminator;
         let mut printer = Printer::new(self.alloc, out, style).with_spans(&spans);

@@ -2,10 +2,10 @@
 
 use std::alloc::{AllocFailed, Global};
 use std::io;
-use std::io::{ErrorKind, Read};
+use std::io::{BufRead, ErrorKind, Read};
 
 /// The length of the pages in which a file is read, in bytes.
-pub const PAGE: usize = 65_536;
+const PAGE: usize = 65_536;
 
 /// The least length of such a page.
 const LEAST_PAGE: usize = 4_096;
@@ -61,21 +61,36 @@ impl<'p> PageReader<'p> {
             from: 0,
         }
     }
+
+    /// What is left of the page that is read. It is empty at the end alone.
+    fn left(&self) -> &[u8] {
+        match self.pages.get(self.index) {
+            Some(page) => page.get(self.from..).unwrap_or(&[]),
+            None => &[],
+        }
+    }
 }
 
 impl Read for PageReader<'_> {
     fn read(&mut self, bytes: &mut [u8]) -> io::Result<usize> {
-        let Some(page) = self.pages.get(self.index) else {
-            return Ok(0);
-        };
-        let mut left: &[u8] = page.get(self.from..).unwrap_or(&[]);
+        let mut left = self.left();
         let count = left.read(bytes)?;
-        if left.is_empty() {
+        self.consume(count);
+        Ok(count)
+    }
+}
+
+impl BufRead for PageReader<'_> {
+    fn fill_buf(&mut self) -> io::Result<&[u8]> {
+        Ok(self.left())
+    }
+
+    fn consume(&mut self, amount: usize) {
+        if amount < self.left().len() {
+            self.from = self.from.saturating_add(amount);
+        } else {
             self.index = self.index.saturating_add(1);
             self.from = 0;
-        } else {
-            self.from = self.from.saturating_add(count);
         }
-        Ok(count)
     }
 }
