@@ -20,12 +20,12 @@ loop-found-preserved g c =
     let longer = length-append ms (m ∷ []) in
     record {
       so_far = (
-          ms ++ m ∷ [],
-          left ∙ ap (λ xs. ms ++ xs) c.in-Some.ensures.steps.0 ∙ sym (append_assoc ms (m ∷ []) (find_left c.next.new.self)),
-          Appends-line (g.W.Sink.taken c.args.out.now) (g.W.Sink.taken c.loop-found.out) (g.W.Sink.taken c.put_line.new.out) ms m
-          put c.in-Ok.ensures.appended,
-          (λ yes. omega (arith, longer), λ some. search rules),
-        );
+        ms ++ m ∷ [],
+        left ∙ ap (λ xs. ms ++ xs) c.in-Some.ensures.steps.0 ∙ sym (append_assoc ms (m ∷ []) (find_left c.next.new.self)),
+        Appends-line (g.W.Sink.taken c.args.out.now) (g.W.Sink.taken c.loop-found.out) (g.W.Sink.taken c.put_line.new.out) ms m
+            put c.in-Ok.ensures.appended,
+        (λ yes. omega (arith, longer), λ some. search rules),
+      );
       sound = search rules;
     }
 
