@@ -49,7 +49,7 @@ impl Model for Entry {
 /// An edit of a text: the bytes of a span are replaced by others.
 #[derive(Clone, Copy, Debug, PartialEq, Eq)]
 pub struct Edit {
-    /// The span that is replaced, in bytes of the text as it was.
+    /// The span that is replaced, in bytes of the text before the edit.
     pub replaced: Span,
     /// The number of bytes that replace it.
     pub inserted: usize,

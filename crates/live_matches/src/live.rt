@@ -179,8 +179,8 @@ impl LiveMatches {
     }
 
     /// Keeps the list under an edit of its text: some bytes were replaced by others. The input is
-    /// over the text as it is now, whole, and the list has to be that of the text as it was. An
-    /// `Err` means out of memory: the list is stale then, gives no matches, and `rebuild` mends it.
+    /// over the whole text after it, and the list has to be that of the text before it. An `Err` means
+    /// out of memory: the list is stale then, gives no matches, and `rebuild` mends it.
     pub fn edit<C: Cursor>(
         &mut self,
         regex: &Regex,

@@ -39,7 +39,7 @@ latin : map (may_take (scalar ((97, 122) ∷ (0xE0, 0xFF) ∷ []) 0)) (96 ∷ 97
 unfolding encode_utf8
 latin = refl
 
--- over `[а-я]`: D0 and D1 begin its letters, and none of the bytes that go on with one, nor E4
+-- over `[а-я]`: the bytes 208 and 209 begin its letters; none of those that go on with one does, nor 228
 cyrillic : map (may_take (scalar ((0x430, 0x44F) ∷ []) 0)) (0x7F ∷ 0x80 ∷ 0xBF ∷ 0xCF ∷ 0xD0 ∷ 0xD1 ∷ 0xD2 ∷ 0xE4 ∷ [])
     ≡ false ∷ false ∷ false ∷ false ∷ true ∷ true ∷ false ∷ false ∷ []
 unfolding encode_utf8
