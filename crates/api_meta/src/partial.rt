@@ -77,7 +77,7 @@ impl Regex {
     }
 
     /// Returns what the content tells of a search that goes from needle to needle. Returns None if it
-    /// doesn't go so, or if matches have a greatest length, which settles some of them sooner.
+    /// doesn't go so.
     fn partial_by_needles<C: Cursor>(
         &self,
         cache: &mut Cache,
@@ -91,9 +91,6 @@ impl Regex {
             (search_for (sought self.now) input.old) (partial_of o)) }
         ensures onward { IfSome result (IsOnward input.old) }
     {
-        if self.longest.is_some() {
-            return None;
-        }
         let told = self.engines.tell_partly(&mut cache.inner, input)?;
         let settled = told.settled;
         let are_here = has_bytes(input, settled.reach);

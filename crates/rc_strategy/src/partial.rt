@@ -9,7 +9,7 @@ use crate::route::{Route, TableChoice};
 use rc_dense_dfa::dense::NoCache;
 use rc_dfa::halves::Halves;
 use rc_dfa_search::idle::last_idle;
-use rc_dfa_search::reach::tells_reach;
+use rc_dfa_search::reach::{Settled, tells_reach};
 use rc_dfa_search::search::{Bounds, bounds_of};
 use rc_dfa_search::undecided::{Told, tell_by_needles};
 use rc_lazy_dfa::lazy;
@@ -211,10 +211,30 @@ impl Engines {
         }
     }
 
+    /// Returns what a search of the input told, with a match settled by the greatest length of the
+    /// matches, if that is fewer bytes.
+    #[inline(always)]
+    fn settle_sooner<C: Cursor>(&self, input: &Input<C>, told: Told) -> Told
+        requires settled { IsAnswerBelow self.now.engine.kind
+            (engine_search self.now.engine input.now) told.settled.reach told.settled.found }
+        ensures settled { IsAnswerBelow self.now.engine.kind
+            (engine_search self.now.engine input.now) result.settled.reach result.settled.found }
+        ensures from { result.from ≡ told.from }
+    {
+        let Told { settled, from } = told;
+        let found = settled.found;
+        let reach = self.least_reach(input, settled);
+        Told {
+            settled: Settled { found, reach },
+            from,
+        }
+    }
+
     /// Returns the match that `find` returns, how many bytes settle it, and a position as
-    /// `undecided_from` does, in one search. Returns None if searches of this input don't go along
-    /// the text from prefix literal to prefix literal, or no DFA has an answer. It allocates only
-    /// what `undecided_from` does.
+    /// `undecided_from` does, in one search. A match may be settled where the bounds end, or by the
+    /// greatest length of matches before. Returns None if searches of this input don't go along the
+    /// text from prefix literal to prefix literal, or no DFA has an answer. It allocates only what
+    /// `undecided_from` does.
     pub fn tell_partly<C: Cursor>(&self, cache: &mut Cache, input: &mut Input<C>) -> Option<Told>
         requires made { IsCacheIn self.now 0 cache.old }
         ensures keeps { Keeps input.old input.new }
@@ -234,6 +254,7 @@ impl Engines {
         if !self.goes_along(input) || !self.tells_idle(input) {
             return None;
         }
-        self.tell_by_tables(&mut cache.lazy, input, needles, bounds)
+        let told = self.tell_by_tables(&mut cache.lazy, input, needles, bounds)?;
+        Some(self.settle_sooner(input, told))
     }
 }

@@ -347,7 +347,7 @@ impl Engines {
     /// Returns how many bytes settle what a search of the input found, by the greatest length of
     /// the matches, if that is fewer bytes.
     #[inline(always)]
-    fn least_reach<C: Cursor>(&self, input: &Input<C>, settled: Settled) -> usize
+    pub(crate) fn least_reach<C: Cursor>(&self, input: &Input<C>, settled: Settled) -> usize
         requires settled { IsAnswerBelow self.now.engine.kind
             (engine_search self.now.engine input.now) settled.reach settled.found }
         ensures settled { IsAnswerBelow self.now.engine.kind

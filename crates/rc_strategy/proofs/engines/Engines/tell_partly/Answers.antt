@@ -1,8 +1,6 @@
-use Rattle.std.proofs.Common.{◌≡◌, IfSome, refl, subst}
+use Rattle.std.proofs.Common.{◌≡◌, subst}
 use Rattle.rc_program.specs.Places.{places_of}
 use Rattle.rc_needles.specs.Needles.{longest}
-use Rattle.rc_reach.specs.Partial.{IsPartial, from_place}
-use Rattle.rc_pikevm_search.specs.Engine.{engine_search}
 use Rattle.rc_literals.specs.Guard.{IsGuard, guard_needles}
 use Rattle.rc_strategy.specs.Routes.{longest_for}
 use Rattle.rc_strategy.proofs.engines.Engines.tell_partly.Goals as goal
@@ -15,11 +13,3 @@ tell_by_tables-requires-clause-guards g c =
 pub tell_by_tables-requires-clause-longest : goal.tell_by_tables-requires-clause-longest
 tell_by_tables-requires-clause-longest g c =
     subst (λ k. longest_for c.args.self.now.longest k ≡ longest (guard_needles k)) c.in-Some-Begins.field-0-is c.in-Some-Begins.ensures.longest
-
-pub returns-clause-told : goal.returns-clause-told
-returns-clause-told g c =
-    let e = c.args.self.now.engine in
-    let i = c.args.input.now in
-    let k = c.bounds_of.ensures.keeps in
-    let same : engine_search e c.bounds_of.new.input ≡ engine_search e i = rw (k.content, k.span, k.slice, k.anchored) refl in
-    subst (λ s. IfSome c.tell_by_tables.result (λ o. IsPartial e.kind s (from_place o.from))) same c.tell_by_tables.ensures.told
