@@ -190,14 +190,17 @@ impl Engines {
 
     /// Returns the match of a search of a list that keeps no memo, as `find` does, and notes how far
     /// its run read.
+    #[inline(always)]
     fn find_noting<C: Cursor>(
         &self,
+        tables: &Dense,
         cache: &mut Cache,
         input: &mut Input<C>,
         bounds: Bounds,
         memo: &mut ListMemo,
     ) -> Option<Match>
         requires made { IsCacheIn self.now 0 cache.old }
+        requires tables { self.now.tables ≡ Some tables.now }
         requires bounds { AreBounds input.old bounds }
         requires tells { TellsReach (aim_of self.now.engine self.now.patterns) }
         requires none { memo.old.is_kept ≡ false }
@@ -208,7 +211,8 @@ impl Engines {
         ensures cache { IsSameCacheIn self.now cache.old cache.new }
         ensures memo { IsListMemo self.now input.new memo.new }
     {
-        let Some(settled) = self.settle_along(&mut cache.lazy, input, bounds) else {
+        let told = self.settle_forwards(tables, &mut NoCache, input, bounds);
+        let Ok(settled) = told else {
             return self.find_past_tables(cache, input, bounds);
         };
         let found = settled.found?;
@@ -240,7 +244,7 @@ impl Engines {
             return None;
         };
         if !memo.is_kept {
-            return self.find_noting(cache, input, bounds, memo);
+            return self.find_noting(tables, cache, input, bounds, memo);
         }
         if let Some(found) = self.find_kept(tables, input, bounds, memo) {
             return found;

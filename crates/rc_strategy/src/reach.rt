@@ -161,7 +161,7 @@ impl Engines {
     /// Returns the match by a DFA search along the text, from literal to literal if there are some,
     /// and how many bytes settle it. An `Err` says why the DFA has no answer.
     #[inline(always)]
-    fn settle_forwards<H: Halves, C: Cursor>(
+    pub(crate) fn settle_forwards<H: Halves, C: Cursor>(
         &self,
         halves: &H,
         cache: &mut H::Cache,
