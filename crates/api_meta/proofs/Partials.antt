@@ -1,10 +1,12 @@
 -- What the beginning of a content tells.
-use Rattle.std.proofs.Common.{◌≡◌, ◌≢◌, ℕ, ◌+◌, ◌-◌, ◌^◌, ◌<◌, ◌≤◌, false, All, length, max, min, Option, Some, IfSome, sym, subst, ◌∙◌, refl, ⊎_elim, arith}
+use Rattle.std.proofs.Common.{◌≡◌, ◌≢◌, ℕ, ◌+◌, ◌-◌, ◌^◌, ◌<◌, ◌≤◌, false, All, List, length, max, min, Option, Some, None, IfSome, ap, sym, subst, ◌∙◌, refl, ⊎_elim, arith}
 use Rattle.std.proofs.lemmas.Bool.{cases_lt}
+use Rattle.std.proofs.lemmas.Option.{none-some, same_Some}
 use Rattle.rc_text.specs.Found.{Found}
 use Rattle.rc_text.specs.declared.types.MatchKind.{MatchKind}
 use Rattle.rc_text.specs.declared.types.MatchKind.TheVariants.{All as all_matches}
-use Rattle.rc_text.specs.Text.{Searched, high, low}
+use Rattle.rc_text.specs.Text.{Keeps, Searched, high, low}
+use Rattle.rc_pattern.specs.Re.{Re}
 use Rattle.rc_pattern.specs.WellFormed.{HasBounds}
 use Rattle.rc_program.specs.Answer.{Search}
 use Rattle.rc_program.specs.Kinds.{answer_by}
@@ -16,7 +18,11 @@ use Rattle.rc_reach.specs.Laws.{greatest_len}
 use Rattle.rc_reach.specs.Partial.{IsPartial, final, from_place}
 use Rattle.rc_reach.specs.Settled.{AgreesBelow, IsSettled}
 use Rattle.rc_dfa_search.proofs.SettledLemmas.{agrees_less}
-use Rattle.api_meta.proofs.Reaching.{longest_is, regex_bounded, search_inside}
+use Rattle.rc_dfa_search.proofs.ToldLemmas.{kept_high}
+use Rattle.api_meta.proofs.Reaching.{kept, longest_is, regex_bounded, search_inside}
+use Rattle.api_meta.specs.Partials.{IsFarOn, far_on}
+use Rattle.api_meta.specs.declared.partial.Partial.{Partial}
+use Rattle.api_meta.specs.declared.partial.Partial.TheVariants.{Final, From}
 use Rattle.api_meta.specs.Views.{regex_kind, regex_patterns, sought}
 use Rattle.api_meta.specs.declared.regex.Regex.{Regex}
 
@@ -91,3 +97,36 @@ module _ (r : Regex) (i : Searched) where
       (λ some. from_length (sought r) (regex_kind r) i other (regex_bounded r) n (sym (longest_is (regex_patterns r)) ∙ sym r.measured ∙ len) o is k (omega (arith, some, fits, fars, below)) before)
       (λ none t on m found. omega (arith, none))
       (cases_lt 0 k)))
+
+-- a place that the lengths tell
+pub is_far_on : (r : Regex) (i : Searched) (o : Option Found) (n : ℕ) → r.longest ≡ Some n → (k : ℕ) → far_on n i o ≤ k →
+    IsFarOn (regex_kind r) (regex_patterns r) i o (From k)
+is_far_on r i o n len k far other m greatest =
+    let same : m ≡ n = same_Some m n (sym greatest ∙ sym (longest_is (regex_patterns r)) ∙ sym r.measured ∙ len) in
+    subst (λ x. far_on x i o ≤ k) (sym same) far
+
+-- where they tell none
+pub no_length : (r : Regex) (i : Searched) (o : Option Found) → r.longest ≡ None → (k : ℕ) → IsFarOn (regex_kind r) (regex_patterns r) i o (From k)
+no_length r i o none k other n greatest =
+    absurd (none-some n (sym none ∙ r.measured ∙ longest_is (regex_patterns r) ∙ greatest))
+
+-- a later one is as far on, of an input that is kept
+pub later_on : (kind : MatchKind) (hs : List Re) (i j : Searched) (o p : Option Found) (k m : ℕ) → Keeps i j → o ≡ p → k ≤ m →
+    IsFarOn kind hs j o (From k) → IsFarOn kind hs i p (From m)
+later_on kind hs i j o p k m keeps same le far other n greatest =
+    let high_is : high j ≡ high i = kept_high i j keeps in
+    let is : far_on n j o ≡ far_on n i p = at high_is o ∙ ap (far_on n i) same in
+    let there = far other n greatest in
+    omega (arith, is, there, le)
+  where
+    at : high j ≡ high i → (x : Option Found) → far_on n j x ≡ far_on n i x
+    at e None = ap (λ h. h - (n + 3)) e
+    at e (Some f) = ap (λ h. min (h - (n + 3)) f.start) e
+
+pub far_kept : (r : Regex) (i j : Searched) → Keeps i j → (p : Partial) →
+    IsFarOn (regex_kind r) (regex_patterns r) j (answer_by (regex_kind r) (search_for (sought r) j)) p →
+    IsFarOn (regex_kind r) (regex_patterns r) i (answer_by (regex_kind r) (search_for (sought r) i)) p
+far_kept r i j keeps (Final m) far = tt
+far_kept r i j keeps (From k) far =
+    later_on (regex_kind r) (regex_patterns r) i j (answer_by (regex_kind r) (search_for (sought r) j)) (answer_by (regex_kind r) (search_for (sought r) i)) k k keeps
+    (ap (answer_by (regex_kind r)) (kept (sought r) i j keeps)) (omega arith) far

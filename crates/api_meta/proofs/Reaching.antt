@@ -1,6 +1,6 @@
 -- How many bytes settle what a search finds.
 use Rattle.std.proofs.Common.{◌≡◌, ◌≢◌, ◌∙◌, ℕ, ◌+◌, ◌-◌, ◌^◌, ◌<◌, ◌≤◌, true, IsTrue, List, [], ◌∷◌, max, min, Option, Some, None, IfSome, inl, inr, ⊎_elim, ap, ap₂, subst, sym, refl, arith, true≢false}
-use Rattle.std.specs.Prelude.{All}
+use Rattle.std.specs.Prelude.{All, if◌then◌else◌}
 use Rattle.std.proofs.Math.Logic.{∥∥₁_elim}
 use denote.Struct.Props.{props}
 use Rattle.std.proofs.lemmas.Bool.{cases_Bool, cases_lt}
@@ -32,7 +32,7 @@ use Rattle.rc_dfa_search.specs.Reaches.{IsAnswerBelow}
 use Rattle.rc_dfa_search.specs.declared.reach.Settled.{Settled}
 use Rattle.rc_dfa_search.proofs.ReachLemmas.{itself}
 use Rattle.rc_build.proofs.Fitted.{fits_search}
-use Rattle.api_meta.specs.Reached.{IsNear, TellsBelow}
+use Rattle.api_meta.specs.Reached.{IsNear, IsNearStart, TellsBelow}
 use Rattle.api_meta.specs.Reaching.{EndsSettled, anchored_start, last_start, longest_after, reach_after}
 use Rattle.api_meta.specs.Views.{regex_kind, regex_patterns, sought}
 use Rattle.api_meta.specs.declared.regex.Regex.{Regex}
@@ -186,6 +186,28 @@ by_values r i o start most reach fits is bounds starts mosts reaches =
       subst (EndsSettled (regex_kind r) (search_for (sought r) i) o) e (settles (sought r) (regex_kind r) i o (regex_bounded r) fits is bounds),
       subst (IsNear (regex_kind r) hs o) e (is_near hs (regex_kind r) i o (slice_end i + 1)),
     )
+
+-- what an anchored search that finds nothing reaches
+pub near_start : (r : Regex) (i : Searched) (o : Option Found) (start : Option ℕ) (most reach : ℕ) → start ≡ last_start (regex_kind r) i o →
+    most ≡ reach_after start r.longest → reach ≡ min most (slice_end i + 1) → IsNearStart (regex_patterns r) i o reach
+near_start r i o start most reach starts mosts reaches anchored none n greatest =
+    let longest : r.longest ≡ Some n = r.measured ∙ longest_is (regex_patterns r) ∙ greatest in
+    let here : start ≡ Some (low i) =
+    starts ∙ ap (last_start (regex_kind r) i) none ∙ unfound (regex_kind r) ∙ ap (λ b. if b then Some (low i) else None) anchored in
+    let after : most ≡ min (low i + n + 4) (2 ^ 64 - 1) = mosts ∙ ap₂ reach_after here longest in
+    omega (arith, reaches, after)
+  where
+    unfound : (kind : MatchKind) → last_start kind i None ≡ anchored_start i
+    unfound all_matches = refl
+    unfound leftmost_first = refl
+    unfound leftmost_longest = refl
+
+-- and of an input that is kept
+pub near_start_kept : (hs : List Re) (i j : Searched) (o : Option Found) (k most : ℕ) → Keeps i j → k ≤ most → IsNearStart hs j o most → IsNearStart hs i o k
+near_start_kept hs i j o k most keeps le near anchored none n greatest =
+    let far = near (ap plain.is_anchored keeps.anchored ∙ anchored) none n greatest in
+    let same : low j ≡ low i = ap (λ x. low (record j { span = x })) keeps.span ∙ ap (λ x. low (record j { span = i.span; slice = x })) keeps.slice in
+    omega (arith, le, far, same)
 
 -- an input that is kept is searched alike
 pub kept : (q : Sought) (i j : Searched) → Keeps i j → search_for q j ≡ search_for q i

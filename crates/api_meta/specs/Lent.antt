@@ -1,11 +1,12 @@
 -- What iterators in a lent cache have still to give: what an iterator with a cache of its own would that stands where they do.
-use Rattle.std.specs.Prelude.{◌≡◌, List, Option, Result}
+use Rattle.std.specs.Prelude.{◌≡◌, List, Option, Result, IfOk, IfSome}
 use Rattle.std.specs.declared.alloc.AllocError.{AllocError}
 use Rattle.std.specs.Borrow.{GName}
 use Rattle.std.specs.Iterator.{Yields}
 use Rattle.std.specs.Iterator.Runs.{YieldsInOrder}
 use Rattle.rc_text.specs.Found.{Found}
 use Rattle.rc_text.specs.Text.{Searched}
+use Rattle.rc_captures.specs.Captures.{match_of}
 use Rattle.rc_captures.specs.declared.captures.Captures.{Captures}
 use Rattle.api_meta.specs.Caches.{HasSameRoom, IsCacheFor}
 use Rattle.api_meta.specs.Left.{CapturesKeeps, CapturesNext, FindKeeps, FindNext, captures_left, find_left}
@@ -15,6 +16,10 @@ use Rattle.api_meta.specs.declared.iterators.CapturesMatches.{CapturesMatches}
 use Rattle.api_meta.specs.declared.lists.CapturesMatchesWith.{CapturesMatchesWith}
 use Rattle.api_meta.specs.declared.lists.FindMatchesWith.{FindMatchesWith}
 use Rattle.api_meta.specs.declared.regex.Regex.{Regex}
+
+-- the span begins where the match of the captures ends, if there are some
+abbrev pub StartsBehind : Searched → Result Captures AllocError → Type 0
+StartsBehind i item = IfOk item (λ caps. IfSome (match_of caps) (λ m. i.span.start ≡ m.end))
 
 module _ {C : Type 0} where
   -- an iterator with a cache of its own that stands there
@@ -48,9 +53,10 @@ module _ {C : Type 0} where
   abbrev pub FindKeepsWith : FindMatchesWith C → FindMatchesWith C → Type 0
   FindKeepsWith s t = FindKeeps (find_by s) (find_by t) × AreFindsOfOne s t × (HasItsCache s → HasItsCache t)
 
-  -- What `next` gives, and what it keeps: as with a cache of its own, in what is lent.
+  -- What `next` gives, and what it keeps: as with a cache of its own, in what is lent. The span then begins where the match ends.
   abbrev pub FindNextWith : FindMatchesWith C → Option Found → FindMatchesWith C → Type 0
-  FindNextWith s r t = FindNext (find_by s) r (find_by t) × AreFindsOfOne s t × HasItsCache t
+  FindNextWith s r t =
+      FindNext (find_by s) r (find_by t) × AreFindsOfOne s t × HasItsCache t × IfSome r (λ m. (find_with_input t).span.start ≡ m.end)
 
   -- each run of calls gives the matches in order
   abbrev pub FindRunsWith : FindMatchesWith C → Type 0
@@ -86,9 +92,10 @@ module _ {C : Type 0} where
   abbrev pub CapturesKeepWith : CapturesMatchesWith C → CapturesMatchesWith C → Type 0
   CapturesKeepWith s t = CapturesKeeps (captures_by s) (captures_by t) × AreCapturesOfOne s t × (KeepsItsCache s → KeepsItsCache t)
 
-  -- What `next` gives, and what it keeps: as with a cache of its own, in what is lent.
+  -- What `next` gives, and what it keeps: as with a cache of its own, in what is lent. The span then begins where the match ends.
   abbrev pub CapturesNextWith : CapturesMatchesWith C → Option (Result Captures AllocError) → CapturesMatchesWith C → Type 0
-  CapturesNextWith s r t = CapturesNext (captures_by s) r (captures_by t) × AreCapturesOfOne s t × KeepsItsCache t
+  CapturesNextWith s r t =
+      CapturesNext (captures_by s) r (captures_by t) × AreCapturesOfOne s t × KeepsItsCache t × IfSome r (StartsBehind (captures_with_input t))
 
   -- runs of calls are runs with a cache of its own, so that the laws of those hold of them
   abbrev pub CapturesRunAlike : CapturesMatchesWith C → Type 0

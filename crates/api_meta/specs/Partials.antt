@@ -1,6 +1,11 @@
 -- Partial answers, as they are returned.
-use Rattle.std.specs.Prelude.{◌≤◌, max}
+use Rattle.std.specs.Prelude.{◌≡◌, ◌≢◌, ℕ, ◌+◌, ◌-◌, ◌≤◌, List, Option, Some, None, max, min}
+use Rattle.rc_text.specs.Found.{Found}
 use Rattle.rc_text.specs.Text.{Searched, low, high}
+use Rattle.rc_text.specs.declared.types.MatchKind.{MatchKind}
+use Rattle.rc_text.specs.declared.types.MatchKind.TheVariants.{All as all_matches}
+use Rattle.rc_pattern.specs.Re.{Re}
+use Rattle.rc_reach.specs.Laws.{greatest_len}
 use Rattle.rc_reach.specs.Partial as partial
 use Rattle.api_meta.specs.declared.partial.Partial.{Partial}
 use Rattle.api_meta.specs.declared.partial.Partial.TheVariants.{Final, From}
@@ -14,3 +19,14 @@ partial_of (From k) = partial.from_place k
 abbrev pub IsOnward : Searched → Partial → Type 0
 IsOnward i (Final m) = Unit {0}
 IsOnward i (From k) = (low i ≤ k) × (k ≤ max (low i) (high i))
+
+-- n + 3 bytes before the end of the bounds, or where the match that was found begins.
+abbrev pub far_on : ℕ → Searched → Option Found → ℕ
+far_on n i None = high i - (n + 3)
+far_on n i (Some m) = min (high i - (n + 3)) m.start
+
+-- If no pattern is longer than n bytes, a place to go on from isn't before that one.
+abbrev pub IsFarOn : MatchKind → List Re → Searched → Option Found → Partial → Type 0
+IsFarOn kind hs i found (Final m) = Unit {0}
+IsFarOn kind hs i found (From k) =
+    kind ≢ all_matches → (n : ℕ) → greatest_len hs ≡ Some n → far_on n i found ≤ k

@@ -1,6 +1,8 @@
 -- Reaches: how many bytes settle what a search finds.
-use Rattle.std.specs.Prelude.{◌≡◌, ◌≢◌, ℕ, ◌+◌, ◌≤◌, All, IsTrue, List, Option, Some, IfSome}
+use Rattle.std.specs.Prelude.{◌≡◌, ◌≢◌, ℕ, ◌+◌, ◌≤◌, All, IsTrue, List, Option, Some, None, IfSome}
 use Rattle.rc_text.specs.Found.{Found}
+use Rattle.rc_text.specs.Plain.{is_anchored}
+use Rattle.rc_text.specs.Text.{Searched, low}
 use Rattle.rc_text.specs.declared.types.MatchKind.{MatchKind}
 use Rattle.rc_text.specs.declared.types.MatchKind.TheVariants.{All as all_matches}
 use Rattle.rc_pattern.specs.Re.{Re}
@@ -35,3 +37,9 @@ pub record LooksAhead (q : Sought) (a : ℕ) : Type 0 where
 abbrev pub IsSharp : MatchKind → Sought → Option Found → ℕ → Type 0
 IsSharp kind q found r = kind ≢ all_matches → IfSome found
     (λ m. (n a : ℕ) → greatest_len q.patterns ≡ Some n → LooksAhead q a → r ≤ m.start + n + a)
+
+-- If no pattern is longer than n bytes, that nothing matches at the start of an anchored search is
+-- settled n + 4 bytes from there.
+abbrev pub IsNearStart : List Re → Searched → Option Found → ℕ → Type 0
+IsNearStart hs i found r = IsTrue (is_anchored i.anchored) → found ≡ None → (n : ℕ) →
+    greatest_len hs ≡ Some n → r ≤ low i + n + 4

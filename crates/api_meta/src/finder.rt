@@ -63,8 +63,8 @@ impl<'r> Finder<'r> {
     ghost use Rattle.rc_text.specs.Text.{Keeps, high, low, slice_end};
     ghost use Rattle.rc_reach.specs.Partial.{IsPartial};
     ghost use Rattle.rc_reach.specs.Settled.{IsSettled};
-    ghost use Rattle.api_meta.specs.Partials.{IsOnward, partial_of};
-    ghost use Rattle.api_meta.specs.Reached.{IsNear, IsSharp, TellsBelow};
+    ghost use Rattle.api_meta.specs.Partials.{IsFarOn, IsOnward, partial_of};
+    ghost use Rattle.api_meta.specs.Reached.{IsNear, IsNearStart, IsSharp, TellsBelow};
     ghost use Rattle.rc_text.specs.declared.types.MatchKind.TheVariants.{LeftmostFirst};
 
     /// Returns a finder for this regex, with a cache of its own. An `Err` means out of memory.
@@ -119,6 +119,8 @@ impl<'r> Finder<'r> {
             result.found result.reach }
         ensures sharp { IsSharp (regex_kind self.old) (sought self.old)
             result.found result.reach }
+        ensures anchored { IsNearStart (regex_patterns self.old) input.old
+            result.found result.reach }
     {
         self.regex.search_reach_with(&mut self.cache, input)
     }
@@ -131,6 +133,8 @@ impl<'r> Finder<'r> {
         ensures told { IsPartial (regex_kind self.old) (search_for (sought self.old) input.old)
             (partial_of result) }
         ensures onward { IsOnward input.old result }
+        ensures far { IsFarOn (regex_kind self.old) (regex_patterns self.old) input.old
+            (answer_by (regex_kind self.old) (search_for (sought self.old) input.old)) result }
     {
         self.regex.search_partial_with(&mut self.cache, input)
     }

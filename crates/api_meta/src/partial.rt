@@ -10,6 +10,10 @@ use rc_text::cursor::Cursor;
 use rc_text::input::{Input, high, low, move_to, position};
 use rc_text::types::{Match, MatchKind};
 
+/// If the lengths of the patterns rule out matches that begin in the first so many bytes, or in half
+/// of them if those are more, nothing else is asked.
+const FAR: usize = 256;
+
 /// What the content that is here tells of a search, if more may follow it.
 #[derive(Clone, Copy, Debug, PartialEq, Eq)]
 pub enum Partial {
@@ -26,7 +30,8 @@ impl Regex {
     ghost use Rattle.rc_reach.specs.Partial.{IsPartial, from_place};
     ghost use Rattle.rc_text.specs.Text.{Keeps, high, low};
     ghost use Rattle.api_meta.specs.Caches.{HasSameRoom, IsCacheFor};
-    ghost use Rattle.api_meta.specs.Partials.{IsOnward, partial_of};
+    ghost use Rattle.api_meta.specs.Partials.{IsFarOn, IsOnward, partial_of};
+    ghost use Rattle.api_meta.specs.declared.partial.Partial.TheVariants.{From};
     ghost use Rattle.api_meta.specs.Views.{regex_kind, regex_patterns, regex_settings, sought};
 
     /// Returns what the content that is here tells of a search, if more bytes may follow it, in a
@@ -34,13 +39,13 @@ impl Regex {
     ///
     /// The content may go on at its end alone. If the span and the slice go up to its end or beyond,
     /// they go on with it; if one of them ends before, it ends there too. The match is final if its
-    /// reach ends in the content, as `search_reach_with` tells it. Otherwise a search of a content
-    /// that goes on may begin at the position that is returned.
+    /// reach, as the search tells it, ends in the content; no clause says how early that is.
+    /// Otherwise a search of a content that goes on may begin at the position that is returned.
     ///
-    /// If a DFA searches for a leftmost-first match, and none is passed over, that is about the last
-    /// position at which nothing is under way. If no pattern matches more than n bytes, and the kind
-    /// isn't `MatchKind::All`, it is at least n + 3 bytes before the end of the bounds, or where the
-    /// match that was found begins. Otherwise it is where this search begins.
+    /// If no pattern matches more than n bytes, and the kind isn't `MatchKind::All`, that is at most
+    /// n + 3 bytes before the end of the bounds, or where the match that was found begins. If a DFA
+    /// searches for a leftmost-first match, and none is passed over, it may be later: about the last
+    /// position at which nothing is under way. Otherwise it is where this search begins.
     pub fn search_partial_with<C: Cursor>(&self, cache: &mut Cache, input: &mut Input<C>) -> Partial
         requires made { IsCacheFor (regex_patterns self.now) (regex_settings self.now) cache.old }
         ensures cache { IsCacheFor (regex_patterns self.now) (regex_settings self.now) cache.new }
@@ -49,6 +54,8 @@ impl Regex {
         ensures told { IsPartial (regex_kind self.now) (search_for (sought self.now) input.old)
             (partial_of result) }
         ensures onward { IsOnward input.old result }
+        ensures far { IsFarOn (regex_kind self.now) (regex_patterns self.now) input.old
+            (answer_by (regex_kind self.now) (search_for (sought self.now) input.old)) result }
     {
         match self.partial_by_needles(cache, input) {
             Some(partial) => partial,
@@ -65,6 +72,8 @@ impl Regex {
         ensures told { IsPartial (regex_kind self.now) (search_for (sought self.now) input.old)
             (partial_of result) }
         ensures onward { IsOnward input.old result }
+        ensures far { IsFarOn (regex_kind self.now) (regex_patterns self.now) input.old
+            (answer_by (regex_kind self.now) (search_for (sought self.now) input.old)) result }
     {
         let reached = self.search_reach_with(cache, input);
         let are_here = has_bytes(input, reached.reach);
@@ -72,6 +81,9 @@ impl Regex {
             return Partial::Final(found);
         }
         let by_length = self.undecided_by_length(reached.found, input);
+        if is_far(input, by_length) {
+            return Partial::From(by_length);
+        }
         let idle = self.engines.undecided_from(&mut cache.inner, input);
         Partial::From(idle.max(by_length))
     }
@@ -90,6 +102,8 @@ impl Regex {
         ensures told { IfSome result (λ o. IsPartial (regex_kind self.now)
             (search_for (sought self.now) input.old) (partial_of o)) }
         ensures onward { IfSome result (IsOnward input.old) }
+        ensures far { IfSome result (IsFarOn (regex_kind self.now) (regex_patterns self.now) input.old
+            (answer_by (regex_kind self.now) (search_for (sought self.now) input.old))) }
     {
         let told = self.engines.tell_partly(&mut cache.inner, input)?;
         let settled = told.settled;
@@ -110,6 +124,8 @@ impl Regex {
         ensures told { IsPartial (regex_kind self.now) (search_for (sought self.now) input.old)
             (from_place result) }
         ensures within { (low input.old ≤ result) × (result ≤ max (low input.old) (high input.old)) }
+        ensures far { IsFarOn (regex_kind self.now) (regex_patterns self.now) input.old found
+            (From result) }
     {
         let from = low(input);
         let end = high(input);
@@ -125,6 +141,15 @@ impl Regex {
             None => from.max(far),
         }
     }
+}
+
+/// Whether a position is far from where the search begins, and nearer to its end. No DFA is to read
+/// all bytes before it then.
+fn is_far<C: Cursor>(input: &mut Input<C>, at: usize) -> bool
+    ensures keeps { Keeps input.old input.new }
+{
+    let passed = at.saturating_sub(low(input));
+    passed >= FAR && passed >= high(input).saturating_sub(at)
 }
 
 /// Whether the content has so many bytes.

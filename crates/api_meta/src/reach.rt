@@ -50,7 +50,7 @@ impl Regex {
     ghost use Rattle.rc_text.specs.Bounds.{IsWithinBounds};
     ghost use Rattle.rc_text.specs.Text.{Keeps, slice_end};
     ghost use Rattle.api_meta.specs.Caches.{HasSameRoom, IsCacheFor};
-    ghost use Rattle.api_meta.specs.Reached.{IsNear, IsSharp, TellsBelow};
+    ghost use Rattle.api_meta.specs.Reached.{IsNear, IsNearStart, IsSharp, TellsBelow};
     ghost use Rattle.api_meta.specs.Reaching.{EndsSettled, last_start};
     ghost use Rattle.api_meta.specs.Views.{regex_kind, regex_names, regex_patterns, regex_settings, sought};
 
@@ -83,6 +83,8 @@ impl Regex {
         ensures near { IsNear (regex_kind self.now) (regex_patterns self.now)
             result.found result.reach }
         ensures sharp { IsSharp (regex_kind self.now) (sought self.now)
+            result.found result.reach }
+        ensures anchored { IsNearStart (regex_patterns self.now) input.old
             result.found result.reach }
     {
         let settled = self.engines.find_settled(&mut cache.inner, input);
@@ -138,6 +140,7 @@ impl Regex {
             (search_for (sought self.now) input.old) found result }
         ensures within { result ≤ slice_end input.old + 1 }
         ensures near { IsNear (regex_kind self.now) (regex_patterns self.now) found result }
+        ensures anchored { IsNearStart (regex_patterns self.now) input.old found result }
     {
         let most = reach_after(self.last_start(found, input), self.longest);
         up_to_slice_end(input, most)

@@ -157,6 +157,7 @@ fn next_groups<C: Cursor>(
 impl Standing {
     ghost use Rattle.std.specs.Prelude.{IfErr, IfNone, IsTrue, MatchOption, false};
     ghost use Rattle.api_meta.specs.Left.{GivesNext, GivesCaptures};
+    ghost use Rattle.api_meta.specs.Lent.{StartsBehind};
     ghost use Rattle.api_meta.specs.Seeking.{seeking};
 
     /// Returns the next match of the iteration in the input. The span then starts at its end. It
@@ -173,6 +174,7 @@ impl Standing {
         ensures steps { GivesNext (seeking regex.now cache.old self.old) input.old result
             (seeking regex.now cache.new self.new) input.new }
         ensures moves { IsMoved input.old input.new }
+        ensures start { IfSome result (λ m. input.new.span.start ≡ m.end) }
         ensures over { IfNone result (IsTrue self.new.is_done) }
     {
         if self.is_done {
@@ -231,6 +233,7 @@ impl Standing {
         ensures steps { GivesCaptures (seeking regex.now cache.old self.old) input.old result
             (seeking regex.now cache.new self.new) input.new }
         ensures moves { IsMoved input.old input.new }
+        ensures start { IfSome result (StartsBehind input.new) }
         ensures over { MatchOption result (IsTrue self.new.is_done)
             (λ item. IfErr item (λ _. IsTrue self.new.is_done)) }
     {
@@ -257,6 +260,7 @@ impl Standing {
         ensures steps { GivesCaptures (seeking regex.now cache.old self.old) input.old result
             (seeking regex.now cache.new self.new) input.new }
         ensures moves { IsMoved input.old input.new }
+        ensures start { IfSome result (StartsBehind input.new) }
         ensures over { MatchOption result (IsTrue self.new.is_done)
             (λ item. IfErr item (λ _. IsTrue self.new.is_done)) }
     {

@@ -8,6 +8,7 @@ returns-clause-steps g c = (
   (c.next_captures.ensures.steps, (refl, c.next_captures.ensures.moves), c.next_captures.ensures.over),
   (refl, refl, keeps_room c.args.self.now.regex.now c.args.self.now.cache.now.inner c.next_captures.new.cache c.next_captures.ensures.same),
   stays_for c.args.self.now.regex.now c.args.self.now.cache.now.inner c.next_captures.new.cache c.requires c.next_captures.ensures.same,
+  c.next_captures.ensures.start,
 )
 
 pub returns-clause-goes : goal.returns-clause-goes

@@ -8,6 +8,7 @@ returns-clause-steps g c = (
   (c.next_match.ensures.steps, (refl, c.next_match.ensures.moves), c.next_match.ensures.over),
   (refl, refl, keeps_room c.args.self.now.regex.now c.args.self.now.cache.now.inner c.next_match.new.cache c.next_match.ensures.same),
   stays_for c.args.self.now.regex.now c.args.self.now.cache.now.inner c.next_match.new.cache c.requires c.next_match.ensures.same,
+  c.next_match.ensures.start,
 )
 
 pub returns-clause-goes : goal.returns-clause-goes

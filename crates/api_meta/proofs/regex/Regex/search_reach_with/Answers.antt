@@ -7,7 +7,7 @@ use Rattle.rc_reach.proofs.LawLemmas.{reach_law}
 use Rattle.api_meta.specs.Views.{regex_kind, regex_patterns, sought}
 use Rattle.api_meta.proofs.Cached.{keeps_room, stays_for}
 use Rattle.api_meta.proofs.Looking.{is_sharp}
-use Rattle.api_meta.proofs.Reaching.{kept, least_settled, near_more, past_least, same_bounds, same_slice, settled_answer}
+use Rattle.api_meta.proofs.Reaching.{kept, least_settled, near_more, near_start_kept, past_least, same_bounds, same_slice, settled_answer}
 use Rattle.api_meta.proofs.regex.Regex.search_reach_with.Given.{Over}
 use Rattle.api_meta.proofs.regex.Regex.search_reach_with.Goals as goal
 use Rattle.api_meta.proofs.regex.Regex.search_reach_with.Goals.{After-find_settled-settled}
@@ -62,6 +62,11 @@ pub returns-clause-sharp : goal.returns-clause-sharp
 returns-clause-sharp g c =
     let o = c.find_settled-settled.result in
     is_sharp c.args.self.now o.found c.min-reach.result o.reach c.find_settled-settled.ensures.near (omega (arith, c.min-reach.ensures))
+
+pub returns-clause-anchored : goal.returns-clause-anchored
+returns-clause-anchored g c =
+    near_start_kept (regex_patterns c.args.self.now) c.args.input.now c.find_settled-settled.new.input c.find_settled-settled.result.found c.min-reach.result c.reach_of.result
+    c.find_settled-settled.ensures.keeps (omega (arith, c.min-reach.ensures)) c.reach_of.ensures.anchored
 
 pub returns-clause-cache : goal.returns-clause-cache
 returns-clause-cache g c =

@@ -1,9 +1,10 @@
-use Rattle.std.proofs.Common.{◌∙◌, [], ap, refl, rules, subst, sym}
+use Rattle.std.proofs.Common.{◌≡◌, ◌∙◌, [], IfSome, ap, refl, rules, subst, sym}
 use Rattle.rc_pikevm_search.specs.Moved.{IsMoved}
 use Rattle.rc_pikevm_search.specs.Tells.{TellsSpan}
 use Rattle.api_meta.specs.Views.{sought}
 use Rattle.rc_build.proofs.Fitted.{answer_same}
 use Rattle.api_meta.proofs.Going.{none_left, no_walks, next_left, same_match, moved, tells_next, told_as}
+use Rattle.rc_text.specs.Found.{Found}
 use Rattle.rc_program.specs.Kinds.{answer_by}
 use Rattle.rc_program.specs.Sought.{search_for}
 use Rattle.rc_text.specs.declared.types.MatchKind.TheVariants.{All as all_matches}
@@ -48,3 +49,11 @@ returns-clause-steps g c =
       start = k.span.start;
       search = moved r i k moves;
     })
+
+pub returns-clause-start : goal.returns-clause-start
+returns-clause-start g c =
+    let j = c.next_groups.new.input in
+    let caps = c.next_groups.new.caps in
+    let r = c.args.regex.now in
+    let matched = same_match r j caps c.next_groups.ensures.whole c.next_groups.ensures.told ∙ sym (answer_same r.fits j) ∙ sym c.next_groups.ensures.there ∙ c.in-Some.is in
+    subst (λ o. IfSome o (λ (m : Found). c.set_start.new.self.span.start ≡ m.end)) (sym matched) (c.set_start.ensures.start ∙ c.end.ensures.value)
