@@ -1,5 +1,7 @@
 //! Faults: what may be wrong with the text of a pattern.
 
+ghost use Rattle.std.specs.Prelude.{length, ◌≤◌, IfSome};
+
 use rc_text::types::Span;
 use std::fmt;
 
@@ -106,7 +108,9 @@ pub enum FaultKind {
 }
 
 /// The message for a group that doesn't parse.
-fn group_line(kind: FaultKind) -> Option<&'static str> {
+fn group_line(kind: FaultKind) -> Option<&'static str>
+    ensures { IfSome result (λ line. length line.now ≤ 64) }
+{
     match kind {
         FaultKind::UnclosedGroup => Some("unclosed group"),
         FaultKind::UnopenedGroup => Some("unopened group"),
@@ -127,7 +131,9 @@ fn group_line(kind: FaultKind) -> Option<&'static str> {
 }
 
 /// The message for a list that doesn't parse.
-fn list_line(kind: FaultKind) -> Option<&'static str> {
+fn list_line(kind: FaultKind) -> Option<&'static str>
+    ensures { IfSome result (λ line. length line.now ≤ 64) }
+{
     match kind {
         FaultKind::UnclosedList => Some("unclosed list"),
         FaultKind::EmptyList => Some("empty list"),
@@ -143,7 +149,9 @@ fn list_line(kind: FaultKind) -> Option<&'static str> {
 }
 
 /// The message for an escape that doesn't parse.
-fn escape_line(kind: FaultKind) -> Option<&'static str> {
+fn escape_line(kind: FaultKind) -> Option<&'static str>
+    ensures { IfSome result (λ line. length line.now ≤ 64) }
+{
     match kind {
         FaultKind::DanglingBackslash => Some("nothing is escaped"),
         FaultKind::UnknownEscape => Some("unknown escape"),
@@ -161,7 +169,9 @@ fn escape_line(kind: FaultKind) -> Option<&'static str> {
 }
 
 /// The message for a repetition, or a pattern as a whole.
-fn other_line(kind: FaultKind) -> &'static str {
+fn other_line(kind: FaultKind) -> &'static str
+    ensures { length result.now ≤ 64 }
+{
     match kind {
         FaultKind::RepetitionOfNothing => "repetition of nothing",
         FaultKind::UncountedRepetition => "no counted repetition",
@@ -175,8 +185,10 @@ fn other_line(kind: FaultKind) -> &'static str {
 }
 
 impl FaultKind {
-    /// A one-line message that says what is wrong.
-    pub fn line(self) -> &'static str {
+    /// A one-line message that says what is wrong, of at most 64 bytes.
+    pub fn line(self) -> &'static str
+        ensures { length result.now ≤ 64 }
+    {
         group_line(self)
             .or(list_line(self))
             .or(escape_line(self))
