@@ -420,7 +420,7 @@ class Live(_Apart):
 
 class Stream(_Apart):
     """A text that is still coming, as from a pipe. Pattern.stream makes it. Its matches are those of the whole text, as spans in it, and each comes
-    as soon as nothing that follows can change it."""
+    once it is known that nothing that follows can change it."""
 
     def __init__(self, of, limit):
         super().__init__(of)

@@ -91,9 +91,9 @@ pub record IsEdited (edit : Edit) (old new : List ℕ) : Type 0 where
   pub front : take edit.replaced.start new ≡ take edit.replaced.start old
   pub back : drop (edit.replaced.start + edit.inserted) new ≡ drop edit.replaced.end old
 
--- A stale list gives no matches.
+-- A stale list has neither matches nor text.
 abbrev pub IsStale : Listed → Type 0
-IsStale l = (l.is_stale ≡ true) × (l.entries ≡ [])
+IsStale l = (l.is_stale ≡ true) × (l.entries ≡ []) × (l.len ≡ 0)
 
 -- The entries are those of some content, of which this one is an edit.
 pub record WereEntries (r : Regex) (edit : Edit) (content : List ℕ) (g : Gapped) : Type 0 where

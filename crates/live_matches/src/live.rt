@@ -351,7 +351,7 @@ impl LiveMatches {
         index
     }
 
-    /// The number of bytes of the text.
+    /// The number of bytes of the text, and 0 if the list is stale.
     pub fn text_len(&self) -> usize
         ensures { result ≡ self.now.len }
     {

@@ -17,9 +17,9 @@ pub type StreamSearcher<'r> = StreamSearcherOf<Finder<'r>>;
 /// A search of a text that comes in by chunks.
 ///
 /// It gives the matches of `Regex::find_iter` over the whole text, however the text was cut: each
-/// as soon as nothing that follows can change it. It keeps only the bytes that it may have to read
-/// again. Contracts see it with its history: the bytes that it was fed, and the matches that it
-/// gave.
+/// once it is known that nothing that follows can change it. It keeps only the bytes that it may
+/// have to read again. Contracts see it with its history: the bytes that it was fed, and the
+/// matches that it gave.
 #[derive(Drop)]
 pub struct StreamSearcherOf<F: PartialFinder> {
     finder: F,

@@ -9,7 +9,7 @@ use zorfelith_sys as sys;
 /// A search of a text that is still coming in, as from a pipe or a socket, which [`Regex::stream`](crate::Regex::stream) begins.
 ///
 /// The matches are those of [`find_iter`](crate::Regex::find_iter) in the whole text, each once and in order, however the text was cut. Each
-/// is told as soon as nothing that follows can change it. What was told before the end is a beginning of the list of each text that may still
+/// is told once it is known that nothing that follows can change it. What was told before the end is a beginning of the list of each text that may still
 /// come. Places are those of the whole stream.
 ///
 /// The stream keeps the bytes that it may read again: those of the match under way, and some before. It has a cache of its own.
