@@ -22,6 +22,10 @@ AreWords words text template = (chunk : List ℕ) × (map (λ w. w.now) words �
 abbrev pub HasWords : List (Bor (List ℕ)) → Type 0
 HasWords words = (text template : List ℕ) × AreWords words text template
 
+-- The template is one.
+abbrev pub HasTemplate : List (Bor (List ℕ)) → Type 0
+HasTemplate words = (text template : List ℕ) × AreWords words text template × ((items : List Item) × IsReadAs items template)
+
 -- The settings of the regex: the default ones, but that matches may end inside a character if the content isn't UTF-8.
 abbrev pub settings_in : Bool → Settings
 settings_in utf8 = record unset { utf8_empty = Some utf8 }

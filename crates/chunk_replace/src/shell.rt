@@ -7,7 +7,7 @@ ghost use Rattle.rc_parser.specs.Settings.{default_settings};
 ghost use Rattle.rc_build.specs.TextRefusals.{AllRead};
 ghost use Rattle.api_meta.specs.Views.{regex_patterns, regex_settings};
 ghost use Rattle.regex_cursor.specs.Words.{IsLength};
-ghost use Rattle.chunk_replace.specs.Words.{AreWords, HasWords, IsDone, IsSubstituted, settings_in};
+ghost use Rattle.chunk_replace.specs.Words.{AreWords, HasTemplate, HasWords, IsDone, IsSubstituted, settings_in};
 ghost use Rattle.chunk_replace.specs.Template.{template_items};
 
 use crate::error::ReplaceError;
@@ -161,8 +161,8 @@ pub fn program<R: Read, W: Sink, E: Write>(
     ensures status { result ≤ FAULT }
     ensures done { result ≢ FAULT → IsDone words.now (R.remaining input.old) (W.taken out.old)
         (W.taken out.new) (nat_eq result REPLACED) }
-    ensures unread { ¬ HasWords words.now → Keeps (R.remaining input.old) (R.remaining input.new) }
-    ensures nothing_put { ¬ HasWords words.now → Keeps (W.taken out.old) (W.taken out.new) }
+    ensures unread { ¬ HasTemplate words.now → Keeps (R.remaining input.old) (R.remaining input.new) }
+    ensures nothing_put { ¬ HasTemplate words.now → Keeps (W.taken out.old) (W.taken out.new) }
 {
     let Some((pattern, template, n)) = arguments(words) else {
         return report(err, USAGE);

@@ -1,5 +1,5 @@
 -- What a search of a file finds.
-use Rattle.std.specs.Prelude.{◌≡◌, ℕ, List, Option, Some, length}
+use Rattle.std.specs.Prelude.{◌≡◌, ℕ, true, List, Option, Some, length}
 use Rattle.rc_text.specs.Found.{Found}
 use Rattle.rc_text.specs.Text.{Searched}
 use Rattle.rc_program.specs.Kinds.{answer_by}
@@ -23,7 +23,7 @@ IsSearchedFrom content at s = (q : Sought) → search_for q s ≡ search_for q (
 abbrev pub found_from : Regex → List ℕ → ℕ → Option Found
 found_from r content at = answer_by (regex_kind r) (search_for (sought r) (from_place content at))
 
--- a fault of a read is the file's
+-- a fault of a read is the file's, and each page could be read where memory is refused
 abbrev pub IsFault : Stored → FindError → Type 0
 IsFault s (Read f) = fault_of s ≡ Some f
-IsFault s Memory = Unit {0}
+IsFault s Memory = s.is_whole ≡ true
