@@ -1,6 +1,7 @@
 -- How a batch is filled: one match after another is taken from the list of those that are left.
-use Rattle.std.proofs.Common.{◌≡◌, ◌∙◌, ◌+◌, ◌<◌, ◌≤◌, ℕ, Bool, true, false, if◌then◌else◌, List, [], ◌∷◌, ◌++◌, All, IfSome, MatchOption, Option, Some, None, ap, refl, arith, length, map, set, subst, sym, take, append_assoc}
-use Rattle.std.proofs.lemmas.List.{map-append, take_more_set}
+use Rattle.std.proofs.Common.{◌≡◌, ◌∙◌, ◌+◌, ◌<◌, ◌≤◌, ℕ, Bool, true, false, if◌then◌else◌, List, [], ◌∷◌, ◌++◌, All, IfSome, MatchOption, Option, Some, None, ap, refl, arith, length, map, set, slice_get, subst, sym, take, append_assoc}
+use Rattle.std.proofs.lemmas.List.{get_or-set_same, length-set, map-append, take_more_set}
+use Rattle.std.proofs.lemmas.Option.{slice_get-get_or}
 use Rattle.rc_text.specs.Found.{Found}
 use Rattle.rc_text.specs.Text.{Searched, Keeps}
 use Rattle.rc_text.specs.declared.types.Span.{Span}
@@ -12,7 +13,7 @@ use Rattle.rc_program.specs.Program.{program, shown}
 use Rattle.rc_program.specs.Sought.{Sought, passes_over, search_for}
 use Rattle.rc_pikevm_search.specs.Moved.{IsMoved}
 use Rattle.rc_pikevm_search.proofs.Steps.{search_kept, search_moved, step_none, step_some}
-use Rattle.searcher.specs.Places.{IsFilled, found_at}
+use Rattle.searcher.specs.Places.{GoesOn, IsFilled, found_at}
 use Rattle.searcher.specs.Flags.{is_on}
 use Rattle.searcher.specs.Ranges.{anchoring, at_start, in_bounds, in_range}
 use Rattle.searcher.specs.declared.answers.Bounds.{Bounds}
@@ -63,6 +64,33 @@ one_listed : (xs : List MatchAt) (n : ℕ) (x : MatchAt) (m : Found) (rest : Lis
 one_listed xs n x m rest inside is =
     sym (ap (λ l. l ++ rest) (ap (map found_at) (take_more_set xs n x inside) ∙ map-append found_at (take n xs) (x ∷ []) ∙ ap (λ y. map found_at (take n xs) ++ y ∷ []) is)
     ∙ append_assoc (map found_at (take n xs)) (m ∷ []) rest)
+
+-- before any match it goes on from where it is
+pub goes_on_none : (xs : List MatchAt) (from next : ℕ) (last after : Option ℕ) → next ≡ from → after ≡ last → GoesOn xs 0 from last next after
+goes_on_none xs from next last after begins ends = record {
+  none = λ _. (begins, ends);
+  some = λ k e. absurd (omega (arith, e));
+}
+
+-- after one match more it goes on from that one's end
+pub goes_on_more : (xs : List MatchAt) (n : ℕ) (x : MatchAt) (m : Found) (from : ℕ) (last : Option ℕ) (next end : ℕ) → n < length xs → found_at x ≡ m →
+    next ≡ m.end → end ≡ m.end → GoesOn (set xs n x) (n + 1) from last next (Some end)
+goes_on_more xs n x m from last next end inside is begins ends = record {
+  none = λ e. absurd (omega (arith, e));
+  some = λ k e. subst At (omega (arith, e)) (subst (λ o. IfSome o IsEnd) (sym there) (begins ∙ sym last_one, ap Some (ends ∙ sym last_one)));
+}
+  where
+    IsEnd : MatchAt → Type 0
+    IsEnd y = (next ≡ y.end) × (Some end ≡ Some y.end)
+
+    At : ℕ → Type 0
+    At i = IfSome (slice_get (set xs n x) i) IsEnd
+
+    there : slice_get (set xs n x) n ≡ Some x
+    there = slice_get-get_or (set xs n x) n x (omega (arith, inside, length-set xs n x)) ∙ ap Some (get_or-set_same xs n x x inside)
+
+    last_one : x.end ≡ m.end
+    last_one = ap (λ (f : Found). f.end) is
 
 -- what a list begins with
 abbrev first_in : List Found → Option Found

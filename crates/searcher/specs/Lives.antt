@@ -39,13 +39,13 @@ pub record IsKept (r : Regex) (edit : Edit) (text : List ℕ) (old new : Listed)
 abbrev pub IsEditDone : Regex → Edit → List ℕ → (old new : Option Listed) → Changed → Type 0
 IsEditDone r edit text old new c = MatchOption old ⊥ (λ l. MatchOption new ⊥ (λ m. IsKept r edit text l m c))
 
--- Why an edit failed, and what it left. Out of memory, the list is gone.
+-- Why an edit failed, and what it left: the first of these that applies. Out of memory, which comes where none does, the list is gone.
 abbrev pub IsEditFault : Edit → List (Bor (List ℕ)) → (old new : Option Listed) → ListFault → Type 0
 IsEditFault edit chunks old new NoList = (old ≡ None) × (new ≡ None)
 IsEditFault edit chunks old new Outside = MatchOption old ⊥ (λ l. ¬ IsWithin edit l) × (new ≡ old)
-IsEditFault edit chunks old new TooLong = IsTooLong chunks × (new ≡ old)
-IsEditFault edit chunks old new Misfit = MatchOption old ⊥ (λ l. ¬ IsAsLong edit (joined chunks) l) × (new ≡ old)
-IsEditFault edit chunks old new Memory = new ≡ None
+IsEditFault edit chunks old new TooLong = MatchOption old ⊥ (IsWithin edit) × IsTooLong chunks × (new ≡ old)
+IsEditFault edit chunks old new Misfit = MatchOption old ⊥ (λ l. IsWithin edit l × ¬ IsAsLong edit (joined chunks) l) × (¬ IsTooLong chunks) × (new ≡ old)
+IsEditFault edit chunks old new Memory = MatchOption old ⊥ (λ l. IsWithin edit l × IsAsLong edit (joined chunks) l) × (¬ IsTooLong chunks) × (new ≡ None)
 
 -- Why there is no new list, and what is left.
 abbrev pub IsListFault : List (Bor (List ℕ)) → (old new : Option Listed) → ListFault → Type 0
@@ -53,7 +53,7 @@ IsListFault chunks old new NoList = ⊥
 IsListFault chunks old new Outside = ⊥
 IsListFault chunks old new TooLong = IsTooLong chunks × (new ≡ old)
 IsListFault chunks old new Misfit = ⊥
-IsListFault chunks old new Memory = new ≡ None
+IsListFault chunks old new Memory = (¬ IsTooLong chunks) × (new ≡ None)
 
 -- The batch holds the first of the matches that touch the window, as many as `count`. If it isn't full, these are all.
 pub record IsWindow (l : Listed) (window : Span) (batch : List MatchAt) (count : ℕ) : Type 0 where

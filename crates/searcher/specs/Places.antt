@@ -1,5 +1,5 @@
 -- Matches and groups as numbers.
-use Rattle.std.specs.Prelude.{◌≡◌, ℕ, ◌<◌, ◌≤◌, ◌⊎◌, Bool, List, [], ◌++◌, length, map, take, slice_get, Option, Some, None}
+use Rattle.std.specs.Prelude.{◌≡◌, ℕ, ◌+◌, ◌<◌, ◌≤◌, ◌⊎◌, Bool, List, [], ◌++◌, length, map, take, slice_get, Option, Some, None, IfSome}
 use Rattle.rc_text.specs.Found.{Found}
 use Rattle.rc_text.specs.declared.types.Span.{Span}
 use Rattle.rc_pattern_set.specs.Sets.{Has}
@@ -19,6 +19,12 @@ pub record IsFilled (left_before left_now : List Found) (batch : List MatchAt) (
   pub within : count ≤ length batch
   pub listed : left_before ≡ map found_at (take count batch) ++ left_now
   pub over : count < length batch → left_now ≡ []
+
+-- Where an iteration goes on after a batch with so many matches: `from` and `next` are the places before and after it, and `last` and `after`
+-- are where the match before the place ended. It goes on from the end of the last match, or from where it was if there is none.
+pub record GoesOn (batch : List MatchAt) (count : ℕ) (from : ℕ) (last : Option ℕ) (next : ℕ) (after : Option ℕ) : Type 0 where
+  pub none : count ≡ 0 → (next ≡ from) × (after ≡ last)
+  pub some : (k : ℕ) → count ≡ k + 1 → IfSome (slice_get batch k) (λ m. (next ≡ m.end) × (after ≡ Some m.end))
 
 -- a span as a group
 abbrev pub group_of : Option Span → GroupAt

@@ -9,7 +9,7 @@ ghost use Rattle.rc_program.specs.Sought.{search_for};
 ghost use Rattle.rc_text.specs.Bounds.{IsWithinBounds};
 ghost use Rattle.rc_text.specs.Text.{Keeps, high};
 ghost use Rattle.searcher.specs.Last.{last_before};
-ghost use Rattle.searcher.specs.Places.{IsFilled};
+ghost use Rattle.searcher.specs.Places.{GoesOn, IsFilled};
 
 use crate::answers::MatchAt;
 use api_meta::cache::Cache;
@@ -129,6 +129,8 @@ pub(crate) fn fill<C: Cursor>(
         (matches_by_kind (regex_kind regex.now)
         (search_for (sought regex.now) input.old) result.from result.last)
         batch.new result.count }
+    ensures goes_on { GoesOn batch.new result.count input.old.span.start before
+        result.from result.last }
 {
     let mut last = before;
     for count in 0..batch.len() {

@@ -106,7 +106,7 @@ impl Searcher {
     ghost use Rattle.rc_text.specs.Joined.{joined};
     ghost use Rattle.searcher.specs.Answers.{IsBuilt, IsPartialIn, IsRefused, IsSame, IsShare, answer_at, answer_in, left_in, matches_in, search_in};
     ghost use Rattle.searcher.specs.Last.{last_before};
-    ghost use Rattle.searcher.specs.Places.{AreMarks, IsFilled};
+    ghost use Rattle.searcher.specs.Places.{AreMarks, GoesOn, IsFilled};
     ghost use Rattle.searcher.specs.Ranges.{IsFault, IsServed};
 
     /// Returns a searcher for the patterns with these texts, each in UTF-8. Its iteration is before
@@ -350,6 +350,8 @@ impl Searcher {
     ) -> Result<usize, Fault>
         ensures filled { IfOk result (IsFilled (left_in self.old (joined chunks.now) end)
             (left_in self.new (joined chunks.now) end) batch.new) }
+        ensures goes_on { IfOk result (λ count. GoesOn batch.new count self.old.from self.old.last
+            self.new.from self.new.last) }
         ensures served { OnOk result (IsServed chunks.now self.old.from end) }
         ensures fault { IfErr result (IsFault chunks.now self.old.from end) }
         ensures unfilled { OnErr result (batch.new ≡ batch.old) }

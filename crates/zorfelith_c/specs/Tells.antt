@@ -9,7 +9,7 @@ use Rattle.api_meta.specs.declared.partial.Partial.TheVariants.{Final, From}
 use Rattle.api_meta.specs.declared.regex.Regex.{Regex}
 use Rattle.searcher.specs.Answers.{IsPartialIn, IsSame, answer_at, answer_in, left_in, matches_in, search_in}
 use Rattle.searcher.specs.Last.{last_before}
-use Rattle.searcher.specs.Places.{AreGroups, AreMarks, IsFilled, found_at}
+use Rattle.searcher.specs.Places.{AreGroups, AreMarks, GoesOn, IsFilled, found_at}
 use Rattle.searcher.specs.Ranges.{IsFault, IsServed}
 use Rattle.searcher.specs.Searching.{Searching}
 use Rattle.searcher.specs.declared.answers.Fault.TheVariants.{Outside, TooLong}
@@ -74,6 +74,7 @@ LeavesGroups s chunks start end (suc (suc n)) old new t = (t ≡ Some s) × (new
 -- The batch holds the first of the matches that were left, and the others are left.
 pub record IsBatch (s : Searching) (text : List ℕ) (end : ℕ) (batch : List MatchAt) (p : Progress) (t : Searching) : Type 0 where
   pub filled : IsFilled (left_in s text end) (left_in t text end) batch p.count
+  pub goes_on : GoesOn batch p.count s.from s.last t.from t.last
   pub next : p.next ≡ t.from
   pub rest : t ≡ record s { from = t.from; last = t.last }
 

@@ -1,5 +1,5 @@
 //! Live lists: the matches of a text, kept under edits by a searcher.
-ghost use Rattle.std.specs.Prelude.{◌≡◌, IfErr, IfOk, MatchOption, filter, length};
+ghost use Rattle.std.specs.Prelude.{◌≡◌, IfErr, IfOk, MatchOption, OnOk, filter, length};
 ghost use Rattle.rc_text.specs.Joined.{IsTooLong, joined};
 ghost use Rattle.rc_text.specs.Text.{high};
 ghost use Rattle.live_matches.specs.Live.{IsWhole};
@@ -77,6 +77,7 @@ impl Searcher {
         ensures content { IfOk result (λ i. i.content ≡ joined chunks.now) }
         ensures within { OnOk result (IfSome self.now.live (IsWithin edit)) }
         ensures long { OnOk result (IfSome self.now.live (IsAsLong edit (joined chunks.now))) }
+        ensures fits { OnOk result (¬ IsTooLong chunks.now) }
         ensures fault { IfErr result
             (IsEditFault edit chunks.now self.now.live self.now.live) }
     {
@@ -110,6 +111,7 @@ fn whole_over<'a>(chunks: &'a [&'a [u8]]) -> Result<Input<ChunkCursor<'a>>, List
     ensures whole { IfOk result IsWhole }
     ensures content { IfOk result (λ i. i.content ≡ joined chunks.now) }
     ensures high { IfOk result (λ i. high i ≡ length (joined chunks.now)) }
+    ensures fits { OnOk result (¬ IsTooLong chunks.now) }
     ensures fault { IfErr result (λ e. e ≡ TooLong) }
     ensures long { IfErr result (λ _. IsTooLong chunks.now) }
 {

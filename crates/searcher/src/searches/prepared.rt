@@ -22,7 +22,7 @@ impl Searcher {
     ghost use Rattle.rc_pikevm_search.specs.Tells.{KeepsAll, TellsBy};
     ghost use Rattle.api_meta.specs.Views.{regex_kind, regex_names};
     ghost use Rattle.searcher.specs.Answers.{IsSame, answer_in, answer_over, left_in, search_in};
-    ghost use Rattle.searcher.specs.Places.{IsFilled};
+    ghost use Rattle.searcher.specs.Places.{GoesOn, IsFilled};
     ghost use Rattle.searcher.specs.Ranges.{IsFault, IsServed};
 
     /// Returns the match in the text that `find` returns, or `match_at` if the bounds are anchored.
@@ -71,6 +71,8 @@ impl Searcher {
     ) -> Result<usize, Fault>
         ensures filled { IfOk result (IsFilled (left_in self.old (joined text.now) end)
             (left_in self.new (joined text.now) end) batch.new) }
+        ensures goes_on { IfOk result (λ count. GoesOn batch.new count self.old.from self.old.last
+            self.new.from self.new.last) }
         ensures served { OnOk result (IsServed text.now self.old.from end) }
         ensures fault { IfErr result (IsFault text.now self.old.from end) }
         ensures unfilled { OnErr result (batch.new ≡ batch.old) }
@@ -146,6 +148,7 @@ impl Searcher {
         ensures content { IfOk result (λ i. i.content ≡ joined text.now) }
         ensures within { OnOk result (IfSome self.now.live (IsWithin edit)) }
         ensures long { OnOk result (IfSome self.now.live (IsAsLong edit (joined text.now))) }
+        ensures fits { OnOk result (¬ IsTooLong text.now) }
         ensures fault { IfErr result
             (IsEditFault edit text.now self.now.live self.now.live) }
     {
@@ -172,6 +175,7 @@ fn whole_over_text<'t>(text: &'t TextChunks<'t>) -> Result<Input<TextCursor<'t>>
     ensures whole { IfOk result IsWhole }
     ensures content { IfOk result (λ i. i.content ≡ joined text.now) }
     ensures high { IfOk result (λ i. high i ≡ length (joined text.now)) }
+    ensures fits { OnOk result (¬ IsTooLong text.now) }
     ensures fault { IfErr result (λ e. e ≡ TooLong) }
     ensures long { IfErr result (λ _. IsTooLong text.now) }
 {
