@@ -18,12 +18,14 @@ abbrev pub IsAsked : List ℕ → List ℕ → Type 0
 IsAsked settings text = IsKnown settings × IsUtf8 text
 
 -- The text is read as no pattern. The fault's span is a part of the text that splits no character, and characters that show some kind of fault.
+-- The words for it have at most 64 bytes.
 pub record IsFaulty (settings text : List ℕ) (fault : FaultAt) : Type 0 where
   pub asked : IsAsked settings text
   pub unread : IsUnread (syntax_in settings) (chars text)
   pub place : IsWithin (record { start = fault.start; end = fault.end }) text
   pub kind : FaultKind
   pub shown : IsShown (syntax_in settings).grammar (record { kind = kind; span = record { start = fault.start; end = fault.end } }) text
+  pub few : fault.len ≤ 64
 
 -- the words for the fault stand in the first bytes of their place
 abbrev pub IsWorded : FaultAt → List ℕ → Type 0

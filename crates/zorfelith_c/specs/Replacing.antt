@@ -27,12 +27,13 @@ pub record IsMade (r : Regex) (chunks : List (Bor (List ℕ))) (template text : 
   pub items : List Item
   pub read : IsReadAs items template
   pub kind : regex_kind r ≢ greatest_matches
+  pub fits : ¬ IsTooLong chunks
   pub made : text ≡ replaced_by r items (joined chunks)
   pub counted : count ≡ length (matches_of r (joined chunks))
 
 -- the replaced text stands in the first bytes of its place
 abbrev pub IsPut : Regex → List (Bor (List ℕ)) → List ℕ → List ℕ → Replaced → Type 0
-IsPut r chunks template place told = (told.len ≤ length place) × IsMade r chunks template (take told.len place) told.count
+IsPut r chunks template place told = (told.len ≤ length place) × (told.at ≡ 0) × IsMade r chunks template (take told.len place) told.count
 
 -- the replaced text is longer than its place
 pub record IsTooLongFor (r : Regex) (chunks : List (Bor (List ℕ))) (template place : List ℕ) (told : Replaced) : Type 0 where
@@ -40,6 +41,7 @@ pub record IsTooLongFor (r : Regex) (chunks : List (Bor (List ℕ))) (template p
   pub made : IsMade r chunks template text told.count
   pub needed : told.len ≡ length text
   pub longer : length place < told.len
+  pub at : told.at ≡ 0
 
 abbrev pub TellsReplaced : Regex → List (Bor (List ℕ)) → List ℕ → ℕ → List ℕ → Replaced → Type 0
 TellsReplaced r chunks template zero place told = IsPut r chunks template place told
@@ -79,7 +81,7 @@ pub record IsOneMade (r : Regex) (text : List ℕ) (start : ℕ) (template bytes
 
 -- the bytes stand in the first of their place
 abbrev pub IsOnePut : Regex → List ℕ → ℕ → List ℕ → List ℕ → Replacement → Type 0
-IsOnePut r text start template place told = (told.len ≤ length place) × IsOneMade r text start template (take told.len place) told.found
+IsOnePut r text start template place told = (told.len ≤ length place) × (told.at ≡ 0) × IsOneMade r text start template (take told.len place) told.found
 
 -- they are more than it has
 pub record IsOneTooLong (r : Regex) (text : List ℕ) (start : ℕ) (template place : List ℕ) (told : Replacement) : Type 0 where
@@ -87,6 +89,7 @@ pub record IsOneTooLong (r : Regex) (text : List ℕ) (start : ℕ) (template pl
   pub made : IsOneMade r text start template bytes told.found
   pub needed : told.len ≡ length bytes
   pub longer : length place < told.len
+  pub at : told.at ≡ 0
 
 -- one of these, whose status it is
 abbrev pub TellsOne : Regex → List (Bor (List ℕ)) → ℕ → List ℕ → ℕ → List ℕ → Replacement → Type 0

@@ -1,10 +1,12 @@
 //! Replacement: the matches of a text, or one of them, replaced by a template, written to a buffer
 //! that C lends.
 ghost use Rattle.std.specs.Prelude.{◌≡◌, ◌≢◌, MatchOption, MatchResult, None, length};
+ghost use Rattle.rc_text.specs.declared.types.MatchKind.TheVariants.{All as greatest_matches};
+ghost use Rattle.api_meta.specs.Views.{regex_kind};
 ghost use Rattle.chunk_replace.specs.Template.{IsReadAs, template_items};
 ghost use Rattle.searcher.specs.Answers.{IsSame};
 ghost use Rattle.zorfelith_c.specs.Replacing.{IsTextPut, IsUnparsed, TellsOne, TellsReplaced};
-ghost use Rattle.zorfelith_c.specs.Statuses.{done, empty, short, syntax};
+ghost use Rattle.zorfelith_c.specs.Statuses.{done, empty, no_kind, short, syntax};
 
 use crate::handle::Handle;
 use crate::status::{
@@ -104,6 +106,8 @@ pub extern "C" fn zf_replace(
     ensures unwritten { result ≢ done → place.new ≡ place.old }
     ensures untold { result ≢ done → result ≢ short → result ≢ syntax
         → replaced.new ≡ replaced.old }
+    ensures kind { MatchOption handle.old.held.value (Unit {0})
+        (λ s. regex_kind s.regex ≡ greatest_matches → result ≡ no_kind) }
     ensures kept { handle.new.held.value ≡ handle.old.held.value }
 {
     if !handle.is_full() {
@@ -129,6 +133,7 @@ fn put_replaced(
     ensures unwritten { result ≢ done → place.new ≡ place.old }
     ensures untold { result ≢ done → result ≢ short → result ≢ syntax
         → replaced.new ≡ replaced.old }
+    ensures kind { regex_kind regex.now ≡ greatest_matches → result ≡ no_kind }
 {
     if let MatchKind::All = regex.get_config().get_match_kind() {
         return NO_KIND;
@@ -221,6 +226,10 @@ pub extern "C" fn zf_replace_one(
     ensures unwritten { result ≢ 1 → place.new ≡ place.old }
     ensures untold { result ≢ 1 → result ≢ short → result ≢ syntax
         → replacement.new ≡ replacement.old }
+    ensures alone { result ≡ syntax
+        → replacement.new ≡ record replacement.old { at = replacement.new.at } }
+    ensures kind { MatchOption handle.old.held.value (Unit {0})
+        (λ s. regex_kind s.regex ≡ greatest_matches → result ≡ no_kind) }
     ensures kept { MatchOption handle.old.held.value (handle.new.held.value ≡ None)
         (λ s. MatchOption handle.new.held.value ⊥ (IsSame s)) }
 {
@@ -256,6 +265,9 @@ fn put_one(
     ensures unwritten { result ≢ 1 → place.new ≡ place.old }
     ensures untold { result ≢ 1 → result ≢ short → result ≢ syntax
         → replacement.new ≡ replacement.old }
+    ensures alone { result ≡ syntax
+        → replacement.new ≡ record replacement.old { at = replacement.new.at } }
+    ensures kind { regex_kind held.old.regex ≡ greatest_matches → result ≡ no_kind }
     ensures kept { IsSame held.old held.new }
 {
     if let MatchKind::All = held.regex().get_config().get_match_kind() {

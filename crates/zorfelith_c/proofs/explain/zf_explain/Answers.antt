@@ -23,6 +23,7 @@ returns-then-line-words-clause-answered c =
         place = search rules;
         kind = c.in-Some-explained.met.kind;
         shown = subst (λ q. IsShown q.grammar met c.args.pattern.now) same (search rules);
+        few = search rules;
       },
       c.if-line-words.true,
     )
@@ -44,6 +45,7 @@ returns-clause-answered c =
         place = search rules;
         kind = c.in-Some-explained.met.kind;
         shown = subst (λ q. IsShown q.grammar met c.args.pattern.now) same (search rules);
+        few = search rules;
       },
       (search rules, subst IsUtf8 (sym (ap (λ l. take (length line) (l ++ rest)) c.copy_from_slice.ensures.after ∙ take-append_seam line rest)) c.as_bytes-line.ensures.utf8),
     )

@@ -35,6 +35,7 @@ returns-then-put_bytes-eq-DONE c =
           groups.served,
           (
             omega (arith, len, put.2),
+            refl,
             subst (λ (b : List ℕ). IsOneMade r text c.args.start c.args.template.now b c.of.result) (sym (ap (λ n. take n place) len ∙ put.1)) made,
           ),
         )
@@ -42,6 +43,8 @@ returns-then-put_bytes-eq-DONE c =
       ];
       unwritten = λ no. absurd (no refl);
       untold = λ no _ _. absurd (no refl);
+      alone = λ e. absurd (omega (arith, e));
+      kind = λ e. absurd (free e);
       kept = groups.kept;
     }
 
@@ -72,10 +75,13 @@ returns c =
             made = made;
             needed = len;
             longer = omega (arith, len, more.1);
+            at = refl;
           },
         )))
       ];
       unwritten = λ _. c.put_bytes.ensures.unwritten c.if-put_bytes-eq-DONE.false;
       untold = λ _ no _. absurd (no refl);
+      alone = λ e. absurd (omega (arith, e));
+      kind = λ e. absurd (free e);
       kept = groups.kept;
     }
