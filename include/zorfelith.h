@@ -388,7 +388,7 @@ uint32_t zf_live_previous(struct zf_handle *handle, size_t place, struct zf_matc
 uint32_t zf_live_window(struct zf_handle *handle, size_t start, size_t end, struct zf_match *batch, size_t batch_len, size_t *count);
 
 /* Streams: a text that is still coming in, as from a pipe or a socket. A handle may keep one. The matches are those of zf_next from 0 on in the
- * whole text, and each is told as soon as nothing that follows can change it, once and in order, however the text was cut. What was told
+ * whole text, and each is told once it is known that nothing that follows can change it, once and in order, however the text was cut. What was told
  * is a beginning of the list of each text that the bytes fed so far may still become; once the stream is finished and zf_stream_next is
  * ZF_DONE, it is the list of the text that was fed. Places are those of the whole stream. It keeps the bytes that it may read again, which
  * are those of the match under way and some before, and has a cache of its own. All other calls leave it as it is, but for zf_compile and
