@@ -1,16 +1,16 @@
 -- Only proofs use this file.
 -- What is printed of whole lines that are all selected, or none of which is.
-use Rattle.std.proofs.Common.{ℕ, suc, ◌≡◌, ◌<◌, ◌≤◌, ◌+◌, ◌-◌, ◌∙◌, ◌++◌, ◌∷◌, [], ◌&&◌, Bool, false, true, List, Option, Some, None, IfSome, not, ap, ap₂, append_assoc, arith, cond, eq-eqb, refl, sym, subst, length, length-append, nat_lt, take, drop, get_or, get_or-drop, length-drop, length-take-le}
+use Rattle.std.proofs.Common.{ℕ, suc, ◌≡◌, ◌<◌, ◌≤◌, ◌+◌, ◌-◌, ◌∙◌, ◌++◌, ◌∷◌, [], ◌&&◌, Bool, false, true, List, Option, Some, None, IfSome, not, ap, ap₂, append_assoc, arith, cond, eq-eqb, refl, sym, subst, length, length-append, map, nat_lt, take, drop, get_or, get_or-drop, get_or-take, inl, inr, length-drop, length-take-le}
 use Rattle.std.specs.List.{filter, list_any}
 use Rattle.std.specs.Io.KnownBytes.{Consumes}
 use Rattle.std.specs.Prelude.{Vec}
 use Rattle.std.specs.declared.alloc.Global.{Global}
-use Rattle.std.proofs.lemmas.Bool.{lt-ltb}
-use Rattle.std.proofs.lemmas.List.{append-nil, get_or-append-add, take-append-drop, take_at, take_more}
+use Rattle.std.proofs.lemmas.Bool.{cases_lt, lt-ltb}
+use Rattle.std.proofs.lemmas.List.{append-nil, drop-drop, get_or-append-add, take-append-drop, take_at, take_more}
 use Rattle.std.proofs.lemmas.List.Elements.{filter-append}
 use Rattle.grep_lines.specs.Ahead.{Advances, Flushes, IsSound, Stands, ahead, ahead_of, contents, later, plain}
 use Rattle.grep_lines.specs.Blocks.{AdvancesBy, IsAtEnd, IsBlock, IsPrinting, IsTaking, TakesFront, TakesLines, is_unlike, marked_as, selected_in}
-use Rattle.grep_lines.specs.Context.{IfRead, Marked, Part, Prints, gap, is_selected, line_of, marked, printed, selected_count, selected_parts, separated, separator}
+use Rattle.grep_lines.specs.Context.{IfRead, Marked, Part, Prints, gap, is_selected, line_of, marked, printed, selected_count, selected_parts, separated, separator, size_of as bytes_of}
 use Rattle.grep_lines.specs.Lines.{lines}
 use Rattle.grep_lines.specs.Pages.{IsWhole}
 use Rattle.grep_lines.specs.Selected.{TakesLine}
@@ -19,7 +19,7 @@ use Rattle.grep_lines.specs.declared.context.Extent.{Extent}
 use Rattle.grep_lines.specs.declared.context.PrintError.{PrintError}
 use Rattle.grep_lines.specs.declared.context.PrintError.TheVariants.{Print, Read}
 use Rattle.grep_lines.specs.declared.context.Progress.{Progress}
-use Rattle.grep_lines.proofs.ContextLemmas.{ahead_selected, later_no, marked_anywhere, prints_both, prints_none}
+use Rattle.grep_lines.proofs.ContextLemmas.{ahead_selected, ahead_skipped, contents_length, marked_anywhere, prints_both, prints_none}
 use Rattle.grep_lines.proofs.LineLemmas.{HasNo, lines_cut}
 use Rattle.grep_lines.proofs.PageLemmas.{lines_append, some_lines}
 use Rattle.grep_lines.proofs.StandsLemmas.{told_at_end}
@@ -92,21 +92,6 @@ selected_of false (l ∷ ls) = selected_of false ls
 -- ---- what is to be printed yet, behind them
 
 module _ (e : Extent) where
-  -- lines that aren't context are passed over
-  later_passed : e.before ≡ 0 → (n p : ℕ) (ls : List (List ℕ)) (rest : List Marked) →
-      later e 0 n p (marked_as false ls ++ rest) ≡ later e 0 (n + length ls) (p + size_of ls) rest
-  unfolding size_of
-  later_passed none n p [] rest = ap₂ (λ i j. later e 0 i j rest) (omega arith) (omega arith)
-  later_passed none n p (l ∷ ls) rest =
-      later_no e 0 n p (plain l) (marked_as false ls ++ rest) (ap (λ k. list_any is_selected (take k (marked_as false ls ++ rest))) none)
-      ∙ later_passed none (n + 1) (p + length l + 1) ls rest ∙ ap₂ (λ i j. later e 0 i j rest) (omega arith) (omega arith)
-
-  pub ahead_passed : (behind : Option ℕ) (n p : ℕ) (stop : ℕ) (text : List ℕ) (rest : List Marked) → e.before ≡ 0 → IsWhole stop text →
-      ahead_of e behind 0 n p [] (marked_as false (lines stop text) ++ rest) ≡ ahead_of e behind 0 (n + length (lines stop text)) (p + length text) [] rest
-  ahead_passed behind n p stop text rest none w =
-      ap (separated behind)
-      (later_passed none n p (lines stop text) rest ∙ ap (λ j. later e 0 (n + length (lines stop text)) j rest) (ap (λ k. p + k) (sym (whole_size stop text w))))
-
   gap_none : (n : ℕ) → gap (Some n) n ≡ []
   gap_none n = ap (λ b. cond b [] (separator ∷ [])) (eq-eqb n n refl)
 
@@ -158,6 +143,33 @@ first_cut stop xs end within free is =
     (sym (take-append-drop (end + 1) xs) ∙ ap (λ ys. ys ++ drop (end + 1) xs) (take_more xs end 0 within ∙ ap (λ x. take end xs ++ x ∷ []) is)
     ∙ append_assoc (take end xs) (stop ∷ []) (drop (end + 1) xs))
     ∙ lines_cut stop (take end xs) (drop (end + 1) xs) free
+
+-- a line ends where the next one begins
+pub line_back : (stop : ℕ) (text : List ℕ) (end from : ℕ) → end ≤ length text → 0 < end → IsWhole stop (take end text) → from < end →
+    ((k : ℕ) → from ≤ k → k < end - 1 → get_or text k 0 ≡ stop → ⊥) → length (lines stop (drop from text)) ≡ length (lines stop (drop end text)) + 1
+line_back stop text end from within some w order none =
+    let xs = drop from text in
+    let n = end - 1 - from in
+    let size : length xs ≡ length text - from = length-drop from text in
+    let near : n < length xs = omega (arith, size, order, within) in
+    let sized : length (take n xs) ≡ n = length-take-le n xs (omega (arith, near)) in
+    let ended : get_or text (end - 1) 0 ≡ stop =
+    sym (get_or-take end text (end - 1) 0 (omega (arith, some))) ∙ w (end - 1) (omega (arith, some, length-take-le end text within)) in
+    let free : HasNo stop (take n xs) = λ k lt e.
+    none (from + k) (omega arith) (omega (arith, lt, sized)) (sym (get_or-drop from text k 0) ∙ sym (get_or-take n xs k 0 (omega (arith, lt, sized))) ∙ e) in
+    let is : get_or xs n 0 ≡ stop = get_or-drop from text n 0 ∙ ap (λ k. get_or text k 0) (omega (arith, order)) ∙ ended in
+    let next : drop (n + 1) xs ≡ drop end text = drop-drop (n + 1) from text ∙ ap (λ k. drop k text) (omega (arith, order)) in
+    ap length (first_cut stop xs n near free is ∙ ap (λ ys. take n xs ∷ lines stop ys) next) ∙ omega arith
+
+-- where lines are left, some bytes are
+pub some_before : (stop : ℕ) (text : List ℕ) (end count most : ℕ) → length (lines stop (drop end text)) ≡ count → count < most → most ≤ length (lines stop text) → 0 < end
+some_before stop text end count most counted few many =
+    elim (cases_lt 0 end) [
+      | inl some ↦ some
+      | inr none ↦
+          let empty : end ≡ 0 = omega (arith, none) in
+          absurd (omega (arith, few, many, subst (λ n. length (lines stop (drop n text)) ≡ count) empty counted))
+    ]
 
 -- where no line ends there is none
 pub whole_none : (stop : ℕ) (xs : List ℕ) → IsWhole stop xs → ((k : ℕ) → k < length xs → get_or xs k 0 ≡ stop → ⊥) → xs ≡ []
@@ -247,30 +259,40 @@ module _ (stop : ℕ) (e : Extent) (picks : List ℕ → Bool) where
 
 -- ---- from one step to the next
 
+size_plain : (ls : List (List ℕ)) → size_of ls ≡ bytes_of (map plain ls)
+unfolding size_of
+size_plain [] = refl
+size_plain (l ∷ ls) = ap (λ n. length l + 1 + n) (size_plain ls)
+
 marked_append : (b : Bool) (ls ks : List (List ℕ)) → marked_as b (ls ++ ks) ≡ marked_as b ls ++ marked_as b ks
 marked_append b [] ks = refl
 marked_append b (l ∷ ls) ks = ap (λ (ms : List Marked). record { line = l; selected = b } ∷ ms) (marked_append b ls ks)
 
 module _ (e : Extent) where
-  -- lines were passed over
-  pub advances_passed : (p : Progress) (count : ℕ) (stop : ℕ) (text : List ℕ) (o : Option (List Part)) → e.before ≡ 0 → IsSound e p → p.left ≡ 0 → IsWhole stop text →
-      count ≡ length (lines stop text) → AdvancesBy e p (record p { next = p.next + count; place = p.place + length text }) o o (marked_as false (lines stop text))
-  advances_passed p count stop text o none sound idle w is = (
+  -- the last lines were kept, and the others passed over
+  pub advances_kept : (p q : Progress) (stop : ℕ) (text : List ℕ) (end : ℕ) (o : Option (List Part)) → p.left ≡ 0 → q.left ≡ p.left → q.behind ≡ p.behind →
+      IsWhole stop (take end text) → e.before ≤ length (lines stop (drop end text)) → q.next ≡ p.next + length p.kept.items + length (lines stop (take end text)) →
+      q.place ≡ p.place + bytes_of (map plain (contents p.kept.items)) + length (take end text) → contents q.kept.items ≡ lines stop (drop end text) →
+      AdvancesBy e p q o o (marked_as false (lines stop text))
+  advances_kept p q stop text end o idle left behind w few next place kept = (
     [],
     prints_none o,
     λ rest.
-        ap₂ (λ (left : ℕ) (vs : List (Vec ℕ Global)). ahead_of e p.behind left p.next p.place (contents vs) (marked_as false (lines stop text) ++ rest)) idle kept
-        ∙ ahead_passed e p.behind p.next p.place stop text rest none w
-        ∙ ap (λ n. ahead_of e p.behind 0 (p.next + n) (p.place + length text) [] rest) (sym is)
-        ∙ sym (ap₂ (λ (left : ℕ) (vs : List (Vec ℕ Global)). ahead_of e p.behind left (p.next + count) (p.place + length text) (contents vs) rest) idle kept),
+        let front = take end text in
+        let back = drop end text in
+        let ls = lines stop front in
+        let ks = lines stop back in
+        let split : lines stop text ≡ ls ++ ks = ap (lines stop) (sym (take-append-drop end text)) ∙ lines_append stop front back w in
+        let size : length front ≡ bytes_of (map plain ls) = whole_size stop front w ∙ size_plain ls in
+        ap (λ xs. ahead e p (marked_as false xs ++ rest)) split
+        ∙ ap (λ ms. ahead e p (ms ++ rest)) (marked_append false ls ks)
+        ∙ ap (ahead e p) (append_assoc (marked_as false ls) (marked_as false ks) rest)
+        ∙ ap (λ n. ahead_of e p.behind n p.next p.place (contents p.kept.items) (map plain ls ++ (map plain ks ++ rest))) idle
+        ∙ ahead_skipped e p.behind p.next p.place (contents p.kept.items) ls ks rest few
+        ∙ ap₂ (λ i j. ahead_of e p.behind 0 i j ks rest) (omega (arith, next, contents_length p.kept.items)) (omega (arith, place, size))
+        ∙ ap₂ (λ b n. ahead_of e b n q.next q.place ks rest) (sym behind) (sym (left ∙ idle))
+        ∙ ap (λ xs. ahead_of e q.behind q.left q.next q.place xs rest) (sym kept),
   )
-    where
-      kept : p.kept.items ≡ []
-      kept = none_of p.kept.items (omega (arith, sound.within, none))
-        where
-          none_of : (vs : List (Vec ℕ Global)) → length vs ≤ 0 → vs ≡ []
-          none_of [] few = refl
-          none_of (v ∷ vs) few = absurd (omega (arith, few))
 
   -- selected lines were printed
   pub advances_printed : (p : Progress) (count : ℕ) (stop : ℕ) (text : List ℕ) (a b : Option (List Part)) → p.kept.items ≡ [] → 0 < count → IsWhole stop text →

@@ -57,6 +57,20 @@ none_within zero ls rest e = refl
 none_within (suc n) [] rest e = absurd (omega (arith, e))
 none_within (suc n) (l ∷ ls) rest e = none_within n ls rest (omega (arith, e))
 
+none_before : (n : ℕ) (ls ks : List (List ℕ)) (rest : List Marked) → n ≤ length ks → list_any is_selected (take n (map plain ls ++ (map plain ks ++ rest))) ≡ false
+none_before zero ls ks rest few = refl
+none_before (suc n) [] [] rest few = absurd (omega (arith, few))
+none_before (suc n) [] (k ∷ ks) rest few = none_before n [] ks rest (omega (arith, few))
+none_before (suc n) (l ∷ ls) ks rest few = none_before n ls ks rest (omega (arith, few))
+
+plains_both : (ks ls : List (List ℕ)) (rest : List Marked) → map plain ks ++ (map plain ls ++ rest) ≡ map plain (ks ++ ls) ++ rest
+plains_both [] ls rest = refl
+plains_both (k ∷ ks) ls rest = ap (λ ms. plain k ∷ ms) (plains_both ks ls rest)
+
+size_both : (ks ls : List (List ℕ)) → size_of (map plain (ks ++ ls)) ≡ size_of (map plain ks) + size_of (map plain ls)
+size_both [] ls = omega arith
+size_both (k ∷ ks) ls = ap (λ n. length k + 1 + n) (size_both ks ls) ∙ omega arith
+
 one_within : (n : ℕ) (ls : List (List ℕ)) (m : Marked) (rest : List Marked) → length ls < n → m.selected ≡ true →
     list_any is_selected (take n (map plain ls ++ m ∷ rest)) ≡ true
 one_within zero ls m rest lt h = absurd (omega (arith, lt))
@@ -106,6 +120,15 @@ module _ (e : Extent) where
   pub later_kept : (n p : ℕ) (l : List ℕ) (ls : List (List ℕ)) (m : Marked) (rest : List Marked) → length ls < e.before → m.selected ≡ true →
       later e 0 n p (plain l ∷ (map plain ls ++ m ∷ rest)) ≡ item n p (plain l) ∷ later e 0 (n + 1) (p + length l + 1) (map plain ls ++ m ∷ rest)
   later_kept n p l ls m rest size h = later_yes 0 n p (plain l) (map plain ls ++ m ∷ rest) (one_within e.before ls m rest size h)
+
+  -- lines aren't, if as many as may be context follow of which none is selected
+  later_skipped : (n p : ℕ) (ls ks : List (List ℕ)) (rest : List Marked) → e.before ≤ length ks →
+      later e 0 n p (map plain ls ++ (map plain ks ++ rest)) ≡ later e 0 (n + length ls) (p + size_of (map plain ls)) (map plain ks ++ rest)
+  later_skipped n p [] ks rest few = ap₂ (λ i j. later e 0 i j (map plain ks ++ rest)) (omega arith) (omega arith)
+  later_skipped n p (l ∷ ls) ks rest few =
+      later_no 0 n p (plain l) (map plain ls ++ (map plain ks ++ rest)) (none_before e.before ls ks rest few)
+      ∙ later_skipped (n + 1) (p + length l + 1) ls ks rest few
+      ∙ ap₂ (λ i j. later e 0 i j (map plain ks ++ rest)) (omega arith) (omega arith)
 
   -- the lines that are context of the last selected line
   left_of : List Marked → ℕ
@@ -158,7 +181,7 @@ pub contents_length : (vs : List (Vec ℕ Global)) → length (contents vs) ≡ 
 contents_length [] = refl
 contents_length (v ∷ vs) = ap suc (contents_length vs)
 
-contents_more : (vs : List (Vec ℕ Global)) (v : Vec ℕ Global) → contents (vs ++ v ∷ []) ≡ contents vs ++ v.items ∷ []
+pub contents_more : (vs : List (Vec ℕ Global)) (v : Vec ℕ Global) → contents (vs ++ v ∷ []) ≡ contents vs ++ v.items ∷ []
 contents_more [] v = refl
 contents_more (w ∷ vs) v = ap (λ ls. w.items ∷ ls) (contents_more vs v)
 
@@ -213,6 +236,15 @@ module _ (e : Extent) (behind : Option ℕ) where
       subst Goal (sym none)
       (ahead_more 0 n p (contents kept) v.items rest ∙ ap (λ ls. ahead_of e behind 0 n p ls rest) (sym (contents_more kept v) ∙ ap contents is)
       ∙ ap (separated behind) (later_dropped e n p oldest.items (contents popped) rest size))
+
+  -- the last lines are kept, and the others aren't
+  pub ahead_skipped : (n p : ℕ) (kept ls ks : List (List ℕ)) (rest : List Marked) → e.before ≤ length ks →
+      ahead_of e behind 0 n p kept (map plain ls ++ (map plain ks ++ rest))
+      ≡ ahead_of e behind 0 (n + length kept + length ls) (p + size_of (map plain kept) + size_of (map plain ls)) ks rest
+  ahead_skipped n p kept ls ks rest few =
+      ap (separated behind)
+      (ap (later e 0 n p) (plains_both kept ls (map plain ks ++ rest)) ∙ later_skipped e n p (kept ++ ls) ks rest few
+      ∙ ap₂ (λ i j. later e 0 i j (map plain ks ++ rest)) (omega (arith, length-append kept ls)) (omega (arith, size_both kept ls)))
 
   -- nothing is printed any more
   pub ahead_none : (n p : ℕ) (ls : List (List ℕ)) (ms : List Marked) → list_any is_selected ms ≡ false → ahead_of e behind 0 n p ls ms ≡ []

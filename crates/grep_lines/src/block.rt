@@ -47,6 +47,7 @@ fn whole_line<'p, S: LineSelector>(selector: &mut S, terminator: u8, text: &'p [
 
 /// The first lines of a page: a block, and a line behind it. Either may lack. No more than `most` of
 /// the lines are selected.
+#[inline(always)]
 pub(crate) fn first_lines<'p, S: LineSelector>(
     selector: &mut S,
     terminator: u8,

@@ -89,7 +89,7 @@ pub enum PrintError {
 /// How far the lines were read and printed.
 #[derive(Drop)]
 pub(crate) struct Progress {
-    alloc: Global,
+    pub(crate) alloc: Global,
     /// The lines before the next one that are printed if a line soon after them is selected.
     pub(crate) kept: VecDeque<Vec<u8>>,
     /// The number of the first of them, or of the next line.
@@ -159,6 +159,7 @@ impl Progress {
     }
 
     /// Prints the lines that are kept, before a selected line.
+    #[inline(always)]
     pub(crate) fn print_kept<S: LineSelector, P: LinePrinter<S>>(
         &mut self,
         selector: &mut S,

@@ -1,7 +1,8 @@
 //! Page scan: the whole lines at the beginning of a page.
-ghost use Rattle.std.specs.Prelude.{◌≡◌, ◌≤◌, length};
+ghost use Rattle.std.specs.Prelude.{◌≡◌, ◌≤◌, drop, length, take};
 ghost use Rattle.std.specs.List.{filter};
-ghost use Rattle.grep_lines.specs.Pages.{AreLinesBefore, ends_line};
+ghost use Rattle.grep_lines.specs.Lines.{lines};
+ghost use Rattle.grep_lines.specs.Pages.{AreLinesBefore, IsWhole, ends_line};
 
 use memchr::memrchr;
 
@@ -47,4 +48,23 @@ pub fn lines_before(page: &[u8], terminator: u8, place: usize) -> (usize, u64)
     };
     let end = last + 1;
     (end, count_terminators(&page[..end], terminator))
+}
+
+/// Where the last lines of whole ones begin, as many as `count`.
+#[inline(always)]
+pub(crate) fn last_lines(text: &[u8], terminator: u8, count: usize) -> usize
+    requires whole { IsWhole terminator text.now }
+    requires many { count ≤ length (lines terminator text.now) }
+    ensures within { result ≤ length text.now }
+    ensures whole { IsWhole terminator (take result text.now) }
+    ensures counted { length (lines terminator (drop result text.now)) ≡ count }
+{
+    let mut end = text.len();
+    for _ in 0..count {
+        end = match memrchr(terminator, &text[..end - 1]) {
+            Some(last) => last + 1,
+            None => 0,
+        };
+    }
+    end
 }

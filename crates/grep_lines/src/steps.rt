@@ -1,14 +1,16 @@
 //! Steps: the next lines of a reader, blocks of its page where that is possible, are printed or kept.
-ghost use Rattle.std.specs.Prelude.{◌≡◌, ◌≤◌, ◌<◌, ◌+◌, ◌-◌, ◌^◌, ◌∷◌, [], IfErr, IfOk, IfSome, IsTrue, List, MatchOption, OnOk, Option, length, nat_lt, take, true, false, ◌&&◌};
-ghost use Rattle.grep_lines.specs.Ahead.{IsPlaced, IsSound};
+ghost use Rattle.std.specs.Prelude.{◌≡◌, ◌≤◌, ◌<◌, ◌+◌, ◌-◌, ◌^◌, ◌++◌, ◌∷◌, [], IfErr, IfOk, IfSome, IsTrue, List, MatchOption, OnOk, Option, length, map, nat_lt, take, true, false, ◌&&◌};
+ghost use Rattle.std.specs.IoError.{error_kind};
+ghost use Rattle.grep_lines.specs.Ahead.{IsPlaced, IsSound, contents, plain};
 ghost use Rattle.grep_lines.specs.Blocks.{AdvancesBy, IsAtEnd, IsBlock, IsUntaken, TakesFront, TakesLines, marked_as, selected_in};
 ghost use Rattle.std.specs.Io.KnownBytes.{Keeps};
-ghost use Rattle.grep_lines.specs.Context.{IfPrint, IfRead, IsPrintFault, Part, Prints, selected_parts};
+ghost use Rattle.grep_lines.specs.Context.{IfPrint, IfRead, IsPrintFault, Part, Prints, selected_parts, size_of};
 ghost use Rattle.grep_lines.specs.Lines.{lines};
 ghost use Rattle.grep_lines.specs.Pages.{IsWhole};
 
 use crate::block::{Block, first_lines};
 use crate::context::{Extent, LinePrinter, PrintError, Progress};
+use crate::pages::last_lines;
 use crate::select::{LineSelector, next_line};
 use memchr::memchr;
 use std::io;
@@ -40,6 +42,7 @@ fn selects_more<S: LineSelector>(selector: &mut S, line: &[u8], count: u64, most
 
 /// Prints selected lines, one behind another, each with its terminator. The first one has this
 /// number, and begins at this place of the text.
+#[inline(always)]
 fn print_each<S: LineSelector, P: LinePrinter<S>>(
     selector: &mut S,
     printer: &mut P,
@@ -82,29 +85,77 @@ impl Progress {
         }
     }
 
-    /// Passes over whole lines of which none is selected, and none is context.
-    fn pass(&mut self, extent: Extent, terminator: u8, text: &[u8], count: u64)
+    /// Passes over the lines that are kept, and over so many whole lines behind them.
+    #[inline(always)]
+    fn pass(&mut self, text: &[u8], count: u64)
         requires some { 0 < count }
-        requires counted { count ≡ length (lines terminator text.now) }
-        requires whole { IsWhole terminator text.now }
         requires fits { self.old.next + length self.old.kept.items + count < 2 ^ 64 }
-        requires sound { IsSound extent self.old }
         requires placed { IsPlaced self.old }
-        requires idle { self.old.left ≡ 0 }
-        requires none_before { extent.before ≡ 0 }
-        ensures ok { (printed : Option (List Part)) → AdvancesBy extent self.old self.new printed printed
-            (marked_as false (lines terminator text.now)) }
-        ensures sound { IsSound extent self.new }
+        ensures none_kept { self.new.kept.items ≡ [] }
+        ensures next { self.new.next ≡ self.old.next + length self.old.kept.items + count }
+        ensures place { self.new.place ≡ self.old.place
+            + size_of (map plain (contents self.old.kept.items)) + length text.now }
+        ensures left { self.new.left ≡ self.old.left }
+        ensures behind { self.new.behind ≡ self.old.behind }
         ensures placed { IsPlaced self.new }
-        ensures next { self.new.next + length self.new.kept.items
-            ≡ self.old.next + length self.old.kept.items + count }
     {
+        while let Some(line) = self.kept.pop_front() {
+            self.place += line.len() as u128 + 1;
+            self.next += 1;
+        }
         self.next += count;
         self.place += text.len() as u128;
     }
 
-    /// Takes whole lines of which none is selected.
-    fn take_unselected<S: LineSelector, P: LinePrinter<S>>(
+    /// Keeps whole lines of which none is selected, behind those that are kept.
+    #[inline(always)]
+    fn keep_each(&mut self, terminator: u8, text: &[u8]) -> io::Result<()>
+        requires whole { IsWhole terminator text.now }
+        ensures kept { OnOk result (contents self.new.kept.items
+            ≡ contents self.old.kept.items ++ lines terminator text.now) }
+        ensures next { self.new.next ≡ self.old.next }
+        ensures place { self.new.place ≡ self.old.place }
+        ensures left { self.new.left ≡ self.old.left }
+        ensures behind { self.new.behind ≡ self.old.behind }
+        ensures failed { IfErr result (λ e. error_kind e ≡ ErrorKind.OutOfMemory) }
+    {
+        let mut left = text;
+        while let Some(end) = memchr(terminator, left) {
+            let line = Vec::from_slice(self.alloc, &left[..end])?;
+            self.kept.push_back(line)?;
+            left = &left[end + 1..];
+        }
+        Ok(())
+    }
+
+    /// Keeps the last ones of whole lines of which none is selected, and none is context of a line
+    /// before, and passes over the others. There are more of them than are kept.
+    #[inline(always)]
+    fn keep_last(&mut self, plan: Plan, text: &[u8], count: u64) -> io::Result<()>
+        requires counted { count ≡ length (lines plan.terminator text.now) }
+        requires whole { IsWhole plan.terminator text.now }
+        requires fits { self.old.next + length self.old.kept.items + count < 2 ^ 64 }
+        requires placed { IsPlaced self.old }
+        requires idle { self.old.left ≡ 0 }
+        requires many { plan.extent.before < count }
+        ensures ok { OnOk result ((printed : Option (List Part)) → AdvancesBy plan.extent
+            self.old self.new printed printed (marked_as false (lines plan.terminator text.now))) }
+        ensures sound { OnOk result (IsSound plan.extent self.new) }
+        ensures placed { OnOk result (IsPlaced self.new) }
+        ensures next { OnOk result (self.new.next + length self.new.kept.items
+            ≡ self.old.next + length self.old.kept.items + count) }
+        ensures failed { IfErr result (λ e. error_kind e ≡ ErrorKind.OutOfMemory) }
+    {
+        let end = last_lines(text, plan.terminator, plan.extent.before);
+        self.pass(&text[..end], count - plan.extent.before as u64);
+        self.keep_each(plan.terminator, &text[end..])?;
+        Ok(())
+    }
+
+    /// Takes whole lines of which none is selected, one by one, as far as they are context
+    /// or few.
+    #[inline(never)]
+    fn take_each<S: LineSelector, P: LinePrinter<S>>(
         &mut self,
         selector: &mut S,
         printer: &mut P,
@@ -130,8 +181,8 @@ impl Progress {
         let mut left = text;
         let mut rest = count;
         while let Some(end) = memchr(plan.terminator, left) {
-            if self.left == 0 && plan.extent.before == 0 {
-                self.pass(plan.extent, plan.terminator, left, rest);
+            if self.left == 0 && rest > plan.extent.before as u64 {
+                self.keep_last(plan, left, rest)?;
                 return Ok(());
             }
             line.clear();
@@ -143,7 +194,40 @@ impl Progress {
         Ok(())
     }
 
+    /// Takes whole lines of which none is selected.
+    #[inline(always)]
+    fn take_unselected<S: LineSelector, P: LinePrinter<S>>(
+        &mut self,
+        selector: &mut S,
+        printer: &mut P,
+        plan: Plan,
+        text: &[u8],
+        count: u64,
+        line: &mut Vec<u8>,
+    ) -> io::Result<()>
+        requires counted { count ≡ length (lines plan.terminator text.now) }
+        requires whole { IsWhole plan.terminator text.now }
+        requires fits { self.old.next + length self.old.kept.items + count < 2 ^ 64 }
+        requires sound { IsSound plan.extent self.old }
+        requires placed { IsPlaced self.old }
+        ensures ok { OnOk result (AdvancesBy plan.extent self.old self.new (P.printed printer.old)
+            (P.printed printer.new) (marked_as false (lines plan.terminator text.now))) }
+        ensures sound { OnOk result (IsSound plan.extent self.new) }
+        ensures placed { OnOk result (IsPlaced self.new) }
+        ensures next { OnOk result (self.new.next + length self.new.kept.items
+            ≡ self.old.next + length self.old.kept.items + count) }
+        ensures failed { IfErr result (IsPrintFault P.fails_by) }
+        ensures same { S.selects selector.new ≡ S.selects selector.old }
+    {
+        if self.left == 0 && count > plan.extent.before as u64 {
+            self.keep_last(plan, text, count)?;
+            return Ok(());
+        }
+        self.take_each(selector, printer, plan, text, count, line)
+    }
+
     /// Prints selected lines, behind a separator if they don't touch the last one.
+    #[inline(always)]
     fn print_block<S: LineSelector, P: LinePrinter<S>>(
         &mut self,
         selector: &mut S,
@@ -187,6 +271,7 @@ impl Progress {
     }
 
     /// Takes a block of lines.
+    #[inline(always)]
     pub(crate) fn take_block<S: LineSelector, P: LinePrinter<S>>(
         &mut self,
         selector: &mut S,
@@ -210,11 +295,11 @@ impl Progress {
         ensures failed { IfErr result (IsPrintFault P.fails_by) }
         ensures same { S.selects selector.new ≡ S.selects selector.old }
     {
-        if !block.is_selected {
-            self.take_unselected(selector, printer, plan, block.text, block.count, line)?;
+        if block.count == 0 {
             return Ok(());
         }
-        if block.count == 0 {
+        if !block.is_selected {
+            self.take_unselected(selector, printer, plan, block.text, block.count, line)?;
             return Ok(());
         }
         self.print_kept(selector, printer, plan.extent)?;
@@ -224,6 +309,7 @@ impl Progress {
 
     /// Takes the first lines of a page that are whole in it, behind `count` selected lines. It is
     /// `None` if nothing was taken.
+    #[inline(always)]
     fn take_page<S: LineSelector, P: LinePrinter<S>>(
         &mut self,
         selector: &mut S,
@@ -266,6 +352,7 @@ impl Progress {
 
     /// Takes the next lines of a reader that are whole in its page, behind `count` selected lines.
     /// Returns how many of them are selected, or `None` if nothing was taken.
+    #[inline(always)]
     fn take_buffered<R: BufRead, S: LineSelector, P: LinePrinter<S>>(
         &mut self,
         reader: &mut R,
@@ -351,6 +438,7 @@ impl Progress {
 
     /// Takes the next lines of a reader, behind `count` selected lines: those that are whole in its
     /// page, or one. Returns how many of them are selected, or `None` at the end.
+    #[inline(always)]
     pub(crate) fn step<R: BufRead, S: LineSelector, P: LinePrinter<S>>(
         &mut self,
         reader: &mut R,

@@ -5,7 +5,7 @@ use Rattle.grep_lines.specs.Blocks.{IsTaking}
 use Rattle.grep_lines.specs.Lines.{lines}
 use Rattle.grep_lines.proofs.AdvanceLemmas.{first_cut, some_lines_in, taking_all, taking_first, taking_more, taking_none}
 use Rattle.grep_lines.proofs.LineLemmas.{HasNo}
-use Rattle.grep_lines.proofs.context.Progress.take_unselected.Goals as goal
+use Rattle.grep_lines.proofs.context.Progress.take_each.Goals as goal
 
 pub loop-end-init : goal.loop-end-init
 loop-end-init g c = record {
@@ -72,12 +72,12 @@ overflow_sub-rest g c =
     let some : 0 < length (lines c.args.plan.terminator c.loop-end.left.now) = some_lines_in c.args.plan.terminator c.loop-end.left.now (omega (arith, c.in-Some.ensures.0.high)) in
     omega (arith, some, c.loop-end.invariant.counted)
 
--- the others are passed over
-pub returns-then-plan-eq0-clause-ok : goal.returns-then-plan-eq0-clause-ok
-returns-then-plan-eq0-clause-ok g c =
+-- the last ones of the others are kept
+pub returns-then-rest-plan-clause-ok : goal.returns-then-rest-plan-clause-ok
+returns-then-rest-plan-clause-ok g c =
     let now = g.P.LinePrinter.printed c.loop-end.printer in
     taking_all c.args.plan.extent c.args.plan.terminator c.args.self.now c.loop-end.self (g.P.LinePrinter.printed c.args.printer.now) now c.args.text.now c.loop-end.left.now
-    c.pass.new.self now c.loop-end.invariant.taking (c.pass.ensures.ok now)
+    c.keep_last.new.self now c.loop-end.invariant.taking (c.in_ok-keep_last.ensures.ok now)
 
 -- none is left
 pub returns-clause-ok : goal.returns-clause-ok

@@ -2,7 +2,7 @@ use Rattle.std.proofs.Common.{◌≡◌, ◌+◌, length}
 use Rattle.grep_lines.specs.Ahead.{IsPlaced, IsSound}
 use Rattle.grep_lines.specs.Blocks.{IsTaking}
 use Rattle.grep_lines.specs.Lines.{lines}
-use Rattle.grep_lines.proofs.context.Progress.take_unselected.Given as goal
+use Rattle.grep_lines.proofs.context.Progress.take_each.Given as goal
 
 -- the lines so far were taken
 abbrev pub invariant-loop-end : goal.invariant-loop-end
