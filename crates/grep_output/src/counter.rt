@@ -20,6 +20,13 @@ impl<W: Write + Drop> Write for Counter<W> {
         Ok(taken)
     }
 
+    #[inline(always)]
+    fn write_all(&mut self, bytes: &[u8]) -> io::Result<()> {
+        self.inner.write_all(bytes)?;
+        self.count = self.count.saturating_add(bytes.len() as u64);
+        Ok(())
+    }
+
     fn flush(&mut self) -> io::Result<()> {
         self.inner.flush()
     }

@@ -188,16 +188,23 @@ impl<'o, W: Write + Drop> Printer<'o, W> {
     }
 
     /// Whether selected lines are printed as they are, or none of them is.
+    #[inline(always)]
     fn takes_text(&self, text: &[u8]) -> bool {
         let style = self.style;
         style.is_quiet || self.out.is_binary || (style.is_plain() && !style.finds_binary(text))
     }
 
-    /// Writes a separator, if one stands before the next line.
+    /// Writes a separator.
     fn put_separator(&mut self) -> io::Result<()> {
+        self.is_apart = false;
+        self.out.writer.write_all(SEPARATOR)
+    }
+
+    /// Writes a separator, if one stands before the next line.
+    #[inline(always)]
+    fn begin_line(&mut self) -> io::Result<()> {
         if self.is_apart {
-            self.is_apart = false;
-            self.out.writer.write_all(SEPARATOR)?;
+            self.put_separator()?;
         }
         self.out.has_groups = self.style.separates;
         Ok(())
@@ -230,6 +237,7 @@ impl<'o, W: Write + Drop> Printer<'o, W> {
 impl<'o, F: MatchFinder, W: Write + Drop> LinePrinter<F> for Printer<'o, W> {
     ghost printed = { λ _. None };
 
+    #[inline(always)]
     fn print_lines(
         &mut self,
         _selector: &mut F,
@@ -245,7 +253,7 @@ impl<'o, F: MatchFinder, W: Write + Drop> LinePrinter<F> for Printer<'o, W> {
         if style.is_quiet || self.out.is_binary {
             return Ok(true);
         }
-        self.put_separator()?;
+        self.begin_line()?;
         self.out.writer.write_all(text)?;
         if style.line_buffered {
             self.out.writer.flush()?;
@@ -270,7 +278,7 @@ impl<'o, F: MatchFinder, W: Write + Drop> LinePrinter<F> for Printer<'o, W> {
         if style.is_quiet || self.out.is_binary {
             return Ok(());
         }
-        self.put_separator()?;
+        self.begin_line()?;
         let line = Line {
             number,
             place,

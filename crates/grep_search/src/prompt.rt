@@ -19,6 +19,14 @@ impl Write for SharedStdout<'_> {
         }
     }
 
+    #[inline(always)]
+    fn write_all(&mut self, bytes: &[u8]) -> io::Result<()> {
+        match self.buffer.try_borrow_mut() {
+            Ok(mut buffer) => buffer.write_all(bytes),
+            Err(_) => Err(io::Error::from(ErrorKind::Other)),
+        }
+    }
+
     fn flush(&mut self) -> io::Result<()> {
         match self.buffer.try_borrow_mut() {
             Ok(mut buffer) => buffer.flush(),

@@ -112,6 +112,7 @@ impl<'p> LineRegex<'p> {
     }
 
     /// What is known of the first lines of a page, of which this is a part, by the first match in it.
+    #[inline(always)]
     fn stretch_in(&mut self, text: &[u8]) -> Stretch
         ensures place { result.place ≡ start_or (length text.now)
             (answer_by (regex_kind self.old.regex)
@@ -279,6 +280,7 @@ impl LineSelector for LineRegex<'_> {
         }
     }
 
+    #[inline(always)]
     fn next_stretch(&mut self, terminator: u8, page: &[u8]) -> Stretch {
         if let Some(needles) = &self.patterns.needles {
             return Stretch {
