@@ -1,10 +1,13 @@
 -- Bytes that are told to stay.
-use Rattle.std.proofs.Common.{◌≡◌, ◌≢◌, ℕ, zero, suc, ◌+◌, ◌-◌, ◌<◌, ◌≤◌, ◌⊎◌, Bool, true, false, List, length, slice_range, slice_index_or, replicate, inl, inr, sym, subst, ap, ◌∙◌, refl, arith}
+use Rattle.std.proofs.Common.{◌≡◌, ◌≢◌, ℕ, zero, suc, ◌+◌, ◌-◌, ◌<◌, ◌≤◌, ◌⊎◌, Bool, true, false, List, [], ◌∷◌, ◌++◌, length, slice_range, slice_index_or, replicate, inl, inr, sym, subst, ap, ◌∙◌, refl, arith}
 use Rattle.std.proofs.lemmas.Bool.{cases_eq, cases_lt}
+use Rattle.std.proofs.lemmas.List.Elements.{All-push}
 use Rattle.std.proofs.lemmas.List.{get_or-replicate, get_or_past, length-replicate}
 use Rattle.rc_text.proofs.Ranges.{length-slice_range, get_or-slice_range}
 use Rattle.rc_dense_dfa.specs.Cells.{met, dead, row_of, IsMarkedAs, AreMarked}
-use Rattle.rc_dense_dfa.specs.Exits.{AllStay, AreLeaps, AreStays, StaysAmong}
+use Rattle.rc_needles.specs.declared.byte_set.ByteSet.{ByteSet}
+use Rattle.rc_needles.specs.ByteSets.{AreInside}
+use Rattle.rc_dense_dfa.specs.Exits.{AreLeaps, AreStays, StaysAmong}
 use Rattle.rc_dense_dfa.specs.Tables.{cell_at, class_at}
 use Rattle.rc_dense_dfa.specs.Searches.{InRow}
 use Rattle.rc_dense_dfa.specs.declared.leaps.Leap.{Leap}
@@ -19,6 +22,16 @@ none_stay mark classes cells row other n b e = elim (cases_lt b n) [
   | inl lt ↦ let none = get_or-replicate n b false false lt in cc
   | inr past ↦ let long = length-replicate n false in let none = get_or_past (replicate n false) b false (omega (arith, past, long)) in cc
 ]
+
+-- a leap more, with the rows and the bytes of one
+pub more_leaps : (mark : ℕ) (classes cells : List ℕ) (leaps : List Leap) (leap made : Leap) → AreLeaps mark classes cells leaps →
+    AreStays mark classes cells leap.row leap.other leap.stays.flags → made.row ≡ leap.row → made.other ≡ leap.other → made.stays ≡ leap.stays →
+    AreLeaps mark classes cells (leaps ++ made ∷ [])
+more_leaps mark classes cells leaps leap made all one row other stays =
+    All-push (λ (it : Leap). AreStays mark classes cells it.row it.other it.stays.flags) leaps made all
+    (subst (λ (s : ByteSet). AreStays mark classes cells made.row made.other s.flags) (sym stays)
+    (subst (λ r. AreStays mark classes cells made.row r leap.stays.flags) (sym other)
+    (subst (λ r. AreStays mark classes cells r leap.other leap.stays.flags) (sym row) one)))
 
 among_marked : (one two first second row other : ℕ) → IsMarkedAs one first → IsMarkedAs two second → one < dead → two < dead → row_of one ≡ row_of two →
     (row_of one ≢ row → row_of one ≡ other) →
@@ -109,7 +122,7 @@ module _ (d : Table) (w : Walk) (end row other : ℕ) (stays : List Bool) (forwa
   abbrev last : ℕ → ℕ
   last n = cell_at d (w.first + class_at d (slice_index_or part (n - 1) 0))
 
-  pub leapt_over : (n : ℕ) → 0 < n → n ≤ length part → AllStay stays part n →
+  pub leapt_over : (n : ℕ) → 0 < n → n ≤ length part → AreInside stays part n →
       InRow d (row_of (last n)) × Reaches w (w.from + n) (row_of (last n)) w.before
   leapt_over n some le all =
       let l = lands d row other w.first (b (n - 1)) here (are (b (n - 1)) (all (n - 1) (omega (arith, some)))) in

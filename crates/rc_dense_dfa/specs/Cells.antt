@@ -36,3 +36,7 @@ is_named width len cell = nat_eq cell quit || nat_le (row_of cell + width) len
 
 abbrev pub IsNamed : ℕ → ℕ → ℕ → Type 0
 IsNamed width len cell = IsTrue (is_named width len cell)
+
+-- Each code of the list is 0, or that of what is found.
+abbrev pub TellsOnly : List ℕ → ℕ → Type 0
+TellsOnly codes found = (number k : ℕ) → slice_index_or codes number 0 ≡ k + 1 → k ≡ found

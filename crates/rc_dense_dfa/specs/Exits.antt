@@ -39,8 +39,4 @@ abbrev pub AreStays : ℕ → List ℕ → List ℕ → ℕ → ℕ → List Boo
 AreStays mark classes cells row other stays = (b : ℕ) → IsTrue (slice_index_or stays b false) → StaysAmong mark classes cells row other b
 
 abbrev pub AreLeaps : ℕ → List ℕ → List ℕ → List Leap → Type 0
-AreLeaps mark classes cells leaps = All (λ (leap : Leap). AreStays mark classes cells leap.row leap.other leap.stays) leaps
-
--- The flags say of so many bytes at the beginning of the piece that they stay.
-abbrev pub AllStay : List Bool → List ℕ → ℕ → Type 0
-AllStay stays piece n = (k : ℕ) → k < n → IsTrue (slice_index_or stays (slice_index_or piece k 0) false)
+AreLeaps mark classes cells leaps = All (λ (leap : Leap). AreStays mark classes cells leap.row leap.other leap.stays.flags) leaps

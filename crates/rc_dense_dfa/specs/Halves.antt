@@ -33,4 +33,4 @@ pub record AreTablesOf (a : Automaton) (limit : Option ℕ) (d : Dense) : Type 0
 
 -- How many bytes the parts of a table take.
 abbrev pub bytes_of : Table → ℕ
-bytes_of d = length d.classes.items + length d.idles.items + 4 * length d.exits.items + 280 * length d.leaps.items + 8 * (length d.cells.items + length d.ends.items + length d.tells.items + length d.starts.items)
+bytes_of d = length d.classes.items + length d.idles.items + 4 * length d.exits.items + 312 * length d.leaps.items + 8 * (length d.cells.items + length d.ends.items + length d.tells.items + length d.starts.items)

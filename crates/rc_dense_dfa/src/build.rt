@@ -4,7 +4,7 @@ ghost use Rattle.rc_determinize.specs.Places.{state_of};
 ghost use Rattle.rc_determinize.specs.States as states;
 ghost use Rattle.rc_dfa.specs.Machine.{Machine, IsMachine, bytes, is_idle};
 ghost use Rattle.rc_dfa.specs.Automata.{machine_of, alphabet_in, samples_of};
-ghost use Rattle.rc_dense_dfa.specs.Cells.{met};
+ghost use Rattle.rc_dense_dfa.specs.Cells.{TellsOnly, met};
 ghost use Rattle.rc_dense_dfa.specs.Tables.{code_of, mode_of, dead_state};
 ghost use Rattle.rc_dense_dfa.specs.Makes.{IsMade, IsRefused};
 ghost use Rattle.rc_dense_dfa.specs.Rows.{IsMaker, Grows, AreEnds, AreRows, AreStarts, IsEndOf, AreTells, AreIdles, AreParts};
@@ -316,6 +316,33 @@ fn hints_of(
     Ok(hints)
 }
 
+/// Returns the greatest of the codes, or 0 if there are none.
+fn greatest_code(codes: &[usize]) -> usize {
+    let mut greatest = 0;
+    for code in codes {
+        greatest = greatest.max(*code);
+    }
+    greatest
+}
+
+/// Returns what is found on the way to each row to which something is found, if that is the same
+/// for all of them.
+fn only_told(tells: &[usize]) -> Option<usize>
+    ensures { (found : ℕ) → result ≡ Some found → TellsOnly tells.now found }
+{
+    let greatest = greatest_code(tells);
+    for number in 0..tells.len() {
+        let code = tells[number];
+        if code != 0 && code != greatest {
+            return None;
+        }
+    }
+    if greatest == 0 {
+        return None;
+    }
+    Some(greatest - 1)
+}
+
 /// Builds the table of all states that searches by the automaton can reach in this direction. The
 /// automaton reads bytes. The error is `TooBig` if the states weigh more than `limit` bytes, and
 /// `Memory` if out of memory.
@@ -349,12 +376,14 @@ pub(crate) fn table_of(
     let hints = hints_of(alloc, &exits, &leaps, width, &parts.idles, rests)?;
     let skips = have_few(&exits);
     mark(&mut parts.rows.cells, width, &hints);
+    let only = only_told(&parts.tells);
     Ok(Table {
         classes,
         width,
         cells: parts.rows.cells,
         ends: parts.rows.ends,
         tells: parts.tells,
+        only,
         idles: parts.idles,
         rests,
         exits,

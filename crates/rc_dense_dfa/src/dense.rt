@@ -54,7 +54,7 @@ fn table_usage(table: &Table) -> u128
     let bytes = table.classes.len() as u128
         + table.idles.len() as u128
         + 4 * table.exits.len() as u128
-        + 280 * table.leaps.len() as u128;
+        + 312 * table.leaps.len() as u128;
     bytes + 8 * (rows + table.starts.len() as u128)
 }
 

@@ -1,10 +1,11 @@
-//! Acceleration: if most bytes of most texts stay among two rows, a table of flags finds the next
+//! Acceleration: if most bytes of most texts stay among two rows, a vector search finds the next
 //! byte that may leave them.
-ghost use Rattle.std.specs.Prelude.{◌≡◌, ◌<◌, ◌≤◌, ◌+◌, IfOk, IfSome, IsTrue, false, length, slice_index_or};
+ghost use Rattle.std.specs.Prelude.{◌≡◌, ◌<◌, ◌≤◌, ◌+◌, IfOk, IfSome, IsTrue, length};
 ghost use Rattle.rc_dense_dfa.specs.Cells.{dead, met, row_of, skip};
-ghost use Rattle.rc_dense_dfa.specs.Exits.{AllStay, AreLeaps, AreStays, StaysAmong, cell_by};
+ghost use Rattle.rc_dense_dfa.specs.Exits.{AreLeaps, AreStays, StaysAmong, cell_by};
 
 use crate::exits::{Exits, are_few};
+use rc_needles::byte_set::ByteSet;
 use rc_table_search::cells::{DEAD, QUIT, row_of};
 use rc_text::frequency::{MOST_COMMON, per_thousand};
 use std::alloc::{AllocError, Global};
@@ -22,9 +23,8 @@ pub struct Leap {
     pub row: usize,
     /// Another row, or the same one.
     pub other: usize,
-    /// For each byte, whether it is known to lead from both rows to the same one of the two,
-    /// without a match.
-    pub stays: [bool; 256],
+    /// Bytes that are known to lead from both rows to the same one of the two, without a match.
+    pub stays: ByteSet,
     /// Whether a search may rest at `row`.
     pub rests: bool,
     /// Whether a search may rest at `other`.
@@ -79,6 +79,15 @@ fn quits(classes: &[u8], cells: &[usize], row: usize, byte: usize) -> bool
     *cell == QUIT
 }
 
+/// Roughly how many of a thousand bytes are this byte. Of those past ASCII one in eight counts, so
+/// that all of them together are 32, as in texts in English.
+fn weight(byte: u8) -> usize {
+    if byte < 128 || byte % 8 == 0 {
+        return per_thousand(byte);
+    }
+    0
+}
+
 /// Returns about how many of a thousand bytes of most texts leave the two rows. A result above
 /// `LEAVING` may be too small, since the count stops there.
 fn leaving(classes: &[u8], cells: &[usize], row: usize, other: usize) -> usize
@@ -90,7 +99,7 @@ fn leaving(classes: &[u8], cells: &[usize], row: usize, other: usize) -> usize
         // Letters come first, since they decide soonest.
         let byte = (number + 97) % 256;
         if !stays_among(classes, cells, row, other, byte) && !quits(classes, cells, row, byte) {
-            sum = sum.saturating_add(per_thousand(byte as u8));
+            sum = sum.saturating_add(weight(byte as u8));
             if sum > LEAVING {
                 return sum;
             }
@@ -118,7 +127,7 @@ fn likely(classes: &[u8], cells: &[usize], row: usize) -> usize
 fn among(classes: &[u8], cells: &[usize], row: usize, other: usize) -> Leap
     requires row { row < met }
     requires other { other < met }
-    ensures { AreStays dead classes.now cells.now result.row result.other result.stays }
+    ensures { AreStays dead classes.now cells.now result.row result.other result.stays.flags }
 {
     let mut stays = [false; 256];
     for byte in 0..256usize {
@@ -129,7 +138,7 @@ fn among(classes: &[u8], cells: &[usize], row: usize, other: usize) -> Leap
     Leap {
         row,
         other,
-        stays,
+        stays: ByteSet::new(stays),
         rests: false,
         other_rests: false,
     }
@@ -139,7 +148,7 @@ fn among(classes: &[u8], cells: &[usize], row: usize, other: usize) -> Leap
 fn leap_of(classes: &[u8], cells: &[usize], row: usize) -> Option<Leap>
     requires { row < met }
     ensures { IfSome result (λ leap. AreStays dead classes.now cells.now leap.row
-        leap.other leap.stays) }
+        leap.other leap.stays.flags) }
 {
     let alone = leaving(classes, cells, row, row);
     let other = likely(classes, cells, row);
@@ -169,7 +178,7 @@ fn is_in(leaps: &[Leap], row: usize) -> bool {
 fn wanted(classes: &[u8], cells: &[usize], exits: Exits, leaps: &[Leap], row: usize) -> Option<Leap>
     requires { row < met }
     ensures { IfSome result (λ leap. AreStays dead classes.now cells.now leap.row
-        leap.other leap.stays) }
+        leap.other leap.stays.flags) }
 {
     if are_few(exits) || is_in(leaps, row) {
         return None;
@@ -235,56 +244,6 @@ pub(crate) fn is_told(leaps: &[Leap], number: usize, width: usize) -> bool
         }
     }
     false
-}
-
-/// Whether the byte at an index of a piece stays among the rows.
-#[inline(always)]
-fn stays_at(stays: &[bool; 256], piece: &[u8], index: usize) -> bool
-    requires { index < length piece.now }
-    ensures { result ≡ slice_index_or stays.now (slice_index_or piece.now index 0) false }
-{
-    stays[piece[index] as usize]
-}
-
-/// Returns the index, `from` or greater, of the first byte that may leave the rows, or the piece's
-/// length. All bytes before `from` stay.
-#[inline(always)]
-fn rest(stays: &[bool; 256], piece: &[u8], from: usize) -> usize
-    requires from { from ≤ length piece.now }
-    requires before { AllStay stays.now piece.now from }
-    ensures within { result ≤ length piece.now }
-    ensures passed { AllStay stays.now piece.now result }
-{
-    let mut index = from;
-    while index < piece.len() && stays_at(stays, piece, index) {
-        index += 1;
-    }
-    index
-}
-
-/// Returns the index of the first byte that may leave the rows, or the piece's length.
-#[inline(always)]
-pub(crate) fn first_leaving(stays: &[bool; 256], piece: &[u8]) -> usize
-    ensures within { result ≤ length piece.now }
-    ensures passed { AllStay stays.now piece.now result }
-{
-    let mut index = 0;
-    while piece.len() - index >= 4 {
-        if !stays_at(stays, piece, index) {
-            return index;
-        }
-        if !stays_at(stays, piece, index + 1) {
-            return index + 1;
-        }
-        if !stays_at(stays, piece, index + 2) {
-            return index + 2;
-        }
-        if !stays_at(stays, piece, index + 3) {
-            return index + 3;
-        }
-        index += 4;
-    }
-    rest(stays, piece, index)
 }
 
 /// Returns the index at which a leap from the index `from` of a piece ends at most. That is the

@@ -47,7 +47,7 @@ pub(crate) fn exits_at(table: &Table, row: usize) -> Exits
 pub(crate) fn leap_at(table: &Table, row: usize) -> Option<&Leap>
     ensures here { IfSome result (λ leap. (row ≡ leap.now.row) ⊎ (row ≡ leap.now.other)) }
     ensures stays { IfSome result (λ leap. AreStays met table.now.classes.items
-        table.now.cells.items leap.now.row leap.now.other leap.now.stays) }
+        table.now.cells.items leap.now.row leap.now.other leap.now.stays.flags) }
 {
     for leap in table.leaps.iter() {
         if leap.row == row || leap.other == row {

@@ -1,5 +1,5 @@
 //! Rows: the cells of a table, as runs read them, and leaps over bytes.
-use crate::leaps::{first_leaving, leap_end};
+use crate::leaps::leap_end;
 use crate::look::{cell_of, leap_at};
 use crate::table::Table;
 use rc_table_search::cells::row_of;
@@ -43,7 +43,7 @@ impl Rows for Table {
         };
         let end = leap_end(leap, row, from, piece.len(), start, looks)?;
         let part = &piece[from..end];
-        let passed = first_leaving(&leap.stays, part);
+        let passed = leap.stays.first_outside(part);
         if passed == 0 {
             return Some((from, row));
         }

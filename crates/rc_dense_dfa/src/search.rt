@@ -146,6 +146,9 @@ impl Transitions for Dense {
     #[inline(always)]
     fn find<W: Way>(&self, note: usize) -> usize {
         let table = table_in::<W>(self);
+        if let Some(found) = table.only {
+            return found;
+        }
         find_in(table.tells.as_slice(), note, table.width).unwrap_or(0)
     }
 

@@ -1,6 +1,6 @@
 //! Transition table: the states of a DFA in one direction.
-ghost use Rattle.std.specs.Prelude.{◌≡◌, ◌<◌, ◌*◌, ℕ, length, slice_index_or, All};
-ghost use Rattle.rc_dense_dfa.specs.Cells.{IsNamed, met, skip};
+ghost use Rattle.std.specs.Prelude.{◌≡◌, ◌<◌, ◌*◌, ℕ, length, slice_index_or, All, Some};
+ghost use Rattle.rc_dense_dfa.specs.Cells.{IsNamed, TellsOnly, met, skip};
 ghost use Rattle.rc_dense_dfa.specs.Exits.{AreExitsOf, AreLeaps};
 ghost use Rattle.rc_dense_dfa.specs.declared.exits.Exits.TheVariants.{Many};
 
@@ -24,6 +24,9 @@ pub struct Table {
     pub ends: Vec<usize>,
     /// For each row, the code of what was found on the way to it: 0 for nothing, else one more.
     pub tells: Vec<usize>,
+    /// What is found on the way to each row to which something is found, if that is the same for
+    /// all of them.
+    pub only: Option<usize>,
     /// For each row, whether nothing is under way in its state but walks that begin there or later.
     pub idles: Vec<bool>,
     /// Whether such rows have `SKIP`.
@@ -47,5 +50,6 @@ pub struct Table {
         → AreExitsOf met classes.items cells.items (k * width)
         (slice_index_or exits.items k Many) },
     ghost leaped: { AreLeaps met classes.items cells.items leaps.items },
+    ghost alone: { (found : ℕ) → only ≡ Some found → TellsOnly tells.items found },
     ghost small: { length cells.items < skip },
 }

@@ -13,3 +13,5 @@ pub mod RelationLemmas
 pub mod StartLemmas
 pub mod FailureLemmas
 pub mod LongLemmas
+pub mod ByteSetLemmas
+pub mod BlockLemmas

@@ -1,3 +1,4 @@
+pub mod ByteSets
 pub mod Failures
 pub mod Guards
 pub mod Needles

@@ -6,9 +6,11 @@
 //! byte of the content.
 #![tactic(auto)]
 
+pub mod byte_set;
 mod candidates;
 mod failure;
 pub mod hit;
+mod lanes;
 pub mod laws;
 pub mod literal;
 mod long;

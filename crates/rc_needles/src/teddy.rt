@@ -13,7 +13,7 @@ ghost use Rattle.std.specs.Int.{bit_at};
 ghost use Rattle.rc_needles.specs.Teddies.{AreLanes, AreMarked, AreSifted, HaveBegun, IsSifted, buckets};
 ghost use Rattle.rc_needles.specs.Tables.{Agrees, needles_in};
 
-use crate::pairs::lowest;
+use crate::lanes::{has_some, lowest, marks_of};
 use std::simd::prelude::*;
 
 /// How many indices a vector covers: half of those that are looked up at a time.
@@ -64,7 +64,7 @@ struct Begun {
 
 impl Sift {
     /// Returns tables by which no bucket takes any byte.
-    fn new() -> Sift {
+    pub(crate) fn new() -> Sift {
         Sift {
             low: [0; 16],
             high: [0; 16],
@@ -75,6 +75,19 @@ impl Sift {
     fn add(&mut self, byte: u8, bits: u8) {
         self.low[(byte % 16) as usize] |= bits;
         self.high[(byte / 16) as usize] |= bits;
+    }
+
+    /// Lets the buckets of these bits take the bytes of a row too: those with these high four bits
+    /// of which the row has a bit for the low ones.
+    pub(crate) fn add_row(&mut self, high: usize, row: u16, bits: u8)
+        requires { high < 16 }
+    {
+        self.high[high] |= bits;
+        for low in 0..16usize {
+            if row >> low & 1 == 1 {
+                self.low[low] |= bits;
+            }
+        }
     }
 
     /// Lets the buckets of these bits take the needle's byte at an index too, or any byte if that
@@ -92,7 +105,7 @@ impl Sift {
     }
 
     /// Returns the buckets that take the byte.
-    fn taken(&self, byte: u8) -> u8
+    pub(crate) fn taken(&self, byte: u8) -> u8
         ensures { result ≡ buckets self.now byte }
     {
         self.low[(byte % 16) as usize] & self.high[(byte / 16) as usize]
@@ -125,7 +138,7 @@ impl Sift {
 
     /// Returns the buckets that take each of the 16 bytes from `at` on.
     #[inline(always)]
-    fn lanes(&self, piece: &[u8], at: usize) -> u8x16
+    pub(crate) fn lanes(&self, piece: &[u8], at: usize) -> u8x16
         requires { at + 16 ≤ length piece.now }
         ensures { AreLanes result (λ k. buckets self.now (slice_index piece.now (at + k))) }
     {
@@ -322,25 +335,6 @@ fn one_back(before: u8x16, now: u8x16) -> u8x16
             15, 16, 17, 18, 19, 20, 21, 22, 23, 24, 25, 26, 27, 28, 29, 30,
         ],
     )
-}
-
-/// Whether one of the lanes isn't 0.
-#[inline(always)]
-fn has_some(lanes: u8x16) -> bool
-    requires { length lanes ≡ 16 }
-    ensures { (k : ℕ) → k < 16 → 0 < slice_index lanes k → IsTrue result }
-{
-    lanes.simd_ne(u8x16::splat(0)).to_bitmask() != 0
-}
-
-/// Returns a number whose bit k is set if the number at k isn't 0.
-#[inline(always)]
-fn marks_of(lanes: u8x16) -> u64
-    requires { length lanes ≡ 16 }
-    ensures small { result < 2 ^ 16 }
-    ensures set { (k : ℕ) → k < 16 → 0 < slice_index lanes k → 0 < bit_at result k }
-{
-    lanes.simd_ne(u8x16::splat(0)).to_bitmask()
 }
 
 /// Returns a number whose bit k is set if the number at k of the two vectors isn't 0.

@@ -1,6 +1,7 @@
 use Rattle.std.proofs.Common.{◌≡◌, ◌∙◌, ℕ, ◌<◌, List, length, ap, refl, sym, subst, arith}
 use Rattle.rc_dfa.specs.Machine.{IsClassing}
 use Rattle.rc_dfa.specs.Automata.{machine_of, samples_of, classes_of}
+use Rattle.rc_dense_dfa.specs.Cells.{TellsOnly}
 use Rattle.rc_dense_dfa.specs.Rows.{AreParts}
 use Rattle.rc_dense_dfa.proofs.PartLemmas.{has_samples, classes_below, few_cells, inside_by, small_by, made_by}
 use Rattle.rc_dense_dfa.proofs.ExitLemmas.{marked_exits}
@@ -58,6 +59,7 @@ invariant_of-result c =
       inside = inside_by m c.in_ok-classes.classes.items c.samples-width.result.now c.args.limit c.in_ok-parts.parts.maker.names _ _ _ _ _ _ k p c.mark.ensures;
       passed = λ i. marked_exits _ _ _ _ _ _ _ c.deref.ensures.value c.deref-2.ensures.value c.mark.ensures (c.in_ok-exits.ensures i);
       leaped = marked_leaps _ _ _ _ _ _ c.deref-3.ensures.value c.deref-4.ensures.value c.mark.ensures c.in_ok-leaps.ensures;
+      alone = λ found is. subst (λ xs. TellsOnly xs found) c.deref-12.ensures.value (c.only_told-only.ensures found is);
       small = small_by m c.in_ok-classes.classes.items c.samples-width.result.now c.args.limit c.in_ok-parts.parts.maker.names _ _ _ _ _ _ k p c.mark.ensures;
     }
 

@@ -20,14 +20,14 @@ walk c noted = record {
 }
 
 went : (c : After-row_of) (noted : Option (ℕ × ℕ)) → InRow c.args.self.now (row_of c.cell_of-cell.result)
-    × Reaches (walk c noted) (c.args.from + c.first_leaving-passed.result) (row_of c.cell_of-cell.result) noted
+    × Reaches (walk c noted) (c.args.from + c.first_outside-passed.result) (row_of c.cell_of-cell.result) noted
 went c noted =
     let d = c.args.self.now in
     let leap = c.in-Some.leap.now in
-    let n = c.first_leaving-passed.result in
-    let y = leapt_over d (walk c noted) c.in_ok-end.end leap.row leap.other leap.stays refl refl refl c.requires.row.same c.requires.row.within
+    let n = c.first_outside-passed.result in
+    let y = leapt_over d (walk c noted) c.in_ok-end.end leap.row leap.other leap.stays.flags refl refl refl c.requires.row.same c.requires.row.within
     (λ k. let fits = c.type_inv.piece k in omega (arith, fits)) c.in_ok-end.ensures.0 c.in_ok-end.ensures.1 c.in-Some.ensures.here c.in-Some.ensures.stays n
-    (omega (arith, c.if-passed-eq0.false)) c.first_leaving-passed.ensures.within c.first_leaving-passed.ensures.passed in
+    (omega (arith, c.if-passed-eq0.false)) c.first_outside-passed.ensures.within c.first_outside-passed.ensures.passed in
     let is = sym c.cell_of-cell.ensures.value in (
       subst (λ cell. InRow d (row_of cell)) is y.0,
       subst (λ cell. Reaches (walk c noted) (c.args.from + n) (row_of cell) noted) is y.1,
@@ -41,7 +41,7 @@ returns-clause-row c =
 pub returns-clause-reaches : goal.returns-clause-reaches
 returns-clause-reaches c = λ noted.
     let d = (goal.at.returns-clause-reaches c).After-row_of in
-    subst (λ r. Reaches (walk d noted) (c.args.from + c.first_leaving-passed.result) r noted) (sym c.row_of.ensures) (went d noted).1
+    subst (λ r. Reaches (walk d noted) (c.args.from + c.first_outside-passed.result) r noted) (sym c.row_of.ensures) (went d noted).1
 
 pub returns-in_default-clause-reaches : goal.returns-in_default-clause-reaches
 returns-in_default-clause-reaches c = λ noted. begun

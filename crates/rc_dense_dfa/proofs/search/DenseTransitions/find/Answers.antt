@@ -15,3 +15,11 @@ returns g c = λ m k note.
     (c.find_in.ensures (Some k)
     (subst (λ xs. slice_index_or xs (c.args.note / c.table_in-table.result.now.width) 0 ≡ k + 1) (sym c.as_slice.ensures.value)
     (subst (λ (t : Table). slice_index_or t.tells.items (c.args.note / t.width) 0 ≡ k + 1) (sym c.table_in-table.ensures) is)))
+
+pub returns-in-Some : goal.returns-in-Some
+returns-in-Some g c = λ m k note.
+    let has = note.1 in
+    let is = tells_it m has.states _ c.args.note note.0 k has.is_table has.is_row note.2 in
+    let table = c.table_in-table.result.now in
+    sym (table.alone c.in-Some.found c.in-Some.is (c.args.note / table.width) k
+    (subst (λ (t : Table). slice_index_or t.tells.items (c.args.note / t.width) 0 ≡ k + 1) (sym c.table_in-table.ensures) is))
