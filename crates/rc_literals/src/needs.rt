@@ -11,17 +11,23 @@ use crate::required::required;
 use crate::stops::stops_of;
 use rc_needles::prefilter::{Prefilter, from_needles};
 use rc_pattern::hir::Hir;
-use rc_text::frequency::is_common;
+use rc_text::frequency::{is_common, per_thousand};
 use std::alloc::{AllocError, Global};
 
-/// Whether no needle is a single common byte.
+/// How many of a thousand bytes of most texts may be needles that are single common bytes.
+const RARE: usize = 5;
+
+/// Whether the needles that are single common bytes, as `z` or `7`, are few in most texts.
 fn are_rare(needles: &[Vec<u8>]) -> bool {
+    let mut sum: usize = 0;
     for needle in needles {
-        if needle.len() < 2 && needle.iter().all(|byte| is_common(*byte)) {
-            return false;
+        match needle.as_slice() {
+            [] => return false,
+            [byte] if is_common(*byte) => sum = sum.saturating_add(per_thousand(*byte)),
+            _ => {}
         }
     }
-    true
+    sum <= RARE
 }
 
 /// Whether some needle is a single byte.
