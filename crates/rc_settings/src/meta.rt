@@ -1,5 +1,5 @@
 //! Regex settings.
-ghost use Rattle.std.specs.Prelude.{◌≡◌, IfOk, Some, option_map};
+ghost use Rattle.std.specs.Prelude.{◌≡◌, IfOk, IsOk, None, Some, option_map};
 ghost use Rattle.rc_settings.specs.Settings.{settings_of, unset, overwritten, match_kind_of, utf8_empty_of, auto_prefilter_of, prefilter_of, which_captures_of, nfa_size_limit_of, hybrid_cache_capacity_of, hybrid_of, dfa_of, dfa_size_limit_of, dfa_state_limit_of, byte_classes_of, unicode_words_of, line_terminator_of, program_settings};
 ghost use Rattle.rc_settings.specs.Thompson.{settings_of as program_settings_of};
 ghost use Rattle.rc_needles.specs.Prefilters.{needles_of};
@@ -300,9 +300,11 @@ impl Config {
         self.line_terminator.unwrap_or(b'\n')
     }
 
-    /// Returns a copy of the settings. An `Err` means out of memory for the prefilter.
+    /// Returns a copy of the settings. An `Err` means out of memory for the prefilter, so there is
+    /// none without one.
     pub fn try_clone(&self, alloc: Global) -> Result<Config, AllocError>
-        ensures { IfOk result (λ c. settings_of c ≡ settings_of self.now) }
+        ensures same { IfOk result (λ c. settings_of c ≡ settings_of self.now) }
+        ensures sure { prefilter_of (settings_of self.now) ≡ None → IsOk result }
     {
         let prefilter = match &self.prefilter {
             Some(Some(prefilter)) => Some(Some(copy_of(alloc, prefilter)?)),

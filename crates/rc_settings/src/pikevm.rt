@@ -1,5 +1,5 @@
 //! Pike VM settings.
-ghost use Rattle.std.specs.Prelude.{◌≡◌, IfOk, Some, option_map};
+ghost use Rattle.std.specs.Prelude.{◌≡◌, IfOk, IsOk, None, Some, option_map};
 ghost use Rattle.rc_needles.specs.Prefilters.{needles_of};
 ghost use Rattle.rc_settings.specs.SearchSettings.{search_settings_of, none_set, set_over, match_kind_of, prefilter_of};
 
@@ -75,9 +75,11 @@ impl Config {
         }
     }
 
-    /// Returns a copy of the settings. An `Err` means out of memory for the prefilter.
+    /// Returns a copy of the settings. An `Err` means out of memory for the prefilter, so there is
+    /// none without one.
     pub fn try_clone(&self, alloc: Global) -> Result<Config, AllocError>
-        ensures { IfOk result (λ c. search_settings_of c ≡ search_settings_of self.now) }
+        ensures same { IfOk result (λ c. search_settings_of c ≡ search_settings_of self.now) }
+        ensures sure { prefilter_of (search_settings_of self.now) ≡ None → IsOk result }
     {
         let prefilter = match &self.prefilter {
             Some(Some(prefilter)) => Some(Some(copy_of(alloc, prefilter)?)),

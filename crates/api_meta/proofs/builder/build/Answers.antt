@@ -55,7 +55,7 @@ invariant_of-result-clause-planned c =
     let same : map meaning c.deref.result.now ≡ map meaning c.in_ok-built.built.hirs.items = ap (λ xs. map meaning xs) c.deref.ensures.value in
     let engines = c.in_ok-engines.engines in
     ∣ subst (λ xs. IfSome engines.lazy (IsLazyFor (plan_by xs (all_of c.in_ok-config.config)))) same
-    (subst (λ s. IfSome engines.lazy (IsLazyFor (plan_by (map meaning c.deref.result.now) s))) (sym c.in_ok-config.ensures)
+    (subst (λ s. IfSome engines.lazy (IsLazyFor (plan_by (map meaning c.deref.result.now) s))) (sym c.in_ok-config.ensures.same)
     c.in_ok-engines.ensures.planned) ∣₁
 
 pub invariant_of-result-clause-symbols : goal.invariant_of-result-clause-symbols
@@ -63,7 +63,7 @@ invariant_of-result-clause-symbols c =
     let same : map meaning c.deref.result.now ≡ map meaning c.in_ok-built.built.hirs.items = ap (λ xs. map meaning xs) c.deref.ensures.value in
     let engines = c.in_ok-engines.engines in
     ∣ subst (λ xs. IfSome engines.symbols (IsLazyOver symbols (plan_by xs (all_of c.in_ok-config.config)))) same
-    (subst (λ s. IfSome engines.symbols (IsLazyOver symbols (plan_by (map meaning c.deref.result.now) s))) (sym c.in_ok-config.ensures)
+    (subst (λ s. IfSome engines.symbols (IsLazyOver symbols (plan_by (map meaning c.deref.result.now) s))) (sym c.in_ok-config.ensures.same)
     c.in_ok-engines.ensures.symbols) ∣₁
 
 pub invariant_of-result-clause-measured : goal.invariant_of-result-clause-measured

@@ -33,7 +33,7 @@ invariant_of-result c =
     let s = settings_of c.args.self.now.thompson in
     let lazy = c.in_ok-lazy.lazy in
     let same : map meaning c.deref.result.now ≡ map meaning c.in_ok-built.built.hirs.items = ap (λ xs. map meaning xs) c.deref.ensures.value in
-    let kind = b.fits.kinded ∙ c.get_match_kind.ensures ∙ sym (ap match_kind_of c.in_ok-config.ensures) in
+    let kind = b.fits.kinded ∙ c.get_match_kind.ensures ∙ sym (ap match_kind_of c.in_ok-config.ensures.same) in
     let kept : map meaning c.into_hirs-hirs.result.items ≡ map meaning c.in_ok-built.built.hirs.items = ap (λ v. map meaning v.items) c.into_hirs-hirs.ensures in
     let made = subst (λ hs. IsLazyFor (sought_by s hs) c.in_ok-built.built.engine.kind lazy) (same ∙ sym kept) c.in_ok-lazy.ensures.made in
     record {
