@@ -2,6 +2,7 @@
 ghost use Rattle.std.specs.Prelude.{◌≡◌, IfErr, IfOk, IfSome, MatchResult};
 ghost use Rattle.gap_buffer.specs.Typed.{IsUntyped, edit_of, typed};
 ghost use Rattle.live_matches.specs.Drawn.{IsDrawn};
+ghost use Rattle.live_matches.specs.Lists.{IsChanged};
 ghost use Rattle.live_matches.specs.Live.{IsCacheOf, IsEdited, IsLive, listed};
 ghost use Rattle.live_matches.specs.Quiet.{IsLongest};
 
@@ -48,6 +49,8 @@ pub fn type_live(
     ensures cache { IsCacheOf regex.now cache.new }
     ensures text { IfOk result (λ _. text.new ≡ typed text.old deleted bytes.now) }
     ensures live { IfOk result (λ _. IsLive regex.now text.new.content live.new) }
+    ensures changed { IfOk result (IsChanged (edit_of text.old deleted bytes.now)
+        live.old.entries live.new.entries) }
     ensures drawn { IfOk result (λ c. IsDrawn (edit_of text.old deleted bytes.now)
         (listed live.old) (listed live.new) c.span) }
     ensures untyped { IfErr result (λ _. IsUntyped text.old text.new live.old live.new) }
