@@ -1,5 +1,6 @@
 //! Match finders: the matches in a line, and their groups.
-ghost use Rattle.std.specs.Prelude.{◌≡◌, ℕ, List, OnOk, cond, take};
+ghost use Rattle.std.specs.Prelude.{◌≡◌, ℕ, All, IsTrue, List, OnOk, cond, take};
+ghost use Rattle.grep_output.specs.InLines.{LiesInLine};
 ghost use Rattle.rc_text.specs.Joined.{joined};
 ghost use Rattle.rc_text.specs.declared.types.Span.{Span};
 
@@ -32,6 +33,11 @@ pub trait MatchFinder: LineSelector {
             ≡ cond only_first (take 1 (spans_in self.old (joined chunks.now)))
             (spans_in self.old (joined chunks.now))) }
         ensures same { Self.selects self.new ≡ Self.selects self.old };
+
+    /// Whether each match in a text lies in one line, where lines end in newlines, and the lines that
+    /// have one are those that are selected, or that aren't. False says nothing.
+    fn keeps_to_lines(&self) -> bool
+        ensures { IsTrue result → (text : List ℕ) → All (LiesInLine text) (spans_in self.now text) };
 
     /// Finds the groups of the match in the line that begins at a position.
     fn find_groups(&mut self, line: &[u8], start: usize)

@@ -98,7 +98,8 @@ impl Job<'_, '_, '_> {
     }
 
     /// Prints the lines of a reader, with those around them if that is asked for, and returns how
-    /// many were selected. If something else is printed, the lines are only counted.
+    /// many were selected. If something else is printed, the lines are only counted. The text is read
+    /// by lines, unless a match may go on across them.
     fn put_lines<R: BufRead, F: MatchFinder, W: Write + Drop>(
         &self,
         finder: &mut F,
@@ -107,7 +108,7 @@ impl Job<'_, '_, '_> {
         name: &str,
         report: Report,
     ) -> Result<u64, Fault> {
-        if self.options.multiline {
+        if self.options.multiline && !finder.keeps_to_lines() {
             return self.put_touched(finder, reader, out, name, report);
         }
         let style = self.style(name, report);

@@ -2,3 +2,4 @@ mod LocalLemmas
 mod LineLemmas
 mod TextLemmas
 mod NeededLemmas
+mod KeptLemmas

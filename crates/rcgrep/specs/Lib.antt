@@ -5,3 +5,4 @@ pub mod Unread
 pub mod Fitted
 pub mod Syntax
 pub mod Needed
+pub mod Kept

@@ -339,6 +339,10 @@ impl MatchFinder for LineRegex<'_> {
         Ok(())
     }
 
+    fn keeps_to_lines(&self) -> bool {
+        self.patterns.keeps_to_lines
+    }
+
     fn find_groups(&mut self, line: &[u8], start: usize) {
         let mut input = input_from(line, start.min(line.len()));
         self.patterns

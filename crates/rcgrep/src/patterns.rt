@@ -14,6 +14,7 @@ ghost use Rattle.rc_literals.specs.Needs.{Holds};
 ghost use Rattle.api_meta.specs.Views.{regex_patterns, regex_settings};
 ghost use Rattle.rcgrep.specs.Fitted.{fitted_of};
 ghost use Rattle.rcgrep.specs.Local.{HasLineLooks, IsLocalPattern, IsLocalRegex};
+ghost use Rattle.rcgrep.specs.Kept.{KeepsToLines, SpellNoNewline};
 ghost use Rattle.rcgrep.specs.Needed.{HoldsNeedle};
 ghost use Rattle.rcgrep.specs.Picked.{line_settings};
 ghost use Rattle.rcgrep.specs.Unread.{IsUnread};
@@ -128,10 +129,14 @@ pub struct Patterns {
     /// text, and no pattern matches an empty text. So a line that has a match has one between other
     /// lines too.
     pub is_local: bool,
+    /// `is_local` is true, and no match contains a newline. So a line has a match if and only if a
+    /// match in the text touches it.
+    pub keeps_to_lines: bool,
     /// A search is slow from the first byte past ASCII on: an assertion asks for Unicode words, so
     /// DFAs quit there, and no literal is found behind it. This only affects speed.
     pub is_slow_past_ascii: bool,
     ghost local: { is_local ≡ true → ∥ IsLocalRegex regex ∥₁ },
+    ghost kept: { keeps_to_lines ≡ true → ∥ KeepsToLines regex ∥₁ },
     ghost held: { IfSome needles (λ p. ∥ HoldsNeedle regex (needles_of p) ∥₁) } by { Prim.hlevel props },
 }
 
@@ -159,18 +164,28 @@ fn build_regex(alloc: Global, hirs: &[Hir], config: &Config) -> Result<Regex, Bu
         .build_many_from_hir(alloc, hirs)
 }
 
+/// Whether no match of the patterns contains a newline, and `is_local` is true.
+fn keep_to_lines(hirs: &[Hir], is_local: bool) -> bool
+    ensures { IsTrue result → (t : Text) → SpellNoNewline t (map meaning hirs.now) }
+{
+    if !is_local {
+        return false;
+    }
+    stops_of(hirs).table[b'\n' as usize]
+}
+
 /// Needles of which each match of the patterns contains one, if lines are best passed over by them:
 /// if the regex may not pass over lines, or if a match may contain newlines. A search by the regex
 /// would read on across lines then, and the needles are in one line. This only affects speed.
 fn line_needles(
     alloc: Global,
     hirs: &[Hir],
-    is_local: bool,
+    keeps_to_lines: bool,
 ) -> Result<Option<Prefilter>, AllocError>
     ensures { IfOk result (λ found. IfSome found
         (λ p. (t : Text) → Holds t (map meaning hirs.now) (needles_of p))) }
 {
-    if is_local && stops_of(hirs).table[b'\n' as usize] {
+    if keeps_to_lines {
         return Ok(None);
     }
     match needs_of(alloc, hirs)? {
@@ -191,12 +206,14 @@ pub fn build(alloc: Global, hirs: &[Hir], config: &Config) -> Result<Patterns, B
 {
     let regex = build_regex(alloc, hirs, config)?;
     let is_local = are_local(hirs);
-    let needles = line_needles(alloc, hirs, is_local)?;
+    let keeps_to_lines = keep_to_lines(hirs, is_local);
+    let needles = line_needles(alloc, hirs, keeps_to_lines)?;
     let is_slow_past_ascii = has_scalar_looks(hirs) && !regex.is_accelerated();
     Ok(Patterns {
         regex,
         needles,
         is_local,
+        keeps_to_lines,
         is_slow_past_ascii,
     })
 }
