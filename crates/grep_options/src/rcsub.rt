@@ -79,7 +79,8 @@ pub static RCSUB: Program = Program {
     notes: "In TEMPLATE, ${1} is the first group of the match, ${name} the group of that name,\n\
 ${0} the whole match, and $$ a dollar sign.\n\
 If no file is named, or its name is -, the standard input is read.\n\
-A file is in memory as a whole, unless -l is given.\n\
+A file is written as it is read. Without -l it is in memory as a whole if PATTERN may\n\
+match nothing.\n\
 The status is 0 if something was replaced, 1 if nothing was, and 2 at a fault.",
     operands: "'1:pattern:' '2:template:' '*:file:_files'",
 };

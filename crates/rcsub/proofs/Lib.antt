@@ -1,3 +1,9 @@
 mod Regexes
 mod ByLine
 mod Kept
+mod Moved
+mod Standing
+mod Walks
+mod Coming
+mod Pages
+mod Filled

@@ -1,1 +1,3 @@
+pub mod Alike
 pub mod Replaced
+pub mod Streamed

@@ -10,6 +10,7 @@ mod pattern;
 mod print;
 mod replacer;
 mod rewrite;
+mod streamed;
 
 use crate::options::{Options, Refusal};
 use crate::pattern::{pattern_of, replacer_of};

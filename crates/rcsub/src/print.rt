@@ -66,6 +66,23 @@ fn open(rt: &HostRuntime, path: &str) -> io::Result<File> {
     Ok(file)
 }
 
+/// The bytes of a file, or of the standard input.
+fn read_file(rt: &HostRuntime, path: &str) -> io::Result<Vec<u8>> {
+    if path == "-" {
+        let mut bytes = Vec::new(rt.alloc());
+        rt.stdin().read_to_end(&mut bytes)?;
+        return Ok(bytes);
+    }
+    fs::read(rt, path)
+}
+
+/// Whether the standard input is the file to which the standard output goes. What is written would
+/// be read again then, without end.
+fn reads_output(rt: &HostRuntime) -> bool {
+    let output = Identity::of_stdout(rt);
+    output.is_some() && output == Identity::of_stdin(rt)
+}
+
 /// Writes the replaced text of a file, or of the standard input, to the standard output.
 fn print_file(
     rt: &HostRuntime,
@@ -73,11 +90,14 @@ fn print_file(
     by_line: bool,
     path: &str,
 ) -> Result<bool, Fault> {
-    let (any, _) = if path == "-" {
-        replacer.rewrite_over(rt.alloc(), by_line, rt.stdin(), rt.stdout())?
-    } else {
+    let (any, _) = if path != "-" {
         let file = open(rt, path)?;
         replacer.rewrite_over(rt.alloc(), by_line, file, rt.stdout())?
+    } else if reads_output(rt) {
+        let text = read_file(rt, path)?;
+        replacer.rewrite_over(rt.alloc(), by_line, text.as_slice(), rt.stdout())?
+    } else {
+        replacer.rewrite_over(rt.alloc(), by_line, rt.stdin(), rt.stdout())?
     };
     Ok(any)
 }
@@ -92,16 +112,6 @@ fn print_files(rt: &HostRuntime, replacer: &Replacer<'_>, options: &Options<'_>)
         }
     }
     tally.status()
-}
-
-/// The bytes of a file, or of the standard input.
-fn read_file(rt: &HostRuntime, path: &str) -> io::Result<Vec<u8>> {
-    if path == "-" {
-        let mut bytes = Vec::new(rt.alloc());
-        rt.stdin().read_to_end(&mut bytes)?;
-        return Ok(bytes);
-    }
-    fs::read(rt, path)
 }
 
 /// Writes a diff of a file and its replaced text, and returns whether there was a match.

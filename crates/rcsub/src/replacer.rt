@@ -2,8 +2,10 @@
 ghost use Rattle.std.specs.Prelude.{◌≡◌, ◌∷◌, [], IfOk, false, true};
 ghost use Rattle.rc_pattern.specs.Meaning.{meaning};
 ghost use Rattle.api_meta.specs.Views.{regex_patterns, regex_settings};
+ghost use Rattle.rc_program.specs.Sought.{may_be_empty as is_ever_empty};
 ghost use Rattle.chunk_replace.specs.Template.{template_items};
 ghost use Rattle.chunk_replace.specs.Words.{settings_in};
+ghost use Rattle.rcsub.specs.Alike.{ReplaceAlike};
 
 use chunk_replace::Template;
 use regex_cursor::engines::meta::{BuildError, Regex};
@@ -20,6 +22,16 @@ pub struct Replacer<'t> {
     pub(crate) over_bytes: Regex,
     ghost utf8_settings: { regex_settings over_utf8 ≡ settings_in true },
     ghost bytes_settings: { regex_settings over_bytes ≡ settings_in false },
+    /// Whether the pattern may match nothing. If it can't, both find the same.
+    pub(crate) may_be_empty: bool,
+    ghost alike: { may_be_empty ≡ false → ReplaceAlike over_bytes over_utf8 },
+}
+
+/// Whether the pattern may match nothing. Of one that is too deep to be built it isn't said.
+fn may_be_empty(hir: &Hir) -> bool
+    ensures { result ≡ false → is_ever_empty (meaning hir.now ∷ []) ≡ false }
+{
+    hir.properties().minimum_len() == Some(0)
 }
 
 /// Builds a regex of the pattern.
@@ -41,12 +53,14 @@ impl<'t> Replacer<'t> {
         ensures over_bytes { IfOk result (λ r. regex_patterns r.over_bytes ≡ meaning hir.now ∷ []) }
         ensures template { IfOk result (λ r. template_items r.template ≡ template_items template.entry) }
     {
+        let may_be_empty = may_be_empty(hir);
         let over_utf8 = build(alloc, hir, true)?;
         match build(alloc, hir, false) {
             Ok(over_bytes) => Ok(Replacer {
                 template,
                 over_utf8,
                 over_bytes,
+                may_be_empty,
             }),
             Err(refusal) => {
                 drop(over_utf8);

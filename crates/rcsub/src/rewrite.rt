@@ -1,18 +1,19 @@
 //! Replacement: the texts in which each match of a pattern is replaced by a template.
-ghost use Rattle.std.specs.Prelude.{◌≡◌, ℕ, List, IfOk, IfSome, IsTrue, IsUtf8, OnOk, ◌↔◌, ◌++◌, false};
+ghost use Rattle.std.specs.Prelude.{◌≡◌, ℕ, List, IfOk, IfSome, IsTrue, IsUtf8, OnOk, ◌↔◌, ◌++◌, ◌<◌, ◌≤◌, false, length, take};
 ghost use Rattle.std.specs.Io.BufRead.{strip_last};
-ghost use Rattle.std.specs.Io.KnownBytes.{Appends};
+ghost use Rattle.std.specs.Io.KnownBytes.{Appends, Consumes, IsAtEnd};
 ghost use Rattle.rcsub.specs.Replaced.{IsReplaced, Rewrites, RewritesLines, RewritesBy, newline_of};
 
 use crate::replacer::Replacer;
+use crate::streamed::Streamed;
 use buffered_sink::BufferedSink;
 use chunk_replace::{ReplaceError, replace_all};
 use regex_cursor::run::{Sink, put_all};
-use std::alloc::Global;
+use std::alloc::{AllocError, Global};
 use std::io;
 use std::io::{BufRead, BufReader, ErrorKind, Read, Write};
 
-/// The length of the pages in which lines are read, in bytes.
+/// The length of the pages in which a text is read, in bytes.
 const PAGE: usize = 65_536;
 
 /// Why a text wasn't replaced to its end.
@@ -42,6 +43,30 @@ impl From<ReplaceError> for Fault {
             ReplaceError::Write => Fault::Write(io::Error::from(ErrorKind::Other)),
         }
     }
+}
+
+impl From<AllocError> for Fault {
+    fn from(_: AllocError) -> Fault {
+        Fault::Memory
+    }
+}
+
+/// Reads some bytes into the page, and returns how many. There are none only at the end. A read that
+/// is interrupted is made again.
+fn read_page<R: Read>(input: &mut R, page: &mut [u8]) -> io::Result<usize>
+    requires { 0 < length page.old }
+    ensures bound { IfOk result (λ n. n ≤ length page.new) }
+    ensures long { length page.new ≡ length page.old }
+    ensures read { IfOk result (λ n. Consumes (R.remaining input.old) (R.remaining input.new)
+        (take n page.new) × (n ≡ 0 → IsAtEnd (R.remaining input.new))) }
+{
+    for _turn in 0..u64::MAX {
+        match input.read(page) {
+            Err(fault) if fault.kind() == ErrorKind::Interrupted => {}
+            done => return done,
+        }
+    }
+    Err(io::Error::from(ErrorKind::Other))
 }
 
 /// Whether the bytes are UTF-8.
@@ -126,6 +151,55 @@ impl Replacer<'_> {
         Ok(count > 0)
     }
 
+    /// Writes what is left of a reader as it comes in, as a text with each match replaced, and
+    /// returns whether there was one. What is in memory is a page, and the bytes of the match that
+    /// is under way, or up to twice as many.
+    fn rewrite_stream<R: Read, W: Sink>(
+        &self,
+        alloc: Global,
+        input: &mut R,
+        out: &mut W,
+    ) -> Result<bool, Fault>
+        requires sound { W.has_failed out.old ≡ false }
+        requires filled { self.now.may_be_empty ≡ false }
+        ensures put { IfOk result (λ any. IfSome (R.remaining input.old) (λ text.
+            Rewrites self.now text
+            (W.taken out.old) (W.taken out.new) any)) }
+        ensures sound { OnOk result (W.has_failed out.new ≡ false) }
+    {
+        let mut streamed = Streamed::new(alloc, &self.over_bytes)?;
+        let mut page = vec![in alloc; 0; PAGE]?;
+        for _page in 0..u64::MAX {
+            let count = read_page(input, &mut page)?;
+            if count == 0 {
+                return streamed.put_last(&self.template, out);
+            }
+            streamed.feed(&page[..count])?;
+            streamed.put_due(&self.template, out)?;
+        }
+        Err(Fault::Read(io::Error::from(ErrorKind::Other)))
+    }
+
+    /// Writes what is left of a reader, as a text with each match replaced, and returns whether
+    /// there was one. A text is in memory as a whole only if the pattern may match nothing.
+    fn rewrite_text<R: Read, W: Sink>(
+        &self,
+        alloc: Global,
+        input: &mut R,
+        out: &mut W,
+    ) -> Result<bool, Fault>
+        requires { W.has_failed out.old ≡ false }
+        ensures put { IfOk result (λ any. IfSome (R.remaining input.old) (λ text.
+            Rewrites self.now text
+            (W.taken out.old) (W.taken out.new) any)) }
+        ensures sound { OnOk result (W.has_failed out.new ≡ false) }
+    {
+        if self.may_be_empty {
+            return self.rewrite(alloc, input, out);
+        }
+        self.rewrite_stream(alloc, input, out)
+    }
+
     /// Writes the lines that are left of a reader, each as a text of its own with each match
     /// replaced, and returns whether there was one. One line is in memory at a time.
     fn rewrite_lines<R: BufRead, W: Sink>(
@@ -168,7 +242,7 @@ impl Replacer<'_> {
             (W.taken out.old) (W.taken out.new) any)) }
     {
         if !by_line {
-            return self.rewrite(alloc, &mut input, out);
+            return self.rewrite_text(alloc, &mut input, out);
         }
         let mut reader = BufReader::with_capacity(alloc, PAGE, input)?;
         self.rewrite_lines(alloc, &mut reader, out)
@@ -176,8 +250,9 @@ impl Replacer<'_> {
 
     /// Writes what is left of a reader with each match replaced, and returns whether there was one,
     /// and the writer, once all was written. By line each line is a text of its own, and one is in
-    /// memory at a time; else all is one text, in memory as a whole. After an `Err` a part of it was
-    /// written, from its start on.
+    /// memory at a time. Else all is one text: it is in memory as a whole if the pattern may match
+    /// nothing, and otherwise it is written as it comes in. After an `Err` a part of it was written,
+    /// from its start on.
     pub fn rewrite_over<R: Read + Drop, W: Write + Drop>(
         &self,
         alloc: Global,
