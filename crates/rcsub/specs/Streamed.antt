@@ -1,4 +1,4 @@
--- Only proofs use this file.
+-- Only proofs and the contracts of private functions use this file.
 -- A text that comes in by pages, and is written as it comes, with each match replaced.
 use Rattle.std.specs.Prelude.{◌≡◌, ◌↔◌, ℕ, ◌+◌, ◌-◌, ◌<◌, ◌≤◌, Bool, List, [], ◌∷◌, ◌++◌, length, map, Option, Some, IsTrue}
 use Rattle.std.specs.Io.KnownBytes.{Appends}
