@@ -1,3 +1,4 @@
+-- Only proofs use this file.
 -- Matches that lie in one line.
 use Rattle.std.specs.Prelude.{◌≡◌, ◌≢◌, ℕ, ◌<◌, ◌≤◌, List, Some, slice_get}
 use Rattle.rc_text.specs.declared.types.Span.{Span}
