@@ -14,4 +14,3 @@ pub mod StartLemmas
 pub mod FailureLemmas
 pub mod LongLemmas
 pub mod ByteSetLemmas
-pub mod BlockLemmas

@@ -10,7 +10,6 @@ pub mod byte_set;
 mod candidates;
 mod failure;
 pub mod hit;
-mod lanes;
 pub mod laws;
 pub mod literal;
 mod long;
