@@ -14,3 +14,4 @@ pub mod StartLemmas
 pub mod FailureLemmas
 pub mod LongLemmas
 pub mod ByteSetLemmas
+pub mod BlockLemmas

@@ -8,8 +8,8 @@ ghost use Rattle.std.proofs.Props.{props};
 ghost use Rattle.rc_needles.specs.ByteSets.{TakesOutside};
 ghost use Rattle.rc_needles.specs.Teddies.{buckets};
 
-use crate::pairs::lowest;
-use crate::teddy::{Sift, marks_of};
+use crate::lanes::{lowest, marks_of};
+use crate::teddy::Sift;
 
 /// How many bytes are looked up at a time.
 const LANES: usize = 16;

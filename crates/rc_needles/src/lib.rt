@@ -10,6 +10,7 @@ pub mod byte_set;
 mod candidates;
 mod failure;
 pub mod hit;
+mod lanes;
 pub mod laws;
 pub mod literal;
 mod long;

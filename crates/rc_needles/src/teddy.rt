@@ -13,7 +13,7 @@ ghost use Rattle.std.specs.Int.{bit_at};
 ghost use Rattle.rc_needles.specs.Teddies.{AreLanes, AreMarked, AreSifted, HaveBegun, IsSifted, buckets};
 ghost use Rattle.rc_needles.specs.Tables.{Agrees, needles_in};
 
-use crate::pairs::lowest;
+use crate::lanes::{has_some, lowest, marks_of};
 use std::simd::prelude::*;
 
 /// How many indices a vector covers: half of those that are looked up at a time.
@@ -335,25 +335,6 @@ fn one_back(before: u8x16, now: u8x16) -> u8x16
             15, 16, 17, 18, 19, 20, 21, 22, 23, 24, 25, 26, 27, 28, 29, 30,
         ],
     )
-}
-
-/// Whether one of the lanes isn't 0.
-#[inline(always)]
-fn has_some(lanes: u8x16) -> bool
-    requires { length lanes ≡ 16 }
-    ensures { (k : ℕ) → k < 16 → 0 < slice_index lanes k → IsTrue result }
-{
-    lanes.simd_ne(u8x16::splat(0)).to_bitmask() != 0
-}
-
-/// Returns a number whose bit k is set if the number at k isn't 0.
-#[inline(always)]
-pub(crate) fn marks_of(lanes: u8x16) -> u64
-    requires { length lanes ≡ 16 }
-    ensures small { result < 2 ^ 16 }
-    ensures set { (k : ℕ) → k < 16 → 0 < slice_index lanes k → 0 < bit_at result k }
-{
-    lanes.simd_ne(u8x16::splat(0)).to_bitmask()
 }
 
 /// Returns a number whose bit k is set if the number at k of the two vectors isn't 0.

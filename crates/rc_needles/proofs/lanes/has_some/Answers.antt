@@ -2,7 +2,7 @@ use Rattle.std.proofs.Common.{◌<◌, arith, map, cond, not, eqb, replicate, �
 use Rattle.std.specs.Simd.Lanes.{mask_l, top, zip2}
 use Rattle.std.proofs.lemmas.Bool.Decides.{nat_tests}
 use Rattle.rc_needles.proofs.TeddyLemmas.{nonzero_set, some_bit}
-use Rattle.rc_needles.proofs.teddy.has_some.Goals as goal
+use Rattle.rc_needles.proofs.lanes.has_some.Goals as goal
 
 pub returns : goal.returns
 returns c k l some =

@@ -2,7 +2,7 @@ use Rattle.std.proofs.Common.{arith, inl, inr, w64}
 use Rattle.std.specs.Int.{trailing_zeros}
 use Rattle.std.proofs.lemmas.Bool.{cases_lt}
 use Rattle.std.proofs.lemmas.Nat.Bits.{bit_at-trailing_zeros, bit_at_above}
-use Rattle.rc_needles.proofs.pairs.lowest.Goals as goal
+use Rattle.rc_needles.proofs.lanes.lowest.Goals as goal
 
 pub returns-clause-low : goal.returns-clause-low
 returns-clause-low c =

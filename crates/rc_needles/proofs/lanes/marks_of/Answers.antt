@@ -1,6 +1,6 @@
 use Rattle.std.proofs.Common.{arith}
 use Rattle.rc_needles.proofs.TeddyLemmas.{nonzero_fit, nonzero_set}
-use Rattle.rc_needles.proofs.teddy.marks_of.Goals as goal
+use Rattle.rc_needles.proofs.lanes.marks_of.Goals as goal
 
 pub returns-clause-small : goal.returns-clause-small
 returns-clause-small c = nonzero_fit c.args.lanes c.requires
