@@ -1,10 +1,6 @@
 -- Searches that ask first whether a match begins where the first one may.
-use Rattle.std.proofs.Common.{◌≡◌, ◌↔◌, ◌∙◌, ℕ, ◌+◌, ◌-◌, ◌<◌, ◌≤◌, Bool, true, false, not, ◌||◌, true≢false, List, length, Option, Some, None, Result, Ok, Err, IfOk, sym, subst, ap, ap₂, refl, arith, inl, inr, ⊎_elim, slice_get, slice_range, take}
-use Rattle.std.specs.Prelude.{slice_index}
+use Rattle.std.proofs.Common.{◌≡◌, ◌↔◌, ◌∙◌, ℕ, ◌-◌, ◌<◌, ◌≤◌, Bool, true, false, not, ◌||◌, true≢false, List, Option, Some, None, Result, Ok, Err, IfOk, sym, subst, ap, ap₂, refl, arith, inl, inr, ⊎_elim}
 use Rattle.std.proofs.lemmas.Bool.{cases_lt}
-use Rattle.std.proofs.lemmas.List.{get_or-take, length-take-le}
-use Rattle.std.proofs.lemmas.Option.{slice_get-get_or}
-use Rattle.rc_text.proofs.Ranges.{slice_get-slice_range}
 use Rattle.rc_text.specs.Found.{Found}
 use Rattle.rc_walks.specs.Walks.{Pair}
 use Rattle.rc_text.specs.Text.{Searched, Keeps, is_boundary, low, high}
@@ -19,11 +15,6 @@ use Rattle.rc_program.specs.Longest.{HasNoAnswerOf, IsAnswerOf, IsLongestFrom, I
 use Rattle.rc_program.specs.Sought.{anchoring_of, search_over, text_of}
 use Rattle.rc_program.proofs.AnswerLemmas.{answer_law}
 use Rattle.rc_program.proofs.ReachLemmas.{longest_law}
-use Rattle.rc_needles.specs.Guards.{Guards}
-use Rattle.rc_needles.specs.Needles.{NoneAt}
-use Rattle.rc_needles.specs.Tables.{AreSome, BeginsWithByte, numbered}
-use Rattle.rc_needles.proofs.RelationLemmas.{get_some, within_true}
-use Rattle.rc_needles.proofs.StandLemmas.{begins_with}
 use Rattle.rc_determinize.specs.Laws.{may_end_at}
 use Rattle.rc_program.specs.Kinds.{IsAnswerBy, answer_by}
 use Rattle.rc_text.specs.declared.types.MatchKind.{MatchKind}
@@ -37,28 +28,6 @@ use Rattle.rc_dfa_search.proofs.LegLemmas.{free_case}
 use Rattle.rc_dfa_search.proofs.ToldLemmas.{kept_search}
 use Rattle.rc_dfa_search.specs.Firsts.{starting_at}
 use Rattle.rc_dfa_search.specs.Legs.{GoesByNeedles}
-
--- WHERE NO NEEDLE BEGINS
-
-module _ (needles : List (List ℕ)) (some : AreSome needles) (content piece : List ℕ) (from : ℕ)
-    (is : piece ≡ slice_range content from (from + length piece)) where
-  byte_at : (k : ℕ) → k < length piece → slice_get content (from + k) ≡ Some (slice_index piece k)
-  byte_at k inside =
-      sym (slice_get-slice_range content from (from + length piece) k (omega (arith, inside)))
-      ∙ ap (λ bs. slice_get bs k) (sym is) ∙ slice_get-get_or piece k 0 inside
-
-  pub none_near : (passed : ℕ) → passed ≤ length piece →
-      ((k n : ℕ) → k < passed → n < length needles → ¬ BeginsWithByte (numbered needles n) (slice_index piece k)) →
-      (hi x : ℕ) → from ≤ x → x < from + passed → NoneAt needles content hi x
-  none_near passed short none hi x low lt n needle at stands =
-      let k : ℕ = x - from in
-      let g = get_some needles n needle at in
-      let whole = within_true content needle hi x stands in
-      let there : from + k ≡ x = omega (arith, low) in
-      let byte : slice_get content x ≡ Some (slice_index piece k) =
-      subst (λ y. slice_get content y ≡ Some (slice_index piece k)) there (byte_at k (omega (arith, low, lt, short))) in
-      let begins = begins_with content hi x (slice_index piece k) needle (subst (λ w. 0 < length w) g.1 (some n g.0)) byte whole in
-      none k n (omega (arith, low, lt)) g.0 (subst (λ w. BeginsWithByte w (slice_index piece k)) (sym g.1) begins)
 
 -- WHERE NO WALK BEGINS BEFORE
 
@@ -209,22 +178,6 @@ module _ (AreOf : Machine → Machine → Type 0) (aim : Aim) (hs : List Re) (te
 
 pub over_kept : (places : List Place) (terminator : ℕ) (over : Bool) (a b : Searched) → Keeps a b → search_over places terminator over b ≡ search_over places terminator over a
 over_kept places terminator over a b k = rw (k.content, k.span, k.slice, k.anchored) refl
-
-module _ (places : List Place) (terminator : ℕ) (over : Bool) (s : Searched) (needles : List (List ℕ)) (some : AreSome needles) (piece : List ℕ) (from end near passed : ℕ)
-    (bound : end ≡ high s) (is : piece ≡ slice_range s.content from (from + length piece)) (within : from + length piece ≤ end) (least : near ≤ length piece)
-    (passes : passed ≤ length (take near piece))
-    (none : (k n : ℕ) → k < passed → n < length needles → ¬ BeginsWithByte (numbered needles n) (slice_index (take near piece) k))
-    (guards : Guards places terminator needles) where
-  short : passed ≤ near
-  short = let all = length-take-le near piece least in omega (arith, passes, all)
-
-  -- no walk begins in the piece's beginning
-  pub none_first : (x : ℕ) → from ≤ x → x < from + passed → HasNoWalkFrom (search_over places terminator over s) x
-  none_first x low lt =
-      guards over s x (omega (arith, lt, short, least, within, bound))
-      (none_near needles some s.content piece from is passed (omega (arith, short, least))
-      (λ k n l m. subst (λ b. ¬ BeginsWithByte (numbered needles n) b) (get_or-take near piece k 0 (omega (arith, l, short))) (none k n l m))
-      (high s) x low lt)
 
 -- no walk begins up to a position, nor from there on
 pub none_on : (places : List Place) (terminator : ℕ) (over : Bool) (s cur : Searched) → Keeps s cur → (from at to : ℕ) →

@@ -26,7 +26,6 @@ pub mod ReverseEndLemmas
 pub mod SameLemmas
 pub mod JumpLemmas
 pub mod BeginLemmas
-pub mod HeadLemmas
 pub mod SeenLemmas
 pub mod ReachLemmas
 pub mod SettledLemmas

@@ -1,9 +1,10 @@
 -- How many bytes settle what searches find that go from needle to needle.
-use Rattle.std.proofs.Common.{◌≡◌, ℕ, ◌+◌, ◌-◌, ◌<◌, ◌≤◌, Bool, true, false, not, ◌&&◌, true≢false, List, [], ◌∷◌, length, Option, Some, None, Result, IfOk, max, min, sym, subst, ap, ◌∙◌, refl, arith, inr, ⊎_elim, take, drop, take-take, length-take, slice_range}
+use Rattle.std.proofs.Common.{◌≡◌, ℕ, ◌+◌, ◌-◌, ◌<◌, ◌≤◌, Bool, true, false, not, ◌&&◌, true≢false, IsTrue, slice_index_or, List, [], ◌∷◌, length, Option, Some, None, Result, IfOk, max, min, sym, subst, ap, ◌∙◌, refl, arith, inr, ⊎_elim, take, drop, take-take, length-take, slice_range}
 use Rattle.std.specs.Prelude.{slice_index}
 use Rattle.std.proofs.lemmas.List.{get_or-take, length-take-le, take_all}
 use Rattle.std.specs.Prelude.{is_some}
-use Rattle.std.proofs.lemmas.Option.{same_Some, none-some}
+use Rattle.std.proofs.lemmas.Option.{same_Some, none-some, slice_get-get_or}
+use Rattle.rc_text.proofs.Ranges.{slice_get-slice_range}
 use Rattle.std.specs.List.{slice_get}
 use Rattle.std.specs.Option.{option_map}
 use Rattle.rc_text.specs.Found.{Found}
@@ -15,12 +16,16 @@ use Rattle.rc_text.specs.declared.types.Anchored.TheVariants.{No, Yes}
 use Rattle.rc_text.specs.declared.types.MatchKind.{MatchKind}
 use Rattle.rc_text.specs.declared.types.MatchError as error
 use Rattle.rc_pattern.specs.Re.{Re}
-use Rattle.rc_program.specs.Answer.{Search, Anchoring, HasNoWalkFrom}
+use Rattle.rc_walks.specs.Walks.{Pair}
+use Rattle.rc_program.specs.Answer.{Search, Anchoring, HasNoWalkFrom, ends, only}
 use Rattle.rc_program.specs.Kinds.{IsAnswerBy, answer_by}
-use Rattle.rc_program.specs.Program.{Place, program}
+use Rattle.rc_program.specs.Program.{Place, place_at, program}
 use Rattle.rc_program.specs.Sought.{anchoring_of, text_of}
 use Rattle.rc_program.specs.Spells.{Stands}
 use Rattle.rc_program.specs.Text.{Text}
+use Rattle.rc_program.proofs.AnswerLemmas.{match_place_is}
+use Rattle.rc_program.proofs.HeadsLemmas.{none_goes_on}
+use Rattle.rc_needles.specs.ByteSets.{AreInside}
 use Rattle.rc_needles.specs.Needles.{NoneAt, find_needle, longest}
 use Rattle.rc_needles.specs.Guards.{Guards}
 use Rattle.rc_needles.specs.Tables.{AreSome, BeginsWithByte, numbered}
@@ -48,21 +53,21 @@ use Rattle.rc_dfa_search.specs.declared.needles.Leg.{Leg}
 use Rattle.rc_dfa_search.specs.declared.needles.Leg.TheVariants as legs
 use Rattle.rc_dfa_search.specs.Aims.{AreHalvesOf, is_early, search_for}
 use Rattle.rc_dfa_search.specs.Ends.{HasMetDown, told_of}
-use Rattle.rc_dfa_search.specs.Firsts.{starting_at}
+use Rattle.rc_dfa_search.specs.Firsts.{TellsOthers, starting_at}
 use Rattle.rc_dfa_search.specs.Leftmost.{IsRaisedBy}
 use Rattle.rc_dfa_search.specs.Legs.{GoesByNeedles, HasRun, IsGiven, leg_of}
 use Rattle.rc_dfa_search.specs.Machines.{IsCase}
 use Rattle.rc_dfa_search.specs.Reaches.{GivesBelow, HasRunBelow, IsAnswerBelow, IsGivenBelow, NoneBeginBelow, TellsReach}
 use Rattle.rc_dfa_search.specs.Rests.{GivesToo, HasNoWalkBetween}
 use Rattle.rc_dfa_search.proofs.CaseLemmas.{same_reading}
-use Rattle.rc_dfa_search.proofs.BeginLemmas.{case_here, found_here, may as may_here, none_first as none_first_near}
+use Rattle.rc_dfa_search.proofs.BeginLemmas.{case_here, found_here, may as may_here, not_begun}
 use Rattle.rc_dfa_search.proofs.LeftmostLemmas.{leftmost_law}
 use Rattle.rc_dfa_search.proofs.JumpLemmas.{not_early}
 use Rattle.rc_dfa_search.proofs.LegLemmas.{free_case}
 use Rattle.rc_dfa_search.proofs.ReachLemmas.{is_no, itself, none_below, same_case, some_held}
 use Rattle.rc_dfa_search.proofs.RestLemmas.{given_law, rest_law, rests_between}
 use Rattle.rc_dfa_search.proofs.SeenLemmas.{seen_past}
-use Rattle.rc_dfa_search.proofs.ToldLemmas.{kept_text}
+use Rattle.rc_dfa_search.proofs.ToldLemmas.{kept_same, kept_text}
 
 -- what agrees below q agrees below r
 take_less : (xs ys : List ℕ) (r q : ℕ) → r ≤ q → take q xs ≡ take q ys →
@@ -280,38 +285,54 @@ none_first aim hs terminator s guard start first begins within r far guards t in
     let lo = agrees.lo in
     none_begin aim hs terminator s t in2 r agrees guard (low s) start first begins within.0 within.1 within.2 far guards z (omega (arith, lo, above)) lt
 
--- the beginning of a piece, in each content that is the same there
-piece_too : (xs ys piece : List ℕ) (from passed r : ℕ) → piece ≡ slice_range xs from (from + length piece) → passed ≤ length piece → from + passed ≤ r →
-    take r ys ≡ take r xs → take passed piece ≡ slice_range ys from (from + passed)
-piece_too xs ys piece from passed r is short le same =
-    let whole : from + length piece - from ≡ length piece = omega arith in
-    let part : from + passed - from ≡ passed = omega arith in
-    ap (take passed) is ∙ ap (λ n. take passed (take n (drop from xs))) whole ∙ take-take passed (length piece) (drop from xs) short
-    ∙ sym (ap (λ n. take n (drop from xs)) part)
-    ∙ range_is_rest xs from (from + passed) ∙ sym (ap (drop from) (take_less ys xs (from + passed) r le same)) ∙ sym (range_is_rest ys from (from + passed))
+-- THE FIRST BYTE
 
--- where no needle begins, no match does
-pub near_skipped : (aim : Aim) (hs : List Re) (terminator : ℕ) (s : Searched) (needles : List (List ℕ)) → AreSome needles → (piece : List ℕ) (from near passed : ℕ) → from ≡ low s →
-    piece ≡ slice_range s.content from (from + length piece) → from + length piece ≤ high s → near ≤ length piece → passed ≤ length (take near piece) →
-    ((k n : ℕ) → k < passed → n < length needles → ¬ BeginsWithByte (numbered needles n) (slice_index (take near piece) k)) →
-    Guards (program hs) terminator needles → NoneBeginBelow (search_for aim hs terminator s) (from + passed) (from + passed)
-near_skipped aim hs terminator s needles some piece from near passed at is within least passes none guards t in2 agrees z above lt =
+-- no walk begins over a byte that has a flag
+none_over : (s : Search) (x b : ℕ) (flags : List Bool) → TellsOthers s.places 0 flags → IsTrue (slice_index_or flags b false) →
+    slice_get (slice_range s.text.content x s.hi) 0 ≡ Some b → HasNoWalkFrom s x
+none_over s x b flags tells set ahead_is =
+    none_goes_on s.places s.text s.hi 0 x b (λ n. IsTrue (ends s n)) []
+    (λ (n : Pair) h. (_, match_place_is (only s.anchoring) (place_at s.places n.0) h)) ahead_is (tells b set)
+
+-- none begins over such bytes of a piece, in each content that is the same there
+pub others_skipped : (aim : Aim) (hs : List Re) (terminator : ℕ) (s : Searched) (flags : List Bool) → TellsOthers (program hs) 0 flags →
+    (piece : List ℕ) (at near passed : ℕ) → piece ≡ slice_range s.content at (at + length piece) → at + length piece ≤ high s → near ≤ length piece →
+    passed ≤ length (take near piece) → AreInside flags (take near piece) passed → (r : ℕ) → at + passed ≤ r → (t : Search) → IsInside t →
+    AgreesBelow r (search_for aim hs terminator s) t → HasNoWalkBetween t at (at + passed)
+others_skipped aim hs terminator s flags tells piece at near passed is within least passes inside r far t in2 agrees z above lt =
     let all = length-take-le near piece least in
-    let short : passed ≤ length piece = omega (arith, passes, all, least) in
-    let long : length (take passed piece) ≡ passed = length-take-le passed piece short in
-    let lo = agrees.lo in
-    let so = other_high aim hs terminator s t in2 (from + passed) agrees in
-    let up = within_too aim hs terminator s t in2 (from + passed) agrees (from + passed) (omega (arith, within, short)) (omega arith) in
-    let own : length (take passed (take passed piece)) ≡ passed = ap length (take-take passed passed piece (omega arith)) ∙ long in
-    subst (λ (q : Search). HasNoWalkFrom q z) (is_other aim hs terminator s t in2 (from + passed) agrees)
-    (none_first_near (program hs) terminator aim.passes_over (other aim hs terminator s t in2 (from + passed) agrees) needles some (take passed piece) from
-    (high (other aim hs terminator s t in2 (from + passed) agrees)) passed passed refl
-    (piece_too s.content t.text.content piece from passed (from + passed) is short (omega arith) agrees.content
-    ∙ ap (λ n. slice_range t.text.content from (from + n)) (sym long))
-    (omega (arith, long, so, up)) (omega (arith, long)) (omega (arith, own))
-    (λ k n l m. subst (λ b. ¬ BeginsWithByte (numbered needles n) b)
-    (get_or-take near piece k 0 (omega (arith, l, passes, all))
-    ∙ sym (get_or-take passed piece k 0 l) ∙ sym (get_or-take passed (take passed piece) k 0 l)) (none k n l m)) guards z (omega (arith, at, lo, above)) lt)
+    let k : ℕ = z - at in
+    let in_passed : k < passed = omega (arith, above, lt) in
+    let in_near : k < near = omega (arith, in_passed, passes, all) in
+    let in_piece : k < length piece = omega (arith, in_near, least) in
+    let b : ℕ = slice_index piece k in
+    let set : IsTrue (slice_index_or flags b false) = subst (λ c. IsTrue (slice_index_or flags c false)) (get_or-take near piece k 0 in_near) (inside k in_passed) in
+    let there : at + k ≡ z = omega (arith, above) in
+    let stands : slice_get s.content z ≡ Some b =
+    subst (λ y. slice_get s.content y ≡ Some b) there
+    (sym (slice_get-slice_range s.content at (at + length piece) k (omega (arith, in_piece))) ∙ ap (λ bs. slice_get bs k) (sym is) ∙ slice_get-get_or piece k 0 in_piece) in
+    let up = within_too aim hs terminator s t in2 r agrees (z + 1) (omega (arith, lt, passes, all, least, within)) (omega (arith, lt, far)) in
+    none_over t z b flags (subst (λ ps. TellsOthers ps 0 flags) (sym agrees.places) tells) set
+    (slice_get-slice_range t.text.content z t.hi 0 (omega (arith, up)) ∙ ap (slice_get t.text.content) (omega arith)
+    ∙ sym (same_byte aim hs terminator s t in2 r agrees z (omega (arith, lt, far))) ∙ stands)
+
+-- where these bytes settle that no match begins, no walk does
+pub none_there : (aim : Aim) (hs : List Re) (terminator : ℕ) (s : Searched) (goes : GoesByNeedles aim s.anchored) (from : ℕ) → low s ≤ from → from ≤ high s →
+    (q r : ℕ) → q ≤ r → from ≤ r → (o : Option Found) → is_some o ≡ false →
+    IsAnswerBelow aim.kind (starting_at from (search_for aim hs terminator s)) q o →
+    (t : Search) → IsInside t → AgreesBelow r (search_for aim hs terminator s) t → HasNoWalkFrom t from
+none_there aim hs terminator s goes from above below q r le far (Some m) e here t in2 agrees = absurd (true≢false e)
+none_there aim hs terminator s goes from above below q r le far None e here t in2 agrees =
+    let S = search_for aim hs terminator s in
+    let z = other aim hs terminator s t in2 r agrees in
+    let so = other_high aim hs terminator s t in2 r agrees in
+    let up = within_too aim hs terminator s t in2 r agrees from below far in
+    let same = is_other aim hs terminator s t in2 r agrees in
+    let less = agrees_less S t q r le agrees in
+    subst (λ (q : Search). HasNoWalkFrom q from) same
+    (not_begun aim hs terminator z z (kept_same z) goes (low z) (high z) refl refl z (kept_same z) from (omega (arith, so, up))
+    (sym (here (starting_at from t) (moved_inside from S t q (inside_of aim hs terminator s) above less in2) (moved_agrees from S t q less))
+    ∙ ap (λ q. answer_by aim.kind (starting_at from q)) (sym same)))
 
 -- what an anchored run met, and how many bytes settle it
 abbrev pub IsMetBelow : MatchKind → Search → ℕ → ℕ → Option Met → Type 0

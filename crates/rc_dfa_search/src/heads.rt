@@ -1,91 +1,84 @@
-//! First bytes: DFA searches that first try an anchored run at the first byte that may begin a
-//! match. Positions are in bytes of the whole content.
-ghost use Rattle.std.specs.Prelude.{◌≡◌, ◌<◌, ◌≤◌, ℕ, List, IfOk, IfSome, false, length, slice_index, slice_index_or};
+//! First bytes: DFA searches that first try anchored runs where a match may begin. Positions are in
+//! bytes of the whole content.
+ghost use Rattle.std.specs.Prelude.{◌≡◌, ℕ, List, IfOk, IfSome};
 ghost use Rattle.rc_text.specs.Bounds.{IsWithinBounds};
 ghost use Rattle.rc_text.specs.Text.{Keeps};
 ghost use Rattle.rc_pattern.specs.Re.{Re};
-ghost use Rattle.rc_program.specs.Heads.{TellsHeads};
 ghost use Rattle.rc_program.specs.Program.{program};
-ghost use Rattle.rc_program.specs.Kinds.{IsAnswerBy};
+ghost use Rattle.rc_dfa_reach.specs.RunReach.{seen_to};
 ghost use Rattle.rc_dfa_search.specs.Aims.{AreBounds, AreHalvesOf, search_for};
+ghost use Rattle.rc_dfa_search.specs.Firsts.{TellsOthers};
+ghost use Rattle.rc_dfa_search.specs.Reaches.{IsAnswerBelow, TellsReach};
 
-use crate::first::NEAR;
-use crate::needles::goes_by_needles;
-use crate::reach::settle_here;
-use crate::search::{Aim, Bounds, find_between};
+use crate::reach::{Settled, find_settled, settle_here};
+use crate::search::{Aim, Bounds};
 use rc_dfa::halves::Halves;
+use rc_needles::byte_set::ByteSet;
 use rc_text::cursor::Cursor;
 use rc_text::input::{Input, piece_from};
-use rc_text::types::{Match, MatchError};
+use rc_text::types::MatchError;
 
-/// How many anchored runs are tried after the first.
-const MORE_RUNS: usize = 3;
-
-/// Returns how many bytes of a piece are skipped: those before the first with a flag.
-#[inline(always)]
-fn skip_unset(flags: &[bool], piece: &[u8]) -> usize
-    requires { length flags.now ≡ 256 }
-    ensures within { result ≤ length piece.now }
-    ensures passed { (k : ℕ) → k < result → (slice_index piece.now k < 256)
-        × (slice_index_or flags.now (slice_index piece.now k) false ≡ false) }
-{
-    for (i, byte) in piece.iter().enumerate() {
-        if flags[*byte as usize] {
-            return i;
-        }
-    }
-    piece.len()
+/// Where a search tries anchored runs before it goes along the text.
+#[derive(Clone, Copy)]
+pub struct Tries {
+    /// Bytes over which no match begins.
+    pub others: ByteSet,
+    /// How many bytes are looked at for one over which a match may begin.
+    pub near: usize,
+    /// How many runs are tried.
+    pub runs: usize,
 }
 
-/// Returns the match that `find` returns, by the bytes over which matches may begin, one flag each.
-/// If the search is leftmost, not anchored, passes no match over, and such a byte is near, it first
-/// tries an anchored run there. So where matches are dense, nothing is searched backwards. If no
-/// match begins there, it searches on from that byte, or tries some more if the byte is past ASCII:
-/// many characters begin with it, and some of them may begin no match. An `Err` says why the DFA
-/// has no answer.
+/// Returns the match that `find` returns, and how many bytes settle it. If the search isn't
+/// anchored, it first tries anchored runs from the first bytes over which a match may begin, as
+/// long as the next one is near. So where matches are dense, nothing is searched backwards. If no
+/// match begins there, it goes along the text. An `Err` says why the DFA has no answer.
 #[inline(always)]
-pub fn find_by_heads<H: Halves, C: Cursor>(
+pub fn find_settled_first<H: Halves, C: Cursor>(
     halves: &H,
     cache: &mut H::Cache,
     input: &mut Input<C>,
     aim: Aim,
-    heads: &[bool],
+    tries: &Tries,
     bounds: Bounds,
-) -> Result<Option<Match>, MatchError>
+) -> Result<Settled, MatchError>
     requires cache { H.IsCache halves.now cache.old }
     requires bounds { AreBounds input.old bounds }
-    requires whole { length heads.now ≡ 256 }
+    requires tells { TellsReach aim }
     ensures cache { H.IsCache halves.now cache.new }
     ensures keeps { Keeps input.old input.new }
-    ensures found { (hs : List Re) (terminator : ℕ)
-        → AreHalvesOf (H.AreOf halves.now) aim hs terminator
-        → TellsHeads (program hs) 0 heads.now
-        → IfOk result (IsAnswerBy aim.kind aim.earliest (search_for aim hs terminator input.old)) }
-    ensures within { IfOk result (λ found. IfSome found (IsWithinBounds input.old)) }
+    ensures settled { (hs : List Re) (terminator : ℕ)
+        (of : AreHalvesOf (H.AreOf halves.now) aim hs terminator)
+        → TellsOthers (program hs) 0 tries.now.others.flags
+        → IfOk result (λ o. IsAnswerBelow aim.kind (search_for aim hs terminator input.old)
+        (seen_to of.ahead.alphabet o.reach) o.found) }
+    ensures within { IfOk result (λ o. IfSome o.found (IsWithinBounds input.old)) }
 {
-    let Bounds { low, high } = bounds;
-    if low >= high || !goes_by_needles(aim, input.get_anchored()) {
-        return find_between(halves, cache, input, aim, bounds);
+    if input.get_anchored().is_anchored() {
+        return find_settled(halves, cache, input, aim, bounds);
     }
+    let Bounds { low, high } = bounds;
+    let mut left = tries.runs;
     let mut at = low;
-    let mut more = MORE_RUNS;
-    'runs: loop {
+    let mut reach = low;
+    while left > 0 && at < high {
         let piece = piece_from(input, at, high);
-        let near = piece.len().min(NEAR);
-        let passed = skip_unset(heads, &piece[..near]);
+        let near = piece.len().min(tries.near);
+        let passed = tries.others.first_outside(&piece[..near]);
         let from = at + passed;
         if passed == near {
-            return find_between(halves, cache, input, aim, Bounds { low: from, high });
+            return find_settled(halves, cache, input, aim, bounds);
         }
-        let is_past = piece[passed] >= 128;
         let here = settle_here(halves, cache, input, from, high)?;
+        reach = reach.max(here.reach).max(from);
         if here.found.is_some() {
-            return Ok(here.found);
+            return Ok(Settled {
+                found: here.found,
+                reach,
+            });
         }
-        if more == 0 || !is_past || from + 1 >= high {
-            return find_between(halves, cache, input, aim, Bounds { low: from, high });
-        }
-        more -= 1;
+        left -= 1;
         at = from + 1;
     }
+    find_settled(halves, cache, input, aim, bounds)
 }

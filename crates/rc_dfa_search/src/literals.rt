@@ -6,8 +6,6 @@ ghost use Rattle.rc_text.specs.Text.{Keeps};
 ghost use Rattle.rc_pattern.specs.Re.{Re};
 ghost use Rattle.rc_program.specs.Program.{program};
 ghost use Rattle.rc_program.specs.Kinds.{IsAnswerBy};
-ghost use Rattle.rc_needles.specs.Guards.{Guards};
-ghost use Rattle.rc_needles.specs.Prefilters.{needles_of};
 ghost use Rattle.rc_literals.specs.Guard.{IsGuard};
 ghost use Rattle.rc_dfa_search.specs.Aims.{AreBounds, AreHalvesOf, search_for};
 
@@ -17,7 +15,6 @@ use crate::needles::{Left, find_by_needles, goes_by_needles};
 use crate::search::{Aim, Bounds, find_between};
 use rc_dfa::halves::Halves;
 use rc_literals::guard::Guard;
-use rc_needles::prefilter::Prefilter;
 use rc_text::cursor::Cursor;
 use rc_text::input::Input;
 use rc_text::types::{Match, MatchError};
@@ -56,7 +53,7 @@ pub fn find_by_guard<H: Halves, C: Cursor>(
         return find_early(halves, cache, input, aim, guard, bounds);
     }
     if let Guard::Begins(needles) = guard {
-        return find_by_first(halves, cache, input, aim, needles, true, bounds);
+        return find_by_first(halves, cache, input, aim, needles, bounds);
     }
     let left = Left {
         at: bounds.low,
@@ -64,42 +61,4 @@ pub fn find_by_guard<H: Halves, C: Cursor>(
         bounds,
     };
     find_by_needles(halves, cache, input, aim, guard, left)
-}
-
-/// Returns the match that `find` returns, if each match begins with a needle and the search for
-/// these is slow. If the DFA quits, it searches once more, from needle to needle: then it reads
-/// fewer bytes, and may not come to one that it may not read. An `Err` says why the DFA has no
-/// answer.
-#[inline(always)]
-pub fn find_past_quit<H: Halves, C: Cursor>(
-    halves: &H,
-    cache: &mut H::Cache,
-    input: &mut Input<C>,
-    aim: Aim,
-    needles: &Prefilter,
-    bounds: Bounds,
-) -> Result<Option<Match>, MatchError>
-    requires cache { H.IsCache halves.now cache.old }
-    requires bounds { AreBounds input.old bounds }
-    ensures cache { H.IsCache halves.now cache.new }
-    ensures keeps { Keeps input.old input.new }
-    ensures found { (hs : List Re) (terminator : ℕ)
-        → AreHalvesOf (H.AreOf halves.now) aim hs terminator
-        → Guards (program hs) terminator (needles_of needles.now)
-        → IfOk result (IsAnswerBy aim.kind aim.earliest (search_for aim hs terminator input.old)) }
-    ensures within { IfOk result (λ found. IfSome found (IsWithinBounds input.old)) }
-{
-    if !goes_by_needles(aim, input.get_anchored()) {
-        return find_between(halves, cache, input, aim, bounds);
-    }
-    let found = find_by_first(halves, cache, input, aim, needles, false, bounds);
-    if let Err(MatchError::Quit { .. }) = found {
-        let left = Left {
-            at: bounds.low,
-            reach: bounds.low,
-            bounds,
-        };
-        return find_by_needles(halves, cache, input, aim, Guard::Begins(needles), left);
-    }
-    found
 }

@@ -21,3 +21,4 @@ pub mod NearLemmas
 pub mod ReachLemmas
 pub mod PartialLemmas
 pub mod WordLemmas
+pub mod HeadLemmas

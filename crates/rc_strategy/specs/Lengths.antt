@@ -40,6 +40,7 @@ either a b = record {
   greatest = both (λ m n. Some (max m n)) a.greatest b.greatest;
   begins = a.begins && b.begins;
   ends = a.ends && b.ends;
+  lines = a.lines && b.lines;
 }
 
 -- Whether there can be no match of such a span.

@@ -2,6 +2,7 @@
 ghost use Rattle.rc_text.specs.declared.types.Anchored.TheVariants.{No};
 ghost use Rattle.rc_program.specs.Places.{places_of};
 ghost use Rattle.rc_dfa.specs.Machine.{bytes, symbols as read_symbols};
+ghost use Rattle.rc_dfa_search.specs.Firsts.{TellsOthers};
 ghost use Rattle.rc_strategy.specs.Needed.{NeedsConfine};
 ghost use Rattle.rc_strategy.specs.Routes.{AreLongest, Serves, ServesAll};
 ghost use Rattle.rc_strategy.specs.Slots.{IsOfPatterns, MayBeOnePass, NamesGroups};
@@ -14,12 +15,13 @@ use crate::cache::Cache;
 use crate::lengths::Lengths;
 use crate::lookahead::lookahead_of;
 use crate::question::{Question, half_of};
-use crate::route::{LongestLiterals, Route, anchored_route, free_route};
+use crate::route::{LongestLiterals, Route, anchored_route, free_route, tries_of};
 use crate::tables::{are_fast, machines_of};
 use crate::words::words_beside;
 use rc_captures::captures;
 use rc_captures::captures::Captures;
 use rc_dense_dfa::dense::Dense;
+use rc_dfa_search::heads::Tries;
 use rc_dfa_search::search::Aim;
 use rc_lazy_dfa::lazy::Lazy;
 use rc_literals::guard::Needs;
@@ -85,6 +87,8 @@ pub struct Engines {
     pub(crate) free_route: Route,
     /// How anchored DFA searches go.
     pub(crate) anchored_route: Route,
+    /// Where DFA searches without a guard try anchored runs.
+    pub(crate) tries: Tries,
     ghost fit: { ∥ MayBeTablesFor engine patterns tables ∥₁ },
     ghost lazy_fit: { ∥ MayBeLazyFor engine patterns lazy ∥₁ },
     ghost symbols_fit: { ∥ MayBeLazyFor engine patterns symbols ∥₁ },
@@ -104,6 +108,7 @@ pub struct Engines {
         (places_of engine.program.places.items) lookahead },
     ghost free: { Serves engine.kind spans No free_route },
     ghost anchored: { ServesAll engine.kind spans anchored_route },
+    ghost tried: { TellsOthers (places_of engine.program.places.items) 0 tries.others.flags },
 }
 
 // Crates above call this, and drop no part by themselves.
@@ -124,6 +129,7 @@ impl Drop for Engines {
             lookahead: _,
             free_route: _,
             anchored_route: _,
+            tries: _,
         } = self;
     }
 }
@@ -210,6 +216,7 @@ impl Engines {
         let lookahead = lookahead_of(&engine.program);
         let free_route = free_route(&engine, &spans, needs.is_some());
         let anchored_route = anchored_route(engine.kind, &spans);
+        let tries = tries_of(&engine, &spans);
         Ok(Engines {
             engine,
             tables: made.tables.dense,
@@ -225,6 +232,7 @@ impl Engines {
             lookahead,
             free_route,
             anchored_route,
+            tries,
         })
     }
 

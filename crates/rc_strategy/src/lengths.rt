@@ -4,7 +4,7 @@ ghost use Rattle.rc_pattern.specs.Properties.{both};
 
 use rc_dfa_search::search;
 use rc_pattern::check::properties_of;
-use rc_pattern::hir::{Hir, Look};
+use rc_pattern::hir::{Hir, Look, LookSet};
 use rc_text::cursor::Cursor;
 use rc_text::input::{Input, byte_at, high, low};
 
@@ -20,6 +20,8 @@ pub struct Lengths {
     begins: bool,
     /// Whether each span ends where the slice does.
     ends: bool,
+    /// Whether each span begins where a line does, as far as is known.
+    lines: bool,
 }
 
 /// Returns the greater of two bounds, if both are known.
@@ -31,6 +33,11 @@ fn greater(left: Option<usize>, right: Option<usize>) -> Option<usize>
         (Some(_), None) => None,
         (None, _) => None,
     }
+}
+
+/// Whether one of the assertions holds only where a line begins.
+fn has_line_start(looks: LookSet) -> bool {
+    looks.contains(Look::StartLF) || looks.contains(Look::StartCRLF)
 }
 
 impl Lengths {
@@ -48,11 +55,13 @@ impl Lengths {
         ensures greatest { result.greatest ≡ maximum_len (meaning hir.now) }
     {
         let properties = properties_of(hir);
+        let first = properties.look_set_prefix();
         Lengths {
             least: properties.minimum_len().unwrap_or(usize::MAX),
             greatest: properties.maximum_len(),
-            begins: properties.look_set_prefix().contains(Look::Start),
+            begins: first.contains(Look::Start),
             ends: properties.look_set_suffix().contains(Look::End),
+            lines: has_line_start(first),
         }
     }
 
@@ -65,6 +74,7 @@ impl Lengths {
             greatest: greater(self.greatest, other.greatest),
             begins: self.begins && other.begins,
             ends: self.ends && other.ends,
+            lines: self.lines && other.lines,
         }
     }
 
@@ -78,6 +88,7 @@ impl Lengths {
             greatest: Some(0),
             begins: true,
             ends: true,
+            lines: true,
         };
         for hir in hirs {
             spans = spans.either(Lengths::of_one(hir));
@@ -91,6 +102,16 @@ impl Lengths {
         ensures { result ≡ begin_early self.now input.now }
     {
         self.begins && input.get_slice_span().start < low(input)
+    }
+
+    /// Whether a span may have at most two bytes, as far as is known.
+    pub(crate) fn may_be_short(&self) -> bool {
+        self.least <= 2
+    }
+
+    /// Whether each span begins where a line does, as far as is known.
+    pub(crate) fn begin_lines(&self) -> bool {
+        self.lines
     }
 
     /// Whether each span begins where the slice does.

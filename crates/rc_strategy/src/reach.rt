@@ -13,8 +13,8 @@ use rc_captures::captures;
 use rc_captures::captures::Captures;
 use rc_dense_dfa::dense::NoCache;
 use rc_dfa::halves::Halves;
-use rc_dfa_search::first::find_settled_near;
 use rc_dfa_search::guarded::find_settled_guarded;
+use rc_dfa_search::heads::find_settled_first;
 use rc_dfa_search::reach::{Settled, find_settled, tells_reach};
 use rc_dfa_search::search::Bounds;
 use rc_lazy_dfa::lazy;
@@ -85,7 +85,7 @@ impl Engines {
             return false;
         }
         match self.route(input) {
-            Route::Along | Route::Unguarded | Route::ByFirstByte | Route::FromStart => true,
+            Route::Along | Route::Unguarded | Route::FromStart => true,
             Route::FromEnd | Route::OfLength(_) => false,
         }
     }
@@ -149,7 +149,7 @@ impl Engines {
         ensures within { IfOk result (λ o. IfSome o.found (IsWithinBounds input.old)) }
     {
         let aim = self.aim();
-        let settled = find_settled_near(halves, cache, input, aim, needles, bounds);
+        let settled = find_settled_first(halves, cache, input, aim, &self.tries, bounds);
         if let Err(MatchError::Quit { .. }) = settled {
             let guard = Guard::Begins(needles);
             let longest_len = self.longest.prefix;
@@ -187,7 +187,7 @@ impl Engines {
         }
         match guards_of(&self.engine.literals) {
             Some(needles) => self.settle_past_quit(halves, cache, input, needles, bounds),
-            None => find_settled(halves, cache, input, aim, bounds),
+            None => find_settled_first(halves, cache, input, aim, &self.tries, bounds),
         }
     }
 

@@ -1,18 +1,22 @@
 //! Meta strategy: which DFA serves a search, and how the search goes.
 ghost use Rattle.rc_text.specs.declared.types.Anchored.TheVariants.{No};
-ghost use Rattle.std.specs.Prelude.{◌≡◌, ℕ, List, Some};
+ghost use Rattle.std.specs.Prelude.{◌≡◌, ◌<◌, ℕ, false, IsTrue, List, Some, length, slice_index_or};
+ghost use Rattle.rc_program.specs.Places.{places_of};
 ghost use Rattle.rc_literals.specs.declared.guard.Needs.{Needs as NeedsOf};
 ghost use Rattle.rc_needles.specs.Needles.{longest};
 ghost use Rattle.rc_needles.specs.Prefilters.{needles_of};
 ghost use Rattle.rc_pikevm_search.specs.Choices.{guarding};
+ghost use Rattle.rc_dfa_search.specs.Firsts.{TellsOthers};
 ghost use Rattle.rc_strategy.specs.Routes.{Serves, ServesAll};
 
 use crate::engines::Engines;
 use crate::lengths::Lengths;
 use crate::tables::are_fast;
 use rc_dense_dfa::dense::Dense;
+use rc_dfa_search::heads::Tries;
 use rc_lazy_dfa::lazy::Lazy;
 use rc_literals::guard::{Guard, Needs};
+use rc_needles::byte_set::ByteSet;
 use rc_pikevm_search::engine::Engine;
 use rc_pikevm_search::literals::{Literals, guards_of};
 use rc_text::cursor::Cursor;
@@ -22,6 +26,12 @@ use rc_text::types::{Anchored, MatchKind};
 /// If more bytes of ASCII than these may begin a match, one of them is likely to: else most attempts
 /// fail.
 const MANY_BYTES: usize = 64;
+
+/// How many bytes are looked at for one over which a match may begin, if it is likely to fail there.
+const NEAR: usize = 16;
+
+/// How many anchored runs are tried where a match is likely to begin.
+const LIKELY_RUNS: usize = 4;
 
 /// Which DFA a search uses, if any.
 #[derive(Clone, Copy)]
@@ -43,12 +53,8 @@ pub(crate) enum Route {
     FromEnd,
     /// Forwards to the end of a match of this length in bytes. Nothing is searched backwards.
     OfLength(usize),
-    /// Forwards, and then backwards, with no guard. If there are prefix literals, it may first try an
-    /// anchored run where one begins.
+    /// Forwards, and then backwards, with no guard. It may first try anchored runs.
     Unguarded,
-    /// As `Unguarded`, without prefix literals. It first tries an anchored run at the first byte over
-    /// which a match may begin.
-    ByFirstByte,
     /// Forwards, and then backwards.
     Along,
 }
@@ -121,15 +127,60 @@ pub(crate) fn anchored_route(kind: MatchKind, lengths: &Lengths) -> Route
     }
 }
 
-/// Whether many characters may begin a match, as far as the program tells, and there are no prefix
-/// literals: more than `MANY_BYTES` bytes, or one past ASCII, which begins 64 characters at least.
-fn begins_with_many(engine: &Engine) -> bool {
-    match (guards_of(&engine.literals), engine.program.head_table(0)) {
-        (None, Some(heads)) => {
-            heads.iter().skip(128).any(|flag| *flag)
-                || heads.iter().filter(|flag| **flag).count() > MANY_BYTES
-        }
-        _ => false,
+/// Whether many characters may begin a match: more than `MANY_BYTES` bytes, or one past ASCII, which
+/// begins 64 characters at least.
+fn are_many(heads: &[bool]) -> bool {
+    heads.iter().skip(128).any(|flag| *flag)
+        || heads.iter().filter(|flag| **flag).count() > MANY_BYTES
+}
+
+/// Returns the bytes without a flag.
+fn others_of(heads: &[bool]) -> ByteSet
+    requires { length heads.now ≡ 256 }
+    ensures { (b : ℕ) → IsTrue (slice_index_or result.flags b false)
+        → (b < 256) × (slice_index_or heads.now b false ≡ false) }
+{
+    let mut others = [false; 256];
+    for byte in 0..256usize {
+        others[byte] = !heads[byte];
+    }
+    ByteSet::new(others)
+}
+
+/// Returns how many anchored runs a search without a guard tries where a match may begin. They fail
+/// mostly if each match begins where a line does; else they don't where a match may be short, or
+/// where many characters may begin one.
+fn runs_of(heads: &[bool], literals: &Literals, lengths: &Lengths) -> usize {
+    if lengths.begin_lines() {
+        return 0;
+    }
+    match guards_of(literals) {
+        _ if are_many(heads) => LIKELY_RUNS,
+        Some(_) if lengths.may_be_short() => LIKELY_RUNS,
+        Some(_) => 1,
+        None => 0,
+    }
+}
+
+/// Returns where a search without a guard tries anchored runs.
+pub(crate) fn tries_of(engine: &Engine, lengths: &Lengths) -> Tries
+    ensures { TellsOthers (places_of engine.now.program.places.items) 0 result.others.flags }
+{
+    let Some(heads) = engine.program.head_table(0) else {
+        return Tries {
+            others: ByteSet::new([false; 256]),
+            near: 0,
+            runs: 0,
+        };
+    };
+    Tries {
+        others: others_of(heads),
+        near: if lengths.may_be_short() {
+            usize::MAX
+        } else {
+            NEAR
+        },
+        runs: runs_of(heads, &engine.literals, lengths),
     }
 }
 
@@ -145,13 +196,7 @@ pub(crate) fn free_route(engine: &Engine, lengths: &Lengths, needed: bool) -> Ro
         return Route::FromEnd;
     }
     match anchored_route(engine.kind, lengths) {
-        Route::Along if !needed && !are_fast(&engine.literals) => {
-            if begins_with_many(engine) {
-                Route::ByFirstByte
-            } else {
-                Route::Unguarded
-            }
-        }
+        Route::Along if !needed && !are_fast(&engine.literals) => Route::Unguarded,
         route => route,
     }
 }

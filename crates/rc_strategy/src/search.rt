@@ -8,12 +8,10 @@ use crate::route::{Route, TableChoice};
 use rc_dense_dfa::dense::NoCache;
 use rc_dfa::halves::Halves;
 use rc_dfa_search::guarded::find_end_guarded;
-use rc_dfa_search::heads::find_by_heads;
-use rc_dfa_search::literals::{find_by_guard, find_past_quit};
+use rc_dfa_search::literals::find_by_guard;
 use rc_dfa_search::search::{Aim, Bounds, find_between, find_end_between, find_to_end};
 use rc_lazy_dfa::lazy;
 use rc_literals::guard::Guard;
-use rc_pikevm_search::literals::guards_of;
 use rc_text::cursor::Cursor;
 use rc_text::input::Input;
 use rc_text::types::{Anchored, Match, MatchError, MatchKind, Span};
@@ -189,11 +187,10 @@ impl Engines {
         Ok(Some(Match::new(found.pattern(), Span { start, end })))
     }
 
-    /// Returns the match by a DFA search along the text, without a guard. It first tries an anchored
-    /// run at the first byte over which a match may begin, if it is known which bytes these are. An
-    /// `Err` says why the DFA has no answer.
+    /// Returns the match by a DFA search along the text, without a guard. An `Err` says why the DFA
+    /// has no answer.
     #[inline(always)]
-    fn find_by_first_byte<H: Halves, C: Cursor>(
+    fn find_unguarded<H: Halves, C: Cursor>(
         &self,
         halves: &H,
         cache: &mut H::Cache,
@@ -209,11 +206,11 @@ impl Engines {
             ≡ answer_by self.now.engine.kind (engine_search self.now.engine input.old)) }
         ensures within { IfOk result (λ found. IfSome found (IsWithinBounds input.old)) }
     {
-        let aim = self.aim();
-        match self.engine.program.head_table(0) {
-            Some(heads) => find_by_heads(halves, cache, input, aim, heads, bounds),
-            None => find_between(halves, cache, input, aim, bounds),
+        if !self.tells_reach(input) {
+            return find_between(halves, cache, input, self.aim(), bounds);
         }
+        let settled = self.settle_forwards(halves, cache, input, bounds)?;
+        Ok(settled.found)
     }
 
     /// Replies by a DFA, by the route of the search. Along the text it goes from literal to literal
@@ -237,30 +234,19 @@ impl Engines {
             (engine_search self.now.engine input.old)) }
         ensures within { IfSome result (λ found. IfSome found (IsWithinBounds input.old)) }
     {
-        match (
-            self.route(input),
-            question,
-            guards_of(&self.engine.literals),
-        ) {
-            (Route::Unguarded, Question::Match, Some(needles)) => {
-                let aim = self.aim();
-                return find_past_quit(halves, cache, input, aim, needles, bounds).ok();
+        match (self.route(input), question) {
+            (Route::Unguarded, Question::Match) => {
+                return self.find_unguarded(halves, cache, input, bounds).ok();
             }
-            (Route::Unguarded, Question::Match, None) => {
-                return find_between(halves, cache, input, self.aim(), bounds).ok();
-            }
-            (Route::ByFirstByte, Question::Match, _) => {
-                return self.find_by_first_byte(halves, cache, input, bounds).ok();
-            }
-            (Route::FromStart, _, _) => {
+            (Route::FromStart, _) => {
                 return self
                     .ask_from_start(halves, cache, input, question, bounds)
                     .ok();
             }
-            (Route::FromEnd, _, _) => {
+            (Route::FromEnd, _) => {
                 return self.find_from_end(halves, cache, input, bounds).ok();
             }
-            (Route::OfLength(length), Question::Match | Question::End, _) => {
+            (Route::OfLength(length), Question::Match | Question::End) => {
                 return self
                     .find_of_length(halves, cache, input, length, bounds)
                     .ok();

@@ -26,10 +26,15 @@ use rc_dfa_search::build::automaton_of;
 use rc_dfa_search::first::have_openings;
 use rc_lazy_dfa::error::LazyError;
 use rc_lazy_dfa::lazy::Lazy;
+use rc_needles::prefilter::Prefilter;
 use rc_onepass::onepass::OnePass;
 use rc_pikevm_search::engine::Engine;
 use rc_pikevm_search::literals::{Literals, guards_of, literals_of};
+use rc_text::frequency::per_thousand;
 use std::alloc::{AllocError, Global};
+
+/// Needles are common if more than these of a thousand bytes of most texts are one.
+const COMMON: usize = 60;
 
 /// The DFA, or the lazy DFA, or neither; and the lazy DFA over symbols, if there is one.
 #[derive(Drop)]
@@ -57,13 +62,24 @@ fn exceeds(places: usize, limit: Option<usize>) -> bool
     }
 }
 
-/// Whether DFA searches go from one prefix literal to the next: the search for these is fast, or
-/// they are many and few positions are left to their trie. Patterns with many literals have a DFA
-/// of large states, of which few are met then. If the search went by a table of first bytes, a DFA
-/// would read a byte as fast, and need not begin anew at each literal.
+/// Whether some needle is a single byte, and such bytes are common in most texts.
+fn are_common(needles: &Prefilter) -> bool {
+    let mut sum: usize = 0;
+    for needle in &needles.searcher.table.needles {
+        if let [byte] = needle.as_slice() {
+            sum = sum.saturating_add(per_thousand(*byte));
+        }
+    }
+    sum > COMMON
+}
+
+/// Whether DFA searches go from one prefix literal to the next: the search for these is fast and
+/// they aren't common, or they are many and few positions are left to their trie. Patterns with
+/// many literals have a DFA of large states, of which few are met then. If the search went by a
+/// table of first bytes, a DFA would read a byte as fast, and need not begin anew at each literal.
 pub(crate) fn are_fast(literals: &Literals) -> bool {
     match guards_of(literals) {
-        Some(needles) => needles.is_fast() || have_openings(needles),
+        Some(needles) => needles.is_fast() && !are_common(needles) || have_openings(needles),
         None => false,
     }
 }

@@ -2,6 +2,7 @@ use Rattle.std.proofs.Common.{MatchOption, subst, sym}
 use Rattle.std.specs.Bool.{⊤}
 use Rattle.rc_program.specs.Places.{places_of}
 use Rattle.rc_literals.specs.Guard.{IsGuard}
+use Rattle.rc_dfa_search.specs.Firsts.{TellsOthers}
 use Rattle.rc_dfa_search.specs.Reaches.{TellsReach}
 use Rattle.rc_strategy.proofs.TableLemmas.{tables_settle}
 use Rattle.rc_strategy.proofs.engines.Engines.settle_forwards.Goals as goal
@@ -20,8 +21,8 @@ returns-in-Some-clause-settled g c =
 pub returns-in-None-clause-settled : goal.returns-in-None-clause-settled
 returns-in-None-clause-settled g c =
     let e = c.args.self.now in
-    tables_settle e.engine e.patterns c.args.input.now c.aim-aim.result c.requires.own c.aim-aim.ensures c.find_settled.result
-    (λ hs same h. c.find_settled.ensures.settled hs e.engine.program.terminator h)
+    tables_settle e.engine e.patterns c.args.input.now c.aim-aim.result c.requires.own c.aim-aim.ensures c.find_settled_first.result
+    (λ hs same h. c.find_settled_first.ensures.settled hs e.engine.program.terminator h (subst (λ ps. TellsOthers ps 0 e.tries.others.flags) same e.tried))
 
 pub settle_past_quit-requires-clause-guards : goal.settle_past_quit-requires-clause-guards
 settle_past_quit-requires-clause-guards g c =

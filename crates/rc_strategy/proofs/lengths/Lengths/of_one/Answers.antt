@@ -9,7 +9,7 @@ returns-clause-bounds c =
     let h = meaning c.args.hir.now in
     let p = c.properties_of-properties.ensures in
     bounds_own h _ c.minimum_len.result (c.minimum_len.ensures.exact h p) c.unwrap_or.ensures (c.maximum_len.ensures.exact h p)
-    (c.contains.ensures ∙ c.look_set_prefix.ensures.exact h p Start) (c.contains-2.ensures ∙ c.look_set_suffix.ensures.exact h p End)
+    (c.contains.ensures ∙ c.look_set_prefix-first.ensures.exact h p Start) (c.contains-2.ensures ∙ c.look_set_suffix.ensures.exact h p End)
 
 pub returns-clause-greatest : goal.returns-clause-greatest
 returns-clause-greatest c = c.maximum_len.ensures.exact (meaning c.args.hir.now) c.properties_of-properties.ensures
