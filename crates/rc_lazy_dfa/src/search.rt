@@ -2,7 +2,7 @@
 ghost use Rattle.std.specs.Prelude.{◌≡◌};
 ghost use Rattle.rc_lazy_dfa.specs.Courses.{direction_of};
 
-use crate::cells::stop_by;
+use crate::cells::{UNKNOWN, stop_by};
 use crate::half::Half;
 use crate::lazy::{Lazy, is_asked};
 use crate::letters::Letter;
@@ -130,8 +130,13 @@ impl Transitions for Lazy {
 
     #[inline(always)]
     fn known_over<W: Way>(&self, cache: &Half, row: usize, symbol: Symbol) -> usize {
-        let letter = Letter::Tagged(symbol);
-        cache.known(&self.automaton, direction::<W>(), row, letter)
+        match self.automaton.alphabet() {
+            Alphabet::Symbols => {
+                let letter = Letter::Tagged(symbol);
+                cache.known(&self.automaton, direction::<W>(), row, letter)
+            }
+            Alphabet::Bytes => UNKNOWN,
+        }
     }
 
     #[inline(always)]

@@ -1,8 +1,8 @@
 -- The scalars that a piece has whole decide the symbols of their bytes.
-use Rattle.std.proofs.Common.{◌≡◌, ◌≢◌, ℕ, ◌+◌, ◌-◌, ◌<◌, ◌≤◌, ◌==◌, Bool, true, false, true≢false, not, List, ◌++◌, length, take, drop, Some, None, slice_get, slice_range, if◌then◌else◌, ⊎_elim, refl, sym, ap, ap₂, ◌∙◌, arith, length-append, length-drop}
+use Rattle.std.proofs.Common.{◌≡◌, ◌≢◌, ℕ, ◌+◌, ◌-◌, ◌<◌, ◌≤◌, ◌==◌, Bool, true, false, true≢false, not, List, ◌++◌, length, take, drop, Some, None, slice_get, slice_range, if◌then◌else◌, ⊎_elim, refl, sym, ap, ap₂, ◌∙◌, arith}
 use Rattle.std.specs.Char.{encode_utf8}
 use Rattle.std.proofs.lemmas.Bool.{cases_eq, cases_lt, eq-eqb, ne_eqb}
-use Rattle.std.proofs.lemmas.List.{append_assoc, drop-drop, drop-take, take_all}
+use Rattle.std.proofs.lemmas.List.{append_assoc, drop-drop, drop-take}
 use Rattle.rc_text.specs.Text.{Searched, slice_end}
 use Rattle.rc_text.proofs.Ranges.{slice_range-append}
 use Rattle.rc_program.specs.Scalars.{scalar_at}
@@ -25,19 +25,6 @@ begins_on : (bs more : List ℕ) (c n : ℕ) → scalar_at bs ≡ Some (c, n) �
 begins_on bs more c n e =
     let h = (scalar_law.begins bs c n).0 e in
     (scalar_law.begins (bs ++ more) c n).1 (h.0, h.1, (h.2.0 ++ more, ap (λ xs. xs ++ more) h.2.1 ∙ append_assoc (encode_utf8 c) h.2.0 more))
-
--- A scalar that begins at the place has no more bytes than there are from there on.
-pub scalar_inside : (piece : List ℕ) (first c n : ℕ) → scalar_at (take (length piece - first) (drop first piece)) ≡ Some (c, n) → first ≤ length piece →
-    first + n ≤ length piece
-scalar_inside piece first c n e le =
-    let bs = take (length piece - first) (drop first piece) in
-    let short = length-drop first piece in
-    let same : bs ≡ drop first piece = take_all (length piece - first) (drop first piece) (omega (arith, short)) in
-    let h = (scalar_law.begins bs c n).0 e in
-    let count = h.1 in
-    let all = ap length (sym same ∙ h.2.1) in
-    let size = length-append (encode_utf8 c) h.2.0 in
-    omega (arith, count, all, size, short, le)
 
 later : (xs : List ℕ) (a p k : ℕ) → k ≤ p - a → slice_range xs (a + k) p ≡ drop k (slice_range xs a p)
 later xs a p k h =
@@ -126,11 +113,6 @@ module _ (terminator : ℕ) (seen : Searched) (start : ℕ) (piece : List ℕ) (
       shuts = shuts_by (k == s.first) (k + 1 == s.end) s.is_word not_both ∙ ap₂ (λ x w. if x then Some w else None) last_is whole.is_word
           ∙ sym (symbol_law.shuts (text_of terminator seen) p (start + s.first) whole.code whole.count symbol around symbol_here);
     }
-
--- where a piece is read first
-pub first_inside : (backwards : Bool) (len : ℕ) → 0 < len → (first_of backwards len ≤ len) × (0 < left_of backwards len (first_of backwards len))
-first_inside false len some = (omega arith, omega (arith, some))
-first_inside true len some = (omega arith, omega (arith, some))
 
 -- the offset of the byte that is read next of a piece
 pub offset_within : (backwards : Bool) (len place : ℕ) → place ≤ len → 0 < left_of backwards len place → offset_of backwards place < len

@@ -96,11 +96,10 @@ pub trait Transitions {
         ensures { result ≢ SKIP → IsStep (view self.now W.BACKWARDS) cache.now cache.now row
             byte result };
 
-    /// Returns the cell of a row and a symbol: `SKIP` if that isn't known.
+    /// Returns the cell of a row and a symbol, if it reads symbols: `SKIP` if that isn't known.
     fn known_over<W: Way>(&self, cache: &Self::Cache, row: usize, symbol: Symbol) -> usize
         requires cache { (view self.now W.BACKWARDS).IsCache cache.now }
         requires row { (view self.now W.BACKWARDS).IsRow cache.now row }
-        requires reads { (view self.now W.BACKWARDS).alphabet ≡ symbols }
         requires past { IsPast symbol }
         ensures { (view self.now W.BACKWARDS).alphabet ≡ symbols → result ≢ SKIP
             → IsStepOver (view self.now W.BACKWARDS) W.BACKWARDS cache.now cache.now row symbol
