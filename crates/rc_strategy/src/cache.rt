@@ -14,8 +14,9 @@ pub struct Cache {
     pub(crate) lazy: Option<lazy::Cache>,
     /// The cache of the lazy DFA over symbols. With None, no search uses that.
     pub(crate) symbols: Option<lazy::Cache>,
-    /// Whether the lazy DFA over symbols replied to the last search.
-    pub(crate) by_symbols: bool,
+    /// How many of the next searches ask the lazy DFA over symbols first. The last of them does so only
+    /// where the others would quit at once.
+    pub(crate) symbols_turns: u8,
 }
 
 // Crates above call this, and drop no part by themselves.
@@ -25,7 +26,7 @@ impl Drop for Cache {
             pass: _,
             lazy: _,
             symbols: _,
-            by_symbols: _,
+            symbols_turns: _,
         } = self;
     }
 }

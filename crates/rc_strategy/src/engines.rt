@@ -266,7 +266,7 @@ impl Engines {
                 pass,
                 lazy,
                 symbols,
-                by_symbols: false,
+                symbols_turns: 0,
             });
         };
         let states = if self.goes_overlapping() {
@@ -278,7 +278,7 @@ impl Engines {
             pass,
             lazy: Some(states),
             symbols,
-            by_symbols: false,
+            symbols_turns: 0,
         })
     }
 

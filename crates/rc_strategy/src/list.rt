@@ -114,7 +114,8 @@ impl Engines {
     ghost use Rattle.rc_strategy.specs.Tables.{aim_of};
 
     /// Returns the DFA, if searches of a list by it note how far their runs read. They do where that
-    /// takes no longer than `find`.
+    /// takes no longer than `find`. If it may quit and no literals lead it on, `find` knows sooner
+    /// which DFA to ask.
     #[inline(always)]
     fn noting_tables<C: Cursor>(&self, input: &Input<C>) -> Option<&Dense>
         ensures { IfSome result (λ d. (self.now.tables ≡ Some d.now)
@@ -123,6 +124,9 @@ impl Engines {
         let Some(tables) = &self.tables else {
             return None;
         };
+        if self.symbols.is_some() && !self.has_literals() {
+            return None;
+        }
         match self.route(input) {
             Route::Along | Route::Unguarded => {}
             _ => return None,

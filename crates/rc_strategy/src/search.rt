@@ -190,7 +190,7 @@ impl Engines {
     /// Returns the match by a DFA search along the text, without a guard. An `Err` says why the DFA
     /// has no answer.
     #[inline(always)]
-    fn find_unguarded<H: Halves, C: Cursor>(
+    pub(crate) fn find_unguarded<H: Halves, C: Cursor>(
         &self,
         halves: &H,
         cache: &mut H::Cache,

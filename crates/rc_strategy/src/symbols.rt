@@ -19,6 +19,12 @@ use rc_text::input::{Input, byte_at};
 use rc_text::types::Match;
 use std::alloc::{AllocError, Global};
 
+/// How many searches ask the lazy DFA over symbols first, once the others quit.
+const TURNS: u8 = 8;
+
+/// So many bytes from the start of its search on a match is near.
+const NEAR: usize = 256;
+
 /// Whether this byte of the content is past ASCII.
 fn is_past_ascii<C: Cursor>(input: &mut Input<C>, at: usize) -> bool
     ensures { Keeps input.old input.new }
@@ -90,15 +96,22 @@ impl Engines {
             return None;
         };
         let needles = guards_of(&self.engine.literals);
-        if let (Route::Unguarded, Question::Match, Some(needles)) = (
-            self.route(input),
-            question,
-            needles,
-        ) {
-            let guard = Guard::Begins(needles);
-            return find_by_guard(tables, states, input, self.aim(), guard, bounds).ok();
+        match (self.route(input), question, needles) {
+            (Route::Unguarded, Question::Match, Some(needles)) => {
+                let guard = Guard::Begins(needles);
+                find_by_guard(tables, states, input, self.aim(), guard, bounds).ok()
+            }
+            (Route::Unguarded, Question::Match, None) => {
+                self.find_unguarded(tables, states, input, bounds).ok()
+            }
+            _ => self.ask_by_route(tables, states, input, question, bounds),
         }
-        self.ask_by_route(tables, states, input, question, bounds)
+    }
+
+    /// Whether literals lead the DFA and the lazy DFA on.
+    #[inline(always)]
+    pub(crate) fn has_literals(&self) -> bool {
+        self.words.is_some() || self.needs.is_some() || guards_of(&self.engine.literals).is_some()
     }
 
     /// Whether the DFA and the lazy DFA quit where the search begins: the byte there or the one before
@@ -107,10 +120,7 @@ impl Engines {
     fn quits_at_once<C: Cursor>(&self, input: &mut Input<C>, bounds: Bounds) -> bool
         ensures { Keeps input.old input.new }
     {
-        if self.words.is_some() || self.needs.is_some() {
-            return false;
-        }
-        if guards_of(&self.engine.literals).is_some() {
+        if self.has_literals() {
             return false;
         }
         if bounds.low > 0 && is_past_ascii(input, bounds.low - 1) {
@@ -119,26 +129,41 @@ impl Engines {
         is_past_ascii(input, bounds.low)
     }
 
-    /// Whether the lazy DFA over symbols is asked first: it replied to the last search, and the
-    /// others quit at once.
+    /// Whether the lazy DFA over symbols is asked first: so many turns are left, or this is the last
+    /// and the others quit at once.
     #[inline(always)]
-    fn goes_by_symbols<C: Cursor>(
-        &self,
-        by_symbols: bool,
-        input: &mut Input<C>,
-        bounds: Bounds,
-    ) -> bool
+    fn goes_by_symbols<C: Cursor>(&self, turns: u8, input: &mut Input<C>, bounds: Bounds) -> bool
         ensures { Keeps input.old input.new }
     {
-        if !by_symbols {
-            return false;
+        match turns {
+            0 => false,
+            1 => self.quits_at_once(input, bounds),
+            _ => true,
         }
-        self.quits_at_once(input, bounds)
     }
 
-    /// Replies as `ask_tables` does, or else by the lazy DFA over symbols. If that replied last, it
-    /// alone is asked where the others quit at once. Returns None if there is no DFA, or none has an
-    /// answer.
+    /// Returns how many of the next searches ask the lazy DFA over symbols first, once it was asked and
+    /// told this. They are several while its matches are near, and no literals lead the others on.
+    #[inline(always)]
+    fn turns_after(&self, turns: u8, told: &Option<Option<Match>>, bounds: Bounds) -> u8 {
+        let Some(found) = told else {
+            return 0;
+        };
+        let Some(found) = found else {
+            return 1;
+        };
+        if turns > 1 {
+            return turns - 1;
+        }
+        if found.end().saturating_sub(bounds.low) > NEAR || self.has_literals() {
+            return 1;
+        }
+        TURNS
+    }
+
+    /// Replies as `ask_tables` does, or else by the lazy DFA over symbols. If that replied to some of
+    /// the last searches, it alone is asked: the others would quit soon. Returns None if there is no
+    /// DFA, or none has an answer.
     #[inline(always)]
     pub(crate) fn ask_dfas<C: Cursor>(
         &self,
@@ -156,15 +181,15 @@ impl Engines {
         ensures within { IfSome result (λ found. IfSome found (IsWithinBounds input.old)) }
         ensures cache { IsSameCacheIn self.now cache.old cache.new }
     {
-        if self.goes_by_symbols(cache.by_symbols, input, bounds) {
-            return self.ask_symbols(&mut cache.symbols, input, question, bounds);
+        let turns = cache.symbols_turns;
+        if !self.goes_by_symbols(turns, input, bounds) {
+            if let Some(found) = self.ask_tables(&mut cache.lazy, input, question, bounds) {
+                cache.symbols_turns = 0;
+                return Some(found);
+            }
         }
-        if let Some(found) = self.ask_tables(&mut cache.lazy, input, question, bounds) {
-            cache.by_symbols = false;
-            return Some(found);
-        }
-        let found = self.ask_symbols(&mut cache.symbols, input, question, bounds);
-        cache.by_symbols = found.is_some();
-        found
+        let told = self.ask_symbols(&mut cache.symbols, input, question, bounds);
+        cache.symbols_turns = self.turns_after(turns, &told, bounds);
+        told
     }
 }

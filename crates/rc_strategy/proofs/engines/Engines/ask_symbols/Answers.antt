@@ -12,6 +12,12 @@ use Rattle.rc_strategy.specs.declared.question.Question.TheVariants.{Match}
 use Rattle.rc_strategy.proofs.QuestionLemmas.{match_replies, ok_then, tables_may}
 use Rattle.rc_strategy.proofs.engines.Engines.ask_symbols.Goals as goal
 
+pub returns-in-Unguarded-Match-None-clause-reply : goal.returns-in-Unguarded-Match-None-clause-reply
+returns-in-Unguarded-Match-None-clause-reply g c =
+    let e = c.args.self.now.engine in
+    ok_then c.find_unguarded.result c.ok-in-Unguarded-Match-None.result (IsReply c.args.question e.kind (engine_search e c.args.input.now)) c.ok-in-Unguarded-Match-None.ensures.value
+    (IfOk-weaker c.find_unguarded.result _ _ (λ o h. match_replies c.args.question e.kind (engine_search e c.args.input.now) o h) c.find_unguarded.ensures.found)
+
 pub returns-in-Unguarded-Match-Some-clause-reply : goal.returns-in-Unguarded-Match-Some-clause-reply
 returns-in-Unguarded-Match-Some-clause-reply g c =
     let e = c.args.self.now in

@@ -20,4 +20,5 @@ invariant_of-self-2 c =
       looking = engines.looking;
       free = engines.free;
       anchored = engines.anchored;
+      tried = engines.tried;
     }
