@@ -175,6 +175,7 @@ impl Engines {
     /// Returns the match and a position before which none begins, whatever follows, by the DFA, or
     /// else by the lazy DFA if the cache has its states. Returns None if there is neither, or it has
     /// no answer.
+    #[inline(never)]
     fn tell_by_tables<C: Cursor>(
         &self,
         cache: &mut Option<lazy::Cache>,
@@ -235,6 +236,7 @@ impl Engines {
     /// greatest length of matches before. Returns None if searches of this input don't go along the
     /// text from prefix literal to prefix literal, or no DFA has an answer. It allocates only what
     /// `undecided_from` does.
+    #[inline(always)]
     pub fn tell_partly<C: Cursor>(&self, cache: &mut Cache, input: &mut Input<C>) -> Option<Told>
         requires made { IsCacheIn self.now 0 cache.old }
         ensures keeps { Keeps input.old input.new }
@@ -248,12 +250,12 @@ impl Engines {
         let Some(Guard::Begins(needles)) = self.guard() else {
             return None;
         };
-        let Some(bounds) = bounds_of(input) else {
-            return None;
-        };
         if !self.goes_along(input) || !self.tells_idle(input) {
             return None;
         }
+        let Some(bounds) = bounds_of(input) else {
+            return None;
+        };
         let told = self.tell_by_tables(&mut cache.lazy, input, needles, bounds)?;
         Some(self.settle_sooner(input, told))
     }

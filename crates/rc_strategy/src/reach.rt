@@ -20,7 +20,7 @@ use rc_dfa_search::search::Bounds;
 use rc_lazy_dfa::lazy;
 use rc_literals::guard::Guard;
 use rc_needles::prefilter::Prefilter;
-use rc_pikevm_search::literals::guards_of;
+use rc_pikevm_search::literals::{guards_of, literals_of};
 use rc_text::cursor::Cursor;
 use rc_text::input::{Input, content_fits};
 use rc_text::types::{Anchored, Match, MatchError, MatchKind, PatternID};
@@ -221,6 +221,7 @@ impl Engines {
 
     /// Returns the match by the DFA, or else by the lazy DFA if the cache has its states, and how
     /// many bytes settle it. Returns None if there is neither, or it has no answer.
+    #[inline(never)]
     pub(crate) fn settle_along<C: Cursor>(
         &self,
         cache: &mut Option<lazy::Cache>,
@@ -280,7 +281,9 @@ impl Engines {
     }
 
     /// Returns the match by a DFA, and how many bytes settle it: those at which a search forwards
-    /// looked, if the match is leftmost. Returns None if there is no DFA, or it has no answer.
+    /// looked, if the match is leftmost. Returns None if literals alone decide, there is no DFA, or it
+    /// has no answer.
+    #[inline(always)]
     fn settle_by_tables<C: Cursor>(
         &self,
         cache: &mut Cache,
@@ -295,6 +298,9 @@ impl Engines {
         ensures within { IfSome result (λ o. IfSome o.found (IsWithinBounds input.old)) }
         ensures cache { IsSameCacheIn self.now cache.old cache.new }
     {
+        if literals_of(&self.engine.literals, self.engine.kind).is_some() {
+            return None;
+        }
         if self.tells_reach(input) {
             if let Some(settled) = self.settle_along(&mut cache.lazy, input, bounds) {
                 return Some(settled);
@@ -368,6 +374,7 @@ impl Engines {
 
     /// Returns the match that `find` returns, and how many bytes settle it. It allocates nothing
     /// but states that the lazy DFA reaches for the first time, within the cache's capacity.
+    #[inline(always)]
     pub fn find_settled<C: Cursor>(&self, cache: &mut Cache, input: &mut Input<C>) -> Settled
         requires made { IsCacheIn self.now 0 cache.old }
         ensures keeps { Keeps input.old input.new }
