@@ -6,6 +6,7 @@ ghost use Rattle.rc_text.specs.Text.{Keeps};
 use crate::cache::Cache;
 use crate::reach::LOOKS_AHEAD;
 use crate::regex::Regex;
+use rc_dfa_search::reach::Settled;
 use rc_text::cursor::Cursor;
 use rc_text::input::{Input, high, low, move_to, position};
 use rc_text::types::{Match, MatchKind};
@@ -28,6 +29,7 @@ impl Regex {
     ghost use Rattle.std.specs.Prelude.{◌≡◌, ◌≤◌, IfSome, max};
     ghost use Rattle.rc_program.specs.Kinds.{answer_by};
     ghost use Rattle.rc_reach.specs.Partial.{IsPartial, from_place};
+    ghost use Rattle.rc_text.specs.Bounds.{IsWithinBounds};
     ghost use Rattle.rc_text.specs.Text.{Keeps, high, low};
     ghost use Rattle.api_meta.specs.Caches.{HasSameRoom, IsCacheFor};
     ghost use Rattle.api_meta.specs.Partials.{IsFarOn, IsOnward, partial_of};
@@ -46,6 +48,7 @@ impl Regex {
     /// n + 3 bytes before the end of the bounds, or where the match that was found begins. If a DFA
     /// searches for a leftmost-first match, and none is passed over, it may be later: about the last
     /// position at which nothing is under way. Otherwise it is where this search begins.
+    #[inline(always)]
     pub fn search_partial_with<C: Cursor>(&self, cache: &mut Cache, input: &mut Input<C>) -> Partial
         requires made { IsCacheFor (regex_patterns self.now) (regex_settings self.now) cache.old }
         ensures cache { IsCacheFor (regex_patterns self.now) (regex_settings self.now) cache.new }
@@ -63,7 +66,8 @@ impl Regex {
         }
     }
 
-    /// Returns what the content tells of a search, by its reach, or else by what is under way.
+    /// Returns what the content tells of a search, by its reach, or else as `partial_by_lengths` does.
+    #[inline(always)]
     fn partial_by_reach<C: Cursor>(&self, cache: &mut Cache, input: &mut Input<C>) -> Partial
         requires made { IsCacheFor (regex_patterns self.now) (regex_settings self.now) cache.old }
         ensures cache { IsCacheFor (regex_patterns self.now) (regex_settings self.now) cache.new }
@@ -75,12 +79,42 @@ impl Regex {
         ensures far { IsFarOn (regex_kind self.now) (regex_patterns self.now) input.old
             (answer_by (regex_kind self.now) (search_for (sought self.now) input.old)) result }
     {
-        let reached = self.search_reach_with(cache, input);
+        let reached = self.engines.find_settled(&mut cache.inner, input);
         let are_here = has_bytes(input, reached.reach);
         if let (Some(found), true) = (reached.found, are_here) {
             return Partial::Final(found);
         }
-        let by_length = self.undecided_by_length(reached.found, input);
+        self.partial_by_lengths(cache, input, reached)
+    }
+
+    /// Returns what the content tells of a search that found this, by the lengths of the patterns,
+    /// or else by what is under way.
+    #[inline(never)]
+    fn partial_by_lengths<C: Cursor>(
+        &self,
+        cache: &mut Cache,
+        input: &mut Input<C>,
+        settled: Settled,
+    ) -> Partial
+        requires made { IsCacheFor (regex_patterns self.now) (regex_settings self.now) cache.old }
+        requires answer { settled.found
+            ≡ answer_by (regex_kind self.now) (search_for (sought self.now) input.old) }
+        requires bounds { IfSome settled.found (IsWithinBounds input.old) }
+        ensures cache { IsCacheFor (regex_patterns self.now) (regex_settings self.now) cache.new }
+        ensures room { HasSameRoom cache.old cache.new }
+        ensures keeps { Keeps input.old input.new }
+        ensures told { IsPartial (regex_kind self.now) (search_for (sought self.now) input.old)
+            (partial_of result) }
+        ensures onward { IsOnward input.old result }
+        ensures far { IsFarOn (regex_kind self.now) (regex_patterns self.now) input.old
+            (answer_by (regex_kind self.now) (search_for (sought self.now) input.old)) result }
+    {
+        let reach = self.reach_of(settled.found, input);
+        let are_here = has_bytes(input, reach);
+        if let (Some(found), true) = (settled.found, are_here) {
+            return Partial::Final(found);
+        }
+        let by_length = self.undecided_by_length(settled.found, input);
         if is_far(input, by_length) {
             return Partial::From(by_length);
         }
@@ -90,6 +124,7 @@ impl Regex {
 
     /// Returns what the content tells of a search that goes from needle to needle. Returns None if it
     /// doesn't go so.
+    #[inline(always)]
     fn partial_by_needles<C: Cursor>(
         &self,
         cache: &mut Cache,

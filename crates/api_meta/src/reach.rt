@@ -131,7 +131,7 @@ impl Regex {
 
     /// How many bytes settle what a search of the input found, as far as the lengths of the
     /// patterns tell.
-    fn reach_of<C: Cursor>(&self, found: Option<Match>, input: &mut Input<C>) -> usize
+    pub(crate) fn reach_of<C: Cursor>(&self, found: Option<Match>, input: &mut Input<C>) -> usize
         requires answer { found
             ≡ answer_by (regex_kind self.now) (search_for (sought self.now) input.old) }
         requires bounds { IfSome found (IsWithinBounds input.old) }

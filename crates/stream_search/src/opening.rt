@@ -1,5 +1,5 @@
 //! Opening cursor: the first bytes of another cursor's content.
-ghost use Rattle.std.specs.Prelude.{◌≡◌, ◌-◌, ◌<◌, ◌≤◌, Some, length, take};
+ghost use Rattle.std.specs.Prelude.{◌≡◌, ◌-◌, ◌<◌, ◌≤◌, Some, length, min, take};
 
 use regex_cursor::Cursor;
 
@@ -10,8 +10,19 @@ pub(crate) struct Opening<C: Cursor> {
     cursor: C,
     /// How many bytes it has.
     len: usize,
+    /// How many bytes of the cursor's chunk it shows.
+    shown: usize,
     ghost inside: { len ≤ length (C.content cursor) },
     ghost before: { C.offset cursor < len },
+    ghost cut: { shown ≡ min (length (C.chunk cursor)) (len - C.offset cursor) },
+}
+
+/// How many bytes of the cursor's chunk lie before `len`.
+fn shown_of<C: Cursor>(cursor: &C, len: usize) -> usize
+    requires { C.offset cursor.now < len }
+    ensures { result ≡ min (length (C.chunk cursor.now)) (len - C.offset cursor.now) }
+{
+    cursor.chunk().len().min(len - cursor.offset())
 }
 
 impl<C: Cursor> Opening<C> {
@@ -22,7 +33,8 @@ impl<C: Cursor> Opening<C> {
         ensures content { ⟦<Opening<C> as Cursor>⟧.content result ≡ take len (C.content cursor) }
         ensures total { ⟦<Opening<C> as Cursor>⟧.total result ≡ Some len }
     {
-        Opening { cursor, len }
+        let shown = shown_of(&cursor, len);
+        Opening { cursor, len, shown }
     }
 }
 
@@ -40,8 +52,7 @@ impl<C: Cursor> Cursor for Opening<C> {
     ghost is_utf8_aware = { λ _. false };
 
     fn chunk(&self) -> &[u8] {
-        let chunk = self.cursor.chunk();
-        &chunk[..chunk.len().min(self.len - self.cursor.offset())]
+        &self.cursor.chunk()[..self.shown]
     }
 
     fn utf8_aware(&self) -> bool {
@@ -49,14 +60,18 @@ impl<C: Cursor> Cursor for Opening<C> {
     }
 
     fn advance(&mut self) -> bool {
-        if self.cursor.chunk().len() >= self.len - self.cursor.offset() {
+        if self.shown >= self.len - self.cursor.offset() {
             return false;
         }
-        self.cursor.advance()
+        let moved = self.cursor.advance();
+        self.shown = shown_of(&self.cursor, self.len);
+        moved
     }
 
     fn backtrack(&mut self) -> bool {
-        self.cursor.backtrack()
+        let moved = self.cursor.backtrack();
+        self.shown = shown_of(&self.cursor, self.len);
+        moved
     }
 
     fn total_bytes(&self) -> Option<usize> {
