@@ -1,6 +1,6 @@
 -- Only proofs use this file.
 -- What is printed of whole lines that are all selected, or none of which is.
-use Rattle.std.proofs.Common.{ℕ, suc, ◌≡◌, ◌<◌, ◌≤◌, ◌+◌, ◌-◌, ◌∙◌, ◌++◌, ◌∷◌, [], ◌&&◌, Bool, false, true, List, Option, Some, None, IfSome, not, ap, ap₂, append_assoc, arith, cond, eq-eqb, refl, sym, subst, length, length-append, map, nat_lt, take, drop, get_or, get_or-drop, get_or-take, inl, inr, length-drop, length-take-le}
+use Rattle.std.proofs.Common.{ℕ, suc, ◌≡◌, ◌<◌, ◌≤◌, ◌+◌, ◌-◌, ◌∙◌, ◌++◌, ◌∷◌, [], ◌&&◌, ◌⊎◌, Bool, false, true, List, Option, Some, None, IfSome, not, ap, ap₂, append_assoc, arith, cond, eq-eqb, refl, sym, subst, length, length-append, map, nat_lt, take, drop, get_or, get_or-drop, get_or-take, inl, inr, length-drop, length-take-le}
 use Rattle.std.specs.List.{filter, list_any}
 use Rattle.std.specs.Io.KnownBytes.{Consumes}
 use Rattle.std.specs.Prelude.{Vec}
@@ -8,9 +8,9 @@ use Rattle.std.specs.declared.alloc.Global.{Global}
 use Rattle.std.proofs.lemmas.Bool.{cases_lt, lt-ltb}
 use Rattle.std.proofs.lemmas.List.{append-nil, drop-drop, get_or-append-add, take-append-drop, take_at, take_more}
 use Rattle.std.proofs.lemmas.List.Elements.{filter-append}
-use Rattle.grep_lines.specs.Ahead.{Advances, Flushes, IsSound, Stands, ahead, ahead_of, contents, later, plain}
+use Rattle.grep_lines.specs.Ahead.{Advances, Flushes, IsSound, Stands, ahead, ahead_of, contents, plain}
 use Rattle.grep_lines.specs.Blocks.{AdvancesBy, IsAtEnd, IsBlock, IsPrinting, IsTaking, TakesFront, TakesLines, is_unlike, marked_as, selected_in}
-use Rattle.grep_lines.specs.Context.{IfRead, Marked, Part, Prints, gap, is_selected, line_of, marked, printed, selected_count, selected_parts, separated, separator, size_of as bytes_of}
+use Rattle.grep_lines.specs.Context.{HasLeft, IfRead, Marked, Part, Prints, gap, is_selected, line_of, marked, printed, selected_count, selected_parts, separator, size_of as bytes_of, unread}
 use Rattle.grep_lines.specs.Lines.{lines}
 use Rattle.grep_lines.specs.Pages.{IsWhole}
 use Rattle.grep_lines.specs.Selected.{TakesLine}
@@ -19,9 +19,10 @@ use Rattle.grep_lines.specs.declared.context.Extent.{Extent}
 use Rattle.grep_lines.specs.declared.context.PrintError.{PrintError}
 use Rattle.grep_lines.specs.declared.context.PrintError.TheVariants.{Print, Read}
 use Rattle.grep_lines.specs.declared.context.Progress.{Progress}
-use Rattle.grep_lines.proofs.ContextLemmas.{ahead_selected, ahead_skipped, contents_length, marked_anywhere, prints_both, prints_none}
+use Rattle.grep_lines.proofs.ContextLemmas.{ahead_selected, ahead_skipped, contents_length, marked_anywhere, marked_none, prints_both, prints_none}
 use Rattle.grep_lines.proofs.LineLemmas.{HasNo, lines_cut}
 use Rattle.grep_lines.proofs.PageLemmas.{lines_append, some_lines}
+use Rattle.grep_lines.proofs.ReadLemmas.{leaves_block, leaves_both, leaves_line, left_none, unread_on}
 use Rattle.grep_lines.proofs.StandsLemmas.{told_at_end}
 use Rattle.grep_lines.proofs.PartLemmas.{size_of, whole_size}
 
@@ -186,8 +187,9 @@ some_bytes stop (x ∷ xs) some = omega arith
 module _ (stop : ℕ) (e : Extent) (picks : List ℕ → Bool) where
   pub front_of : (p q : Progress) (a b : Option (List Part)) (count : ℕ) (selected : Bool) (front : List ℕ) → IsWhole stop front →
       filter (is_unlike selected picks) (lines stop front) ≡ [] → cond selected (length (lines stop front)) 0 ≤ e.most - count →
-      AdvancesBy e p q a b (marked_as selected (lines stop front)) → TakesFront stop e picks p q a b count (cond selected (length (lines stop front)) 0) front
-  front_of p q a b count selected front w alike fits told = record {
+      AdvancesBy e p q a b (marked_as selected (lines stop front)) → count < e.most → (selected ≡ true → 0 < length (lines stop front) → q.left ≡ e.after) →
+      TakesFront stop e picks p q a b count (cond selected (length (lines stop front)) 0) front
+  front_of p q a b count selected front w alike fits told few left = record {
     whole = w;
     ms = marked_as selected (lines stop front);
     split = λ rest.
@@ -196,6 +198,7 @@ module _ (stop : ℕ) (e : Extent) (picks : List ℕ → Bool) where
         ∙ ap (λ n. marked_as selected (lines stop front) ++ marked (λ _. picks) n 0 (lines stop rest)) (omega arith);
     counted = selected_of selected (lines stop front);
     told = told;
+    unread = leaves_block e p q count selected (lines stop front) few left;
   }
 
   whole_both : (xs ys : List ℕ) → IsWhole stop xs → IsWhole stop ys → IsWhole stop (xs ++ ys)
@@ -205,8 +208,8 @@ module _ (stop : ℕ) (e : Extent) (picks : List ℕ → Bool) where
       ap (λ n. get_or (xs ++ y ∷ ys) n 0) (omega (arith, size, last)) ∙ get_or-append-add xs (y ∷ ys) (length ys) 0 ∙ w (length ys) (omega arith)
 
   pub front_both : (p q r : Progress) (a b c : Option (List Part)) (count m n : ℕ) (xs ys : List ℕ) → TakesFront stop e picks p q a b count m xs →
-      TakesFront stop e picks q r b c (count + m) n ys → TakesFront stop e picks p r a c count (m + n) (xs ++ ys)
-  front_both p q r a b c count m n xs ys x y = record {
+      TakesFront stop e picks q r b c (count + m) n ys → (count + (m + n) ≡ e.most → 0 < n) → TakesFront stop e picks p r a c count (m + n) (xs ++ ys)
+  front_both p q r a b c count m n xs ys x y some = record {
     whole = whole_both xs ys x.whole y.whole;
     ms = x.ms ++ y.ms;
     split = λ rest.
@@ -215,6 +218,7 @@ module _ (stop : ℕ) (e : Extent) (picks : List ℕ → Bool) where
         ∙ ap (λ k. (x.ms ++ y.ms) ++ marked (λ _. picks) (e.most - k) 0 (lines stop rest)) (omega arith);
     counted = ap length (filter-append is_selected x.ms y.ms) ∙ length-append (filter is_selected x.ms) (filter is_selected y.ms) ∙ ap₂ ◌+◌ x.counted y.counted;
     told = advances_both e p q r a b c x.ms y.ms x.told y.told;
+    unread = leaves_both e p q r (count + (m + n)) n x.ms y.ms some y.counted (λ enough. y.unread (omega (arith, enough)));
   }
 
   module _ (p q : Progress) (a b : Option (List Part)) (count more : ℕ) where
@@ -229,6 +233,7 @@ module _ (stop : ℕ) (e : Extent) (picks : List ℕ → Bool) where
       split = ap (λ zs. marked (λ _. picks) (e.most - count) 0 (lines stop zs)) moved ∙ x.split rest;
       counted = x.counted;
       told = x.told;
+      unread = x.unread;
     }
 
     -- what was printed goes on with what is to be printed behind the lines
@@ -250,6 +255,12 @@ module _ (stop : ℕ) (e : Extent) (picks : List ℕ → Bool) where
               ∙ ap (λ ns. count + length ns) (filter-append is_selected taken.ms ms)
               ∙ ap (λ n. count + n) (length-append (filter is_selected taken.ms) (filter is_selected ms) ∙ ap (λ n. n + length (filter is_selected ms)) taken.counted)
               ∙ omega arith;
+          unread =
+              unread_on e p q (marked (λ _. picks) e.most 0 (lines stop text)) taken.ms (marked (λ _. picks) (e.most - count) 0 (lines stop s.rest)) ms count (count + more)
+              taken.split (ap (λ n. count + n) taken.counted) taken.unread
+              (λ enough. ap (λ k. list_any is_selected (marked (λ _. picks) k 0 (lines stop taken.rest))) (omega (arith, enough))
+              ∙ marked_none (λ _. picks) 0 (lines stop taken.rest))
+              s.unread;
         }
 
     pub stands_on : (old : Option (List Part)) (input mid left : Option (List ℕ)) → IfSome input (Stands stop e (λ _. picks) p old a mid count 0) →
@@ -398,8 +409,9 @@ module _ (stop first begin : ℕ) (text : List ℕ) where
 
 pub line_lines : (stop : ℕ) (e : Extent) (picks : List ℕ → Bool) (p q : Progress) (a b : Option (List Part)) (count more : ℕ) (line : List ℕ) (selected : Bool) (text : List ℕ)
     (left : Option (List ℕ)) → TakesLine stop text true line left → selected ≡ (picks line && nat_lt 0 (e.most - count)) → more ≡ cond selected 1 0 →
-    Advances e p q a b (record { line = line; selected = selected }) → TakesLines stop e picks p q a b count more text left
-line_lines stop e picks p q a b count more line selected text left taken chosen is told =
+    Advances e p q a b (record { line = line; selected = selected }) → q.left ≡ cond selected e.after (p.left - 1) → (count ≡ e.most → 0 < p.left) →
+    TakesLines stop e picks p q a b count more text left
+line_lines stop e picks p q a b count more line selected text left taken chosen is told behind context =
     let rest = lines stop taken.0 in
     record {
       rest = taken.0;
@@ -412,6 +424,7 @@ line_lines stop e picks p q a b count more line selected text left taken chosen 
           (marked_anywhere picks (cond selected (e.most - count - 1) (e.most - count)) (0 + length line + 1) 0 rest ∙ ap (λ n. marked (λ _. picks) n 0 rest) (at selected is));
       counted = one selected is;
       told = told;
+      unread = leaves_line e p q (count + more) line selected behind (λ none enough. context (omega (arith, enough, is ∙ ap (λ b. cond b 1 0) none)));
     }
   where
     at : (c : Bool) → more ≡ cond c 1 0 → cond c (e.most - count - 1) (e.most - count) ≡ e.most - (count + more)
@@ -434,17 +447,28 @@ page_front page xs ys rest n e size =
 
 module _ (stop : ℕ) (e : Extent) (picks : List ℕ → Bool) where
   pub block_front : (p q : Progress) (a b : Option (List Part)) (count : ℕ) (k : Block) → IsBlock stop picks k → selected_in k ≤ e.most - count →
-      AdvancesBy e p q a b (marked_as k.is_selected (lines stop k.text.now)) → TakesFront stop e picks p q a b count (selected_in k) k.text.now
-  block_front p q a b count k is fits told =
+      AdvancesBy e p q a b (marked_as k.is_selected (lines stop k.text.now)) → count < e.most → (k.is_selected ≡ true → 0 < k.count → q.left ≡ e.after) →
+      TakesFront stop e picks p q a b count (selected_in k) k.text.now
+  block_front p q a b count k is fits told few left =
       subst (λ n. TakesFront stop e picks p q a b count (cond k.is_selected n 0) k.text.now) (sym is.counted)
       (front_of stop e picks p q a b count k.is_selected k.text.now is.whole is.alike
-      (subst (λ n. cond k.is_selected n 0 ≤ e.most - count) is.counted fits) told)
+      (subst (λ n. cond k.is_selected n 0 ≤ e.most - count) is.counted fits) told few (λ selected some. left selected (omega (arith, some, is.counted))))
 
   module _ (p q : Progress) (a b : Option (List Part)) (count more : ℕ) (line : List ℕ) (selected : Bool) (left : Option (List ℕ)) where
     pub next_lines : (old : Option (List ℕ)) → IfSome old (λ text. TakesLine stop text true line left) → selected ≡ (picks line && nat_lt 0 (e.most - count)) →
-        more ≡ cond selected 1 0 → Advances e p q a b (record { line = line; selected = selected }) → IfSome old (λ text. TakesLines stop e picks p q a b count more text left)
-    next_lines None taken chosen is told = tt
-    next_lines (Some text) taken chosen is told = line_lines stop e picks p q a b count more line selected text left taken chosen is told
+        more ≡ cond selected 1 0 → Advances e p q a b (record { line = line; selected = selected }) → q.left ≡ cond selected e.after (p.left - 1) →
+        (count ≡ e.most → 0 < p.left) → IfSome old (λ text. TakesLines stop e picks p q a b count more text left)
+    next_lines None taken chosen is told behind context = tt
+    next_lines (Some text) taken chosen is told behind context =
+        line_lines stop e picks p q a b count more line selected text left taken chosen is told behind context
+
+-- of lines in two blocks, no more than may be are selected, and the last one is in the second block
+pub first_fewer : (count most first second : ℕ) → count < most → first + second ≤ most - count → (first + second ≡ most - count → 0 < second) → count + first < most
+first_fewer count most first second few fits some = at (cases_lt (count + first) most)
+  where
+    at : (count + first < most) ⊎ (most ≤ count + first) → count + first < most
+    at (inl lt) = lt
+    at (inr le) = absurd (omega (arith, few, fits, le, some (omega (arith, few, fits, le))))
 
 pub some_lines_in : (stop : ℕ) (xs : List ℕ) → 0 < length xs → 0 < length (lines stop xs)
 some_lines_in stop [] some = absurd (omega (arith, some))
@@ -452,21 +476,28 @@ some_lines_in stop (x ∷ xs) some = some_lines stop x xs
 
 -- ---- the end of a text
 
-module _ (stop : ℕ) (e : Extent) (picks : List ℕ → Bool) (p q : Progress) (old now new : Option (List Part)) (count : ℕ) (left : Option (List ℕ)) (sound : IsSound e p)
-    (over : IfSome left (IsAtEnd stop p q now new)) where
-  ends_here : (o : Option (List ℕ)) → IfSome o (IsAtEnd stop p q now new) → IfSome o (λ rest. TakesLine stop rest false [] left)
+module _ (stop : ℕ) (e : Extent) (picks : List ℕ → Bool) (p q : Progress) (old now new : Option (List Part)) (count : ℕ) (left after : Option (List ℕ))
+    (sound : IsSound e p) (over : IfSome left (λ text. IsAtEnd stop p q now new text after)) where
+  ends_here : (o : Option (List ℕ)) → IfSome o (λ text. IsAtEnd stop p q now new text after) → IfSome o (λ rest. TakesLine stop rest false [] left)
   ends_here None h = tt
   ends_here (Some text) h = h.none
 
   printed_here : (text : List ℕ) → Stands stop e (λ _. picks) p old now left count 0 text → new ≡ now
-  printed_here text s = (subst (λ o. IfSome o (IsAtEnd stop p q now new)) s.known over).unprinted
+  printed_here text s = (subst (λ o. IfSome o (λ text. IsAtEnd stop p q now new text after)) s.known over).unprinted
+
+  left_here : (text : List ℕ) (s : Stands stop e (λ _. picks) p old now left count 0 text) → count ≡ selected_count stop (λ _. picks) e.most text →
+      HasLeft stop after (unread stop e (λ _. picks) text)
+  left_here text s counted =
+      let is : IsAtEnd stop p q now new s.rest after = subst (λ o. IfSome o (λ text. IsAtEnd stop p q now new text after)) s.known over in
+      (s.rest, is.kept, left_none stop (λ _. picks) e text s.rest p.left count 0 s.unread is.none counted)
 
   pub told_none : (input : Option (List ℕ)) → IfSome input (Stands stop e (λ _. picks) p old now left count 0) →
       (IfSome input (λ text. Prints old new (printed stop e (λ _. picks) text))) × (IfSome input (λ text. count ≡ selected_count stop (λ _. picks) e.most text))
-  told_none None s = (tt, tt)
+      × (IfSome input (λ text. HasLeft stop after (unread stop e (λ _. picks) text)))
+  told_none None s = (tt, tt, tt)
   told_none (Some text) s =
       let told = told_at_end stop e (λ _. picks) old p now count 0 (Some text) left left [] sound (ends_here left over) s in
-      (subst (λ o. Prints old o (printed stop e (λ _. picks) text)) (sym (printed_here text s)) told.0, told.1)
+      (subst (λ o. Prints old o (printed stop e (λ _. picks) text)) (sym (printed_here text s)) told.0, told.1, left_here text s told.1)
 
 pub read_weaker : {P Q : Type 0} (e : PrintError) → IfRead e P → (P → Q) → IfRead e Q
 read_weaker (Read fault) h weaker = weaker h

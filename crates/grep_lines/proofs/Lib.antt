@@ -5,6 +5,7 @@ mod BlockLemmas
 mod PartLemmas
 mod ContextLemmas
 mod AdvanceLemmas
+mod ReadLemmas
 mod StandsLemmas
 mod TouchedLemmas
 mod StretchLemmas

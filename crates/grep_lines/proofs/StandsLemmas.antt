@@ -1,24 +1,20 @@
 -- Only proofs use this file.
 -- Lines are read one after another, and what is printed of them goes on.
-use Rattle.std.proofs.Common.{ℕ, ◌≡◌, ◌<◌, ◌≤◌, ◌+◌, ◌-◌, ◌∙◌, ◌++◌, ◌∷◌, [], ◌&&◌, Bool, false, true, List, Option, Some, None, IfSome, ap, ap₂, append_assoc, arith, cond, refl, sym, subst, length, nat_lt}
+use Rattle.std.proofs.Common.{ℕ, ◌≡◌, ◌<◌, ◌≤◌, ◌+◌, ◌-◌, ◌∙◌, ◌++◌, ◌∷◌, [], ◌&&◌, ◌⊎◌, Bool, false, true, List, Option, Some, None, IfSome, ap, ap₂, append_assoc, arith, cond, refl, sym, subst, length, nat_lt}
 use Rattle.std.specs.Prelude.{Vec}
 use Rattle.std.specs.List.{filter, list_any}
+use Rattle.std.specs.Io.KnownBytes.{Keeps}
 use Rattle.std.specs.declared.alloc.Global.{Global}
-use Rattle.std.proofs.lemmas.Bool.{ltb-true, or_parts, true≢false}
+use Rattle.std.proofs.lemmas.Bool.{ltb-true, true≢false}
 use Rattle.std.proofs.lemmas.List.{append-nil}
 use Rattle.grep_lines.specs.Lines.{lines}
 use Rattle.grep_lines.specs.Selected.{TakesLine}
-use Rattle.grep_lines.specs.Context.{Marked, Part, Prints, PrintsBeginning, is_selected, marked, printed, selected_count, separated}
-use Rattle.grep_lines.specs.Ahead.{Advances, IsSound, Stands, ahead, ahead_of, contents}
+use Rattle.grep_lines.specs.Context.{HasLeft, Marked, Part, Prints, PrintsBeginning, behind_printed, is_selected, marked, printed, selected_count, separated, unread}
+use Rattle.grep_lines.specs.Ahead.{Advances, IsSound, Stands, ahead, ahead_of, contents, left_unread}
 use Rattle.grep_lines.specs.declared.context.Extent.{Extent}
 use Rattle.grep_lines.specs.declared.context.Progress.{Progress}
 use Rattle.grep_lines.proofs.ContextLemmas.{ahead_none, marked_anywhere, marked_none, prints_both, prints_none, shown_all}
-
-filter_none : (ms : List Marked) → list_any is_selected ms ≡ false → filter is_selected ms ≡ []
-filter_none [] none = refl
-filter_none (m ∷ ms) none =
-    let parts = or_parts m.selected (list_any is_selected ms) none in
-    ap (λ b. cond b (m ∷ filter is_selected ms) (filter is_selected ms)) parts.0 ∙ filter_none ms parts.1
+use Rattle.grep_lines.proofs.ReadLemmas.{filter_none, keeps_known, leaves_line, left_enough, left_none, unread_on}
 
 module _ (stop : ℕ) (e : Extent) (picks : ℕ → List ℕ → Bool) (old : Option (List Part)) where
   begins : (p : Progress) (text : List ℕ) → p.kept.items ≡ [] → p.next ≡ 1 → p.place ≡ 0 → p.left ≡ 0 → p.behind ≡ None →
@@ -38,6 +34,7 @@ module _ (stop : ℕ) (e : Extent) (picks : ℕ → List ℕ → Bool) (old : Op
             ∙ ap (λ n. ahead_of e p.behind p.left p.next n [] ms) (sym place)
             ∙ ap (λ (vs : List (Vec ℕ Global)). ahead_of e p.behind p.left p.next p.place (contents vs) ms) (sym kept);
         counted = ap (λ ns. length (filter is_selected ns)) all_left ∙ omega arith;
+        unread = λ _. ap (behind_printed e) all_left ∙ ap (λ l. left_unread e l ms) (sym left);
       }
 
   pub stands_first : (p : Progress) (input : Option (List ℕ)) → p.kept.items ≡ [] → p.next ≡ 1 → p.place ≡ 0 → p.left ≡ 0 → p.behind ≡ None →
@@ -57,8 +54,9 @@ module _ (stop : ℕ) (e : Extent) (picks : ℕ → List ℕ → Bool) (old : Op
 
     goes_on : (mid left : Option (List ℕ)) (text : List ℕ) (b : Bool) → Stands stop e picks p old now mid count at text →
         IfSome mid (λ rest. TakesLine stop rest true line left) → b ≡ (picks at line && nat_lt 0 (e.most - count)) → more ≡ cond b (count + 1) count → after ≡ at + length line + 1 →
-        Advances e p q now new (record { line = line; selected = b }) → Stands stop e picks q old new left more after text
-    goes_on mid left text b s t passes is next a =
+        Advances e p q now new (record { line = line; selected = b }) → q.left ≡ cond b e.after (p.left - 1) → (count ≡ e.most → 0 < p.left) →
+        Stands stop e picks q old new left more after text
+    goes_on mid left text b s t passes is next a behind context =
         let taken : TakesLine stop s.rest true line left = subst (λ o. IfSome o (λ rest. TakesLine stop rest true line left)) s.known t in
         let ms = marked picks (e.most - more) after (lines stop taken.0) in
         let split : marked picks (e.most - count) at (lines stop s.rest) ≡ record { line = line; selected = b } ∷ ms =
@@ -73,13 +71,20 @@ module _ (stop : ℕ) (e : Extent) (picks : ℕ → List ℕ → Bool) (old : Op
           all =
               s.all ∙ ap (λ ns. s.parts ++ ahead e p ns) split ∙ ap (λ ps. s.parts ++ ps) (a.2 ms) ∙ sym (append_assoc s.parts a.0 (ahead e q ms));
           counted = s.counted ∙ ap (λ ns. count + length (filter is_selected ns)) split ∙ count_more b ms is;
+          unread =
+              unread_on e p q (marked picks e.most 0 (lines stop text)) (record { line = line; selected = b } ∷ []) (marked picks (e.most - count) at (lines stop s.rest)) ms
+              count more split (count_more b [] is ∙ omega arith)
+              (leaves_line e p q more line b behind (λ none enough. context (omega (arith, enough, is ∙ ap (λ c. cond c (count + 1) count) none))))
+              (λ enough. ap (λ k. list_any is_selected (marked picks k after (lines stop taken.0))) (omega (arith, enough)) ∙ marked_none picks after (lines stop taken.0))
+              s.unread;
         }
 
     pub stands_next : (input mid left : Option (List ℕ)) (b : Bool) → IfSome input (Stands stop e picks p old now mid count at) →
         IfSome mid (λ rest. TakesLine stop rest true line left) → b ≡ (picks at line && nat_lt 0 (e.most - count)) → more ≡ cond b (count + 1) count → after ≡ at + length line + 1 →
-        Advances e p q now new (record { line = line; selected = b }) → IfSome input (Stands stop e picks q old new left more after)
-    stands_next None mid left b s t passes is next a = tt
-    stands_next (Some text) mid left b s t passes is next a = goes_on mid left text b s t passes is next a
+        Advances e p q now new (record { line = line; selected = b }) → q.left ≡ cond b e.after (p.left - 1) → (count ≡ e.most → 0 < p.left) →
+        IfSome input (Stands stop e picks q old new left more after)
+    stands_next None mid left b s t passes is next a behind context = tt
+    stands_next (Some text) mid left b s t passes is next a behind context = goes_on mid left text b s t passes is next a behind context
 
   module _ (p : Progress) (now : Option (List Part)) (count at : ℕ) where
     kept_end : (left : ℕ) (vs : List (Vec ℕ Global)) → (0 < length vs → left ≡ 0) → ahead_of e p.behind left p.next p.place (contents vs) [] ≡ []
@@ -138,6 +143,27 @@ module _ (stop : ℕ) (e : Extent) (picks : ℕ → List ℕ → Bool) (old : Op
     told_enough None left idle is s = (tt, tt)
     told_enough (Some text) left idle is s = let told = told_all left text s (enough s.rest idle is) in (told.0, told.1)
 
+    -- the lines that are left then
+    pub left_at_enough : (input left : Option (List ℕ)) → p.left ≡ 0 → count ≡ e.most → IfSome input (Stands stop e picks p old now left count at) →
+        IfSome input (λ text. HasLeft stop left (unread stop e picks text))
+    left_at_enough None left idle is s = tt
+    left_at_enough (Some text) left idle is s = (
+      s.rest,
+      s.known,
+      left_enough stop picks e text s.rest p.left count at s.unread idle is (told_all left text s (enough s.rest idle is)).1
+          (ap (λ k. list_any is_selected (marked picks k at (lines stop s.rest))) (omega (arith, is)) ∙ marked_none picks at (lines stop s.rest)),
+    )
+
+    pub left_at_end : (input left new : Option (List ℕ)) (line : List ℕ) → IsSound e p → IfSome left (λ rest. TakesLine stop rest false line new) → Keeps left new →
+        IfSome input (Stands stop e picks p old now left count at) → IfSome input (λ text. HasLeft stop new (unread stop e picks text))
+    left_at_end None left new line sound t kept s = tt
+    left_at_end (Some text) left new line sound t kept s = (
+      s.rest,
+      keeps_known left new s.rest s.known kept,
+      left_none stop picks e text s.rest p.left count at s.unread (subst (λ o. IfSome o (λ rest. TakesLine stop rest false line new)) s.known t)
+          (ended left new line text sound t s).1,
+    )
+
 -- where a test looks at the line alone, the place doesn't matter
 module _ (stop : ℕ) (e : Extent) (picks : List ℕ → Bool) (p : Progress) (old now : Option (List Part)) (left : Option (List ℕ)) (count place : ℕ) where
   moved : (text : List ℕ) → Stands stop e (λ _. picks) p old now left count place text → Stands stop e (λ _. picks) p old now left count 0 text
@@ -150,6 +176,10 @@ module _ (stop : ℕ) (e : Extent) (picks : List ℕ → Bool) (p : Progress) (o
         told = s.told;
         all = s.all ∙ ap (λ ms. s.parts ++ ahead e p ms) same;
         counted = s.counted ∙ ap (λ ms. count + length (filter is_selected ms)) same;
+        unread =
+            subst
+            (λ ms. (count ≡ e.most) ⊎ (list_any is_selected ms ≡ true) → behind_printed e (marked (λ _. picks) e.most 0 (lines stop text)) ≡ left_unread e p.left ms) same
+            s.unread;
       }
 
   pub stands_anywhere : (input : Option (List ℕ)) → IfSome input (Stands stop e (λ _. picks) p old now left count place) →

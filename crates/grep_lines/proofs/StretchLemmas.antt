@@ -2,18 +2,18 @@
 -- Lines that are all selected, or none of which is, where a test looks at the place of a line too.
 use Rattle.std.proofs.Common.{ℕ, zero, suc, ◌≡◌, ◌<◌, ◌≤◌, ◌+◌, ◌-◌, ◌∙◌, ◌++◌, ◌∷◌, [], ◌&&◌, ◌⊎◌, inl, inr, Bool, false, true, List, Option, Some, None, IfSome, ap, ap₂, append_assoc, arith, cond, refl, sym, subst, length, nat_lt, take, drop, get_or, length-append, length-take-le}
 use Rattle.std.specs.Prelude.{min, nat_le, slice_get}
-use Rattle.std.specs.List.{filter, slice_range}
+use Rattle.std.specs.List.{filter, list_any, slice_range}
 use Rattle.std.specs.Io.KnownBytes.{Consumes, Keeps}
 use Rattle.std.proofs.Math.Seq.{drop-append_seam, take-append_seam}
 use Rattle.std.proofs.Math.Nat.{le-max_right, min-eq_left, min-eq_right}
 use Rattle.std.proofs.lemmas.Bool.{cases_lt, le-leb, lt-leb, lt-ltb}
-use Rattle.std.proofs.lemmas.Option.{none-some, same_Some, slice_get-get_or}
+use Rattle.std.proofs.lemmas.Option.{same_Some, slice_get-get_or}
 use Rattle.std.proofs.lemmas.List.{take-append-drop}
 use Rattle.std.proofs.lemmas.List.Elements.{filter-append}
 use Rattle.rc_text.specs.declared.types.Span.{Span}
 use Rattle.rc_text.proofs.Ranges.{length-slice_range}
-use Rattle.grep_lines.specs.Ahead.{Stands, ahead}
-use Rattle.grep_lines.specs.Blocks.{AdvancesBy, AreAlike, IsBlockAt, IsUntaken, TakesLinesAt, marked_as, selected_in}
+use Rattle.grep_lines.specs.Ahead.{Stands, ahead, left_unread}
+use Rattle.grep_lines.specs.Blocks.{AdvancesBy, AreAlike, IsBlockAt, IsUntaken, LeavesUnread, TakesLinesAt, marked_as, selected_in}
 use Rattle.grep_lines.specs.Context.{Marked, Part, Prints, is_selected, marked}
 use Rattle.grep_lines.specs.Lines.{AreLinesOf, lines}
 use Rattle.grep_lines.specs.Pages.{AreLinesBefore, IsWhole}
@@ -22,10 +22,11 @@ use Rattle.grep_lines.specs.declared.block.Block.{Block}
 use Rattle.grep_lines.specs.declared.context.Extent.{Extent}
 use Rattle.grep_lines.specs.declared.context.Progress.{Progress}
 use Rattle.grep_lines.proofs.AdvanceLemmas.{selected_of}
-use Rattle.grep_lines.proofs.ContextLemmas.{prints_both}
+use Rattle.grep_lines.proofs.ContextLemmas.{marked_none, prints_both}
 use Rattle.grep_lines.proofs.LineLemmas.{parts}
 use Rattle.grep_lines.proofs.PageLemmas.{Behind, behind as first_behind, line_stands, lines_append, whole_line}
 use Rattle.grep_lines.proofs.PartLemmas.{size_of, whole_size}
+use Rattle.grep_lines.proofs.ReadLemmas.{keeps_known, leaves_block, unread_on}
 use Rattle.grep_lines.proofs.TouchedLemmas.{first_tells, left_again, left_touch}
 
 -- ---- the lines of a page before a position
@@ -151,10 +152,11 @@ module _ (stop : ℕ) (e : Extent) (picks : ℕ → List ℕ → Bool) where
   -- a block of a page was taken
   pub takes_block : (p q : Progress) (a b : Option (List Part)) (count place : ℕ) (k : Block) (old new : Option (List ℕ)) → IsBlockAt stop picks place k →
       selected_in k ≤ e.most - count → AdvancesBy e p q a b (marked_as k.is_selected (lines stop k.text.now)) → Consumes old new k.text.now →
+      count < e.most → (k.is_selected ≡ true → 0 < k.count → q.left ≡ e.after) →
       IfSome old (λ text. TakesLinesAt stop e picks p q a b count (selected_in k) place (length k.text.now) text new)
-  takes_block p q a b count place k None new is fits told moved = tt
-  takes_block p q a b count place k (Some text) None is fits told moved = absurd moved
-  takes_block p q a b count place k (Some text) (Some rest) is fits told moved =
+  takes_block p q a b count place k None new is fits told moved few left = tt
+  takes_block p q a b count place k (Some text) None is fits told moved few left = absurd moved
+  takes_block p q a b count place k (Some text) (Some rest) is fits told moved few left =
       let front = k.text.now in
       let ls = lines stop front in
       let size : selected_in k ≡ cond k.is_selected (length ls) 0 = ap (λ n. cond k.is_selected n 0) is.counted in
@@ -169,6 +171,9 @@ module _ (stop : ℕ) (e : Extent) (picks : ℕ → List ℕ → Bool) where
             ∙ ap₂ (λ m p. marked_as k.is_selected ls ++ marked picks m p (lines stop rest)) (omega (arith, size)) (ap (λ n. place + n) (sym (whole_size stop front is.whole)));
         counted = selected_of k.is_selected ls ∙ sym size;
         told = told;
+        unread =
+            subst (λ n. LeavesUnread e p q (count + n) (marked_as k.is_selected ls)) (sym size)
+            (leaves_block e p q count k.is_selected ls few (λ selected some. left selected (omega (arith, some, is.counted))));
       }
 
   module _ (p q : Progress) (a b : Option (List Part)) (count more place len : ℕ) where
@@ -191,6 +196,12 @@ module _ (stop : ℕ) (e : Extent) (picks : ℕ → List ℕ → Bool) where
               ∙ ap (λ ns. count + length ns) (filter-append is_selected taken.ms ms)
               ∙ ap (λ n. count + n) (length-append (filter is_selected taken.ms) (filter is_selected ms) ∙ ap (λ n. n + length (filter is_selected ms)) taken.counted)
               ∙ omega arith;
+          unread =
+              unread_on e p q (marked picks e.most 0 (lines stop text)) taken.ms (marked picks (e.most - count) place (lines stop s.rest)) ms count (count + more)
+              taken.split (ap (λ n. count + n) taken.counted) taken.unread
+              (λ enough. ap (λ k. list_any is_selected (marked picks k (place + len) (lines stop taken.rest))) (omega (arith, enough))
+              ∙ marked_none picks (place + len) (lines stop taken.rest))
+              s.unread;
         }
 
     -- what was printed goes on with what is to be printed behind the lines
@@ -200,11 +211,6 @@ module _ (stop : ℕ) (e : Extent) (picks : ℕ → List ℕ → Bool) where
     stands_behind old (Some text) mid left s t = goes_on old mid left text s t
 
 -- nothing was taken
-keeps_known : (mid left : Option (List ℕ)) (rest : List ℕ) → mid ≡ Some rest → Keeps mid left → left ≡ Some rest
-keeps_known None left rest is kept = absurd (none-some rest is)
-keeps_known (Some xs) None rest is kept = absurd kept
-keeps_known (Some xs) (Some ys) rest is kept = ap Some kept ∙ is
-
 pub stands_still : (stop : ℕ) (e : Extent) (picks : ℕ → List ℕ → Bool) (p q : Progress) (old now new : Option (List Part)) (count place : ℕ) (input mid left : Option (List ℕ)) →
     IfSome input (Stands stop e picks p old now mid count place) → IsUntaken p q now new → Keeps mid left → IfSome input (Stands stop e picks q old new left count place)
 stands_still stop e picks p q old now new count place None mid left s same kept = tt
@@ -217,4 +223,5 @@ stands_still stop e picks p q old now new count place (Some text) mid left s sam
       told = subst (λ o. Prints old o s.parts) (sym same.unprinted) s.told;
       all = s.all ∙ ap (λ x. s.parts ++ ahead e x ms) (sym same.same);
       counted = s.counted;
+      unread = λ when. s.unread when ∙ ap (λ (x : Progress). left_unread e x.left ms) (sym same.same);
     }

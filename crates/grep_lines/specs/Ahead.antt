@@ -1,10 +1,10 @@
 -- Only proofs and the contracts of private functions use this file.
 -- What is still to be printed, after some lines were read.
-use Rattle.std.specs.Prelude.{◌≡◌, ℕ, ◌+◌, ◌-◌, ◌*◌, ◌<◌, ◌≤◌, ◌||◌, Bool, false, true, List, [], ◌∷◌, ◌++◌, Option, Some, if◌then◌else◌, filter, length, map, nat_lt, take, Vec}
+use Rattle.std.specs.Prelude.{◌≡◌, ℕ, ◌+◌, ◌-◌, ◌*◌, ◌<◌, ◌≤◌, ◌||◌, ◌⊎◌, Bool, false, true, List, [], ◌∷◌, ◌++◌, Option, Some, if◌then◌else◌, drop, filter, length, map, nat_lt, take, Vec}
 use Rattle.std.specs.List.{list_any}
 use Rattle.std.specs.declared.alloc.Global.{Global}
 use Rattle.grep_lines.specs.Lines.{lines}
-use Rattle.grep_lines.specs.Context.{Marked, Part, Prints, Shown, is_selected, marked, printed, selected_count, separated}
+use Rattle.grep_lines.specs.Context.{Marked, Part, Prints, Shown, behind_printed, behind_selected, is_selected, marked, printed, selected_count, separated}
 use Rattle.grep_lines.specs.declared.context.Extent.{Extent}
 use Rattle.grep_lines.specs.declared.context.Progress.{Progress}
 
@@ -20,6 +20,10 @@ later e left number place (m ∷ rest) =
     then record { number = number; place = place; selected = m.selected; line = m.line }
     ∷ later e (left_behind e m left) (number + 1) (place + length m.line + 1) rest
     else later e (left_behind e m left) (number + 1) (place + length m.line + 1) rest
+
+-- the lines behind the last one that is printed, if so many of them are context anyway
+abbrev pub left_unread : Extent → (left : ℕ) → List Marked → List Marked
+left_unread e left ms = if list_any is_selected ms then drop e.after (behind_selected ms) else drop left ms
 
 -- a line that isn't selected
 abbrev pub plain : List ℕ → Marked
@@ -69,3 +73,6 @@ pub record Stands (t : ℕ) (e : Extent) (picks : ℕ → List ℕ → Bool) (p 
   pub told : Prints old now parts
   pub all : printed t e picks text ≡ parts ++ ahead e p (marked picks (e.most - count) place (lines t rest))
   pub counted : selected_count t picks e.most text ≡ count + length (filter is_selected (marked picks (e.most - count) place (lines t rest)))
+  pub unread :
+      (count ≡ e.most) ⊎ (list_any is_selected (marked picks (e.most - count) place (lines t rest)) ≡ true) →
+      behind_printed e (marked picks e.most 0 (lines t text)) ≡ left_unread e p.left (marked picks (e.most - count) place (lines t rest))

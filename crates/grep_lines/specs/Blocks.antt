@@ -1,10 +1,11 @@
 -- Only proofs and the contracts of private functions use this file.
 -- Whole lines that are all selected, or none of which is.
-use Rattle.std.specs.Prelude.{◌≡◌, ◌≤◌, ℕ, ◌+◌, ◌-◌, Bool, false, not, List, [], ◌∷◌, ◌++◌, Option, Some, if◌then◌else◌, filter, length, map}
+use Rattle.std.specs.Prelude.{◌≡◌, ◌≤◌, ℕ, ◌+◌, ◌-◌, Bool, false, not, List, [], ◌∷◌, ◌++◌, Option, Some, if◌then◌else◌, drop, filter, length, map}
+use Rattle.std.specs.List.{list_any}
 use Rattle.grep_lines.specs.Lines.{lines}
 use Rattle.grep_lines.specs.Pages.{IsWhole}
 use Rattle.grep_lines.specs.Context.{Marked, Part, Prints, is_selected, marked, selected_parts}
-use Rattle.grep_lines.specs.Ahead.{ahead}
+use Rattle.grep_lines.specs.Ahead.{ahead, left_unread}
 use Rattle.grep_lines.specs.declared.block.Block.{Block}
 use Rattle.grep_lines.specs.declared.context.Extent.{Extent}
 use Rattle.grep_lines.specs.declared.context.Progress.{Progress}
@@ -53,6 +54,11 @@ abbrev pub AdvancesBy : Extent → (old new : Progress) → (before after : Opti
 AdvancesBy e old new before after ms =
     (parts : List Part) × Prints before after parts × ((rest : List Marked) → ahead e old (ms ++ rest) ≡ parts ++ ahead e new rest)
 
+-- Lines were read. If as many are selected now as may be, no line behind the last one that is printed was.
+abbrev pub LeavesUnread : Extent → (old new : Progress) → (count : ℕ) → List Marked → Type 0
+LeavesUnread e old new count ms =
+    count ≡ e.most → (rest : List Marked) → list_any is_selected rest ≡ false → left_unread e old.left (ms ++ rest) ≡ drop new.left rest
+
 -- The lines of a text's front were read, of which so many more are selected, and the lines behind them are marked as if nothing stood before.
 pub record TakesFront (t : ℕ) (e : Extent) (picks : List ℕ → Bool) (old new : Progress) (before after : Option (List Part)) (count more : ℕ) (front : List ℕ) : Type 0 where
   pub whole : IsWhole t front
@@ -60,6 +66,7 @@ pub record TakesFront (t : ℕ) (e : Extent) (picks : List ℕ → Bool) (old ne
   pub split : (rest : List ℕ) → marked (λ _. picks) (e.most - count) 0 (lines t (front ++ rest)) ≡ ms ++ marked (λ _. picks) (e.most - (count + more)) 0 (lines t rest)
   pub counted : length (filter is_selected ms) ≡ more
   pub told : AdvancesBy e old new before after ms
+  pub unread : LeavesUnread e old new (count + more) ms
 
 -- The first lines of a text were read, of which so many more are selected, and `left` holds the others.
 pub record TakesLines (t : ℕ) (e : Extent) (picks : List ℕ → Bool) (old new : Progress) (before after : Option (List Part)) (count more : ℕ) (text : List ℕ) (left : Option (List ℕ)) : Type 0 where
@@ -69,6 +76,7 @@ pub record TakesLines (t : ℕ) (e : Extent) (picks : List ℕ → Bool) (old ne
   pub split : marked (λ _. picks) (e.most - count) 0 (lines t text) ≡ ms ++ marked (λ _. picks) (e.most - (count + more)) 0 (lines t rest)
   pub counted : length (filter is_selected ms) ≡ more
   pub told : AdvancesBy e old new before after ms
+  pub unread : LeavesUnread e old new (count + more) ms
 
 -- The same, where a test looks at the place of a line too: the text begins at `place`, and these lines have `len` bytes.
 pub record TakesLinesAt (t : ℕ) (e : Extent) (picks : ℕ → List ℕ → Bool) (old new : Progress) (before after : Option (List Part)) (count more place len : ℕ) (text : List ℕ) (left : Option (List ℕ)) : Type 0 where
@@ -78,6 +86,7 @@ pub record TakesLinesAt (t : ℕ) (e : Extent) (picks : ℕ → List ℕ → Boo
   pub split : marked picks (e.most - count) place (lines t text) ≡ ms ++ marked picks (e.most - (count + more)) (place + len) (lines t rest)
   pub counted : length (filter is_selected ms) ≡ more
   pub told : AdvancesBy e old new before after ms
+  pub unread : LeavesUnread e old new (count + more) ms
 
 -- No line was taken, and nothing was printed.
 pub record IsUntaken (old new : Progress) (before after : Option (List Part)) : Type 0 where
@@ -85,8 +94,9 @@ pub record IsUntaken (old new : Progress) (before after : Option (List Part)) : 
   pub unprinted : after ≡ before
 
 -- There is no line more, and nothing was printed.
-pub record IsAtEnd (t : ℕ) (old new : Progress) (before after : Option (List Part)) (text : List ℕ) : Type 0 where
+pub record IsAtEnd (t : ℕ) (old new : Progress) (before after : Option (List Part)) (text : List ℕ) (left : Option (List ℕ)) : Type 0 where
   pub none : lines t text ≡ []
+  pub kept : left ≡ Some text
   pub same : new ≡ old
   pub unprinted : after ≡ before
 

@@ -1,5 +1,5 @@
 -- Which lines are printed: the selected ones, and lines around them.
-use Rattle.std.specs.Prelude.{◌≡◌, ℕ, ◌+◌, ◌-◌, ◌==◌, ◌&&◌, ◌||◌, ◌⊎◌, Bool, List, [], ◌∷◌, ◌++◌, Option, None, Some, if◌then◌else◌, filter, length, nat_lt, take, false, true}
+use Rattle.std.specs.Prelude.{◌≡◌, ℕ, ◌+◌, ◌-◌, ◌==◌, ◌&&◌, ◌||◌, ◌⊎◌, Bool, List, [], ◌∷◌, ◌++◌, Option, None, Some, if◌then◌else◌, drop, filter, length, map, nat_lt, take, false, true}
 use Rattle.std.specs.List.{list_any}
 use Rattle.std.specs.IoError.{error_kind}
 use Rattle.std.specs.declared.io.Error.{Error}
@@ -78,6 +78,27 @@ printed t e picks text = separated None (shown e [] (marked picks e.most 0 (line
 -- the number of selected lines
 abbrev pub selected_count : (terminator : ℕ) → (ℕ → List ℕ → Bool) → (most : ℕ) → (text : List ℕ) → ℕ
 selected_count t picks most text = length (filter is_selected (marked picks most 0 (lines t text)))
+
+-- the lines behind the last selected one; all, if none is selected
+abbrev pub behind_selected : List Marked → List Marked
+behind_selected [] = []
+behind_selected (m ∷ rest) = if list_any is_selected (m ∷ rest) then behind_selected rest else m ∷ rest
+
+-- the lines behind the last one that is printed; all, if none is selected
+abbrev pub behind_printed : Extent → List Marked → List Marked
+behind_printed e ms = if list_any is_selected ms then drop e.after (behind_selected ms) else ms
+
+abbrev pub line_in : Marked → List ℕ
+line_in m = m.line
+
+-- the lines that aren't read: those behind the last printed one, if as many are selected as may be, and else none
+abbrev pub unread : (terminator : ℕ) → Extent → (ℕ → List ℕ → Bool) → (text : List ℕ) → List (List ℕ)
+unread t e picks text =
+    if selected_count t picks e.most text == e.most then map line_in (behind_printed e (marked picks e.most 0 (lines t text))) else []
+
+-- A reader has these lines left.
+abbrev pub HasLeft : (terminator : ℕ) → (left : Option (List ℕ)) → List (List ℕ) → Type 0
+HasLeft t left ls = (rest : List ℕ) × (left ≡ Some rest) × (lines t rest ≡ ls)
 
 -- What a printer has printed gained these parts. `None` claims nothing.
 abbrev pub Prints : (old new : Option (List Part)) → List Part → Type 0

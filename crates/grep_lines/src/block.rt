@@ -59,6 +59,7 @@ pub(crate) fn first_lines<'p, S: LineSelector>(
     ensures second { IsBlock terminator (S.selects selector.old) result.1 }
     ensures parts { ArePartsOf page.now result.0 result.1 }
     ensures few { selected_in result.0 + selected_in result.1 ≤ most }
+    ensures last { selected_in result.0 + selected_in result.1 ≡ most → 0 < selected_in result.1 }
     ensures same { S.selects selector.new ≡ S.selects selector.old }
 {
     let stretch = selector.next_stretch(terminator, page);

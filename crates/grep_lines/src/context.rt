@@ -1,9 +1,9 @@
 //! Context: the selected lines, and the lines around them.
-ghost use Rattle.std.specs.Prelude.{◌≡◌, ◌≢◌, ◌<◌, ◌+◌, ◌^◌, ◌++◌, ◌∷◌, [], ℕ, List, Bool, Option, None, Some, IfErr, IfOk, IfSome, OnOk, ⊤, false, true, length, nat_lt, ◌&&◌, ◌-◌};
+ghost use Rattle.std.specs.Prelude.{◌≡◌, ◌≢◌, ◌<◌, ◌+◌, ◌^◌, ◌++◌, ◌∷◌, [], ℕ, List, Bool, Option, None, Some, IfErr, IfOk, IfSome, OnOk, ⊤, cond, false, true, length, nat_lt, ◌&&◌, ◌-◌};
 ghost use Rattle.std.specs.IoError.{error_kind};
 ghost use Rattle.std.specs.declared.io.Error.{Error};
 ghost use Rattle.grep_lines.specs.Ahead.{Advances, Flushes, IsPlaced, IsSound, Skips};
-ghost use Rattle.grep_lines.specs.Context.{IfPrint, IfRead, IsPrintFault, Part, Prints, PrintsBeginning, PrintsIf, gap, printed, selected_count, selected_parts};
+ghost use Rattle.grep_lines.specs.Context.{HasLeft, IfPrint, IfRead, IsPrintFault, Part, Prints, PrintsBeginning, PrintsIf, gap, printed, selected_count, selected_parts, unread};
 ghost use Rattle.grep_lines.specs.Lines.{lines};
 ghost use Rattle.grep_lines.specs.Context.Part.{line_of, separator};
 
@@ -192,6 +192,7 @@ impl Progress {
         requires idle { self.old.left ≡ 0 }
         ensures ok { OnOk result (Skips extent self.old self.new line.old.items) }
         ensures sound { OnOk result (IsSound extent self.new) }
+        ensures left { OnOk result (self.new.left ≡ self.old.left) }
         ensures placed { OnOk result (IsPlaced self.new) }
         ensures next { OnOk result (self.new.next + length self.new.kept.items
             ≡ self.old.next + length self.old.kept.items + 1) }
@@ -224,6 +225,8 @@ impl Progress {
         ensures ok { OnOk result (Advances extent self.old self.new (P.printed printer.old)
             (P.printed printer.new) (record { line = line.old.items; selected = is_selected })) }
         ensures sound { OnOk result (IsSound extent self.new) }
+        ensures left { OnOk result (self.new.left
+            ≡ cond is_selected extent.after (self.old.left - 1)) }
         ensures placed { OnOk result (IsPlaced self.new) }
         ensures next { OnOk result (self.new.next + length self.new.kept.items
             ≡ self.old.next + length self.old.kept.items + 1) }
@@ -264,6 +267,9 @@ pub fn print_selected<R: BufRead, S: LineSelector, P: LinePrinter<S>>(
         (printed terminator extent (λ _. S.selects selector.old) text))) }
     ensures counted { IfOk result (λ count. IfSome (R.remaining reader.old) (λ text.
         count ≡ selected_count terminator (λ _. S.selects selector.old) extent.most text)) }
+    ensures read { OnOk result (IfSome (R.remaining reader.old) (λ text.
+        HasLeft terminator (R.remaining reader.new)
+        (unread terminator extent (λ _. S.selects selector.old) text))) }
     ensures begun { IfErr result (λ e. IfRead e (IfSome (R.remaining reader.old) (λ text.
         PrintsBeginning terminator extent (λ _. S.selects selector.old) (P.printed printer.old)
         (P.printed printer.new) text))) }

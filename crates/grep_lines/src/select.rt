@@ -107,6 +107,8 @@ pub fn next_line<R: BufRead>(reader: &mut R, terminator: u8, line: &mut Vec<u8>)
         (R.remaining reader.new) line.new.items) }
     ensures one_line { OnErr result (StopsAt line.new.items terminator) }
     ensures retried { IfErr result (λ e. error_kind e ≢ ErrorKind.Interrupted) }
+    ensures ended { IfOk result (λ more. more ≡ false
+        → Keeps (R.remaining reader.old) (R.remaining reader.new)) }
     ensures taken { IfOk result (λ more. IfSome (R.remaining reader.old)
         (λ text. TakesLine terminator text more line.new.items (R.remaining reader.new))) }
 {

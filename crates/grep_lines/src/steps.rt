@@ -247,6 +247,7 @@ impl Progress {
         ensures placed { OnOk result (IsPlaced self.new) }
         ensures next { OnOk result (self.new.next ≡ self.old.next + block.entry.count) }
         ensures none_kept { self.new.kept.items ≡ [] }
+        ensures left { OnOk result (self.new.left ≡ plan.extent.after) }
         ensures failed { IfErr result P.fails_by }
         ensures same { S.selects selector.new ≡ S.selects selector.old }
     {
@@ -289,6 +290,8 @@ impl Progress {
             (P.printed printer.new)
             (marked_as block.entry.is_selected (lines plan.terminator block.entry.text.now))) }
         ensures sound { OnOk result (IsSound plan.extent self.new) }
+        ensures left { OnOk result (block.entry.is_selected ≡ true → 0 < block.entry.count
+            → self.new.left ≡ plan.extent.after) }
         ensures placed { OnOk result (IsPlaced self.new) }
         ensures next { OnOk result (self.new.next + length self.new.kept.items
             ≡ self.old.next + length self.old.kept.items + block.entry.count) }
@@ -410,9 +413,10 @@ impl Progress {
         requires sound { IsSound plan.extent self.old }
         requires placed { IsPlaced self.old }
         requires few { count ≤ plan.extent.most }
+        requires context { count ≡ plan.extent.most → 0 < self.old.left }
         ensures ok { IfOk result (λ o. IfSome (R.remaining reader.old) (λ text. MatchOption o
             (IsAtEnd plan.terminator self.old self.new (P.printed printer.old)
-            (P.printed printer.new) text)
+            (P.printed printer.new) text (R.remaining reader.new))
             (λ more. TakesLines plan.terminator plan.extent (S.selects selector.old) self.old
             self.new (P.printed printer.old) (P.printed printer.new) count more text
             (R.remaining reader.new)))) }
@@ -452,9 +456,10 @@ impl Progress {
         requires sound { IsSound plan.extent self.old }
         requires placed { IsPlaced self.old }
         requires few { count ≤ plan.extent.most }
+        requires context { count ≡ plan.extent.most → 0 < self.old.left }
         ensures ok { IfOk result (λ o. IfSome (R.remaining reader.old) (λ text. MatchOption o
             (IsAtEnd plan.terminator self.old self.new (P.printed printer.old)
-            (P.printed printer.new) text)
+            (P.printed printer.new) text (R.remaining reader.new))
             (λ more. TakesLines plan.terminator plan.extent (S.selects selector.old) self.old
             self.new (P.printed printer.old) (P.printed printer.new) count more text
             (R.remaining reader.new)))) }

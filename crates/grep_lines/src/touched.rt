@@ -3,7 +3,7 @@ ghost use Rattle.std.specs.Prelude.{◌≡◌, ◌<◌, ◌≤◌, ◌&&◌, ◌
 ghost use Rattle.std.specs.Io.KnownBytes.{Keeps};
 ghost use Rattle.grep_lines.specs.Ahead.{IsPlaced, IsSound};
 ghost use Rattle.grep_lines.specs.Blocks.{IsBlockAt, IsPart, IsUntaken, TakesLinesAt};
-ghost use Rattle.grep_lines.specs.Context.{IfPrint, IfRead, IsPrintFault, Prints, PrintsBeginning, printed, selected_count};
+ghost use Rattle.grep_lines.specs.Context.{HasLeft, IfPrint, IfRead, IsPrintFault, Prints, PrintsBeginning, printed, selected_count, unread};
 ghost use Rattle.grep_lines.specs.Lines.{AreLinesOf};
 ghost use Rattle.grep_lines.specs.Touched.{are_from, behind, is_touched, left_at, picks_touched};
 
@@ -232,6 +232,7 @@ impl Progress {
         let block = front.first_alike(plan.terminator, page);
         let selected = block.selected();
         if block.count == 0
+            || front.count >= plan.extent.most
             || selected > plan.extent.most - front.count
             || !self.has_room(block.count)
         {
@@ -269,6 +270,9 @@ pub fn print_touched<R: BufRead, S: LineSelector, P: LinePrinter<S>>(
     ensures counted { IfOk result (λ count. IfSome (R.remaining reader.old) (λ text.
         count ≡ selected_count terminator
         (picks_touched touched.now.is_inverted touched.now.spans.now) extent.most text)) }
+    ensures read { OnOk result (IfSome (R.remaining reader.old) (λ text.
+        HasLeft terminator (R.remaining reader.new) (unread terminator extent
+        (picks_touched touched.now.is_inverted touched.now.spans.now) text))) }
     ensures begun { IfErr result (λ e. IfRead e (IfSome (R.remaining reader.old) (λ text.
         PrintsBeginning terminator extent
         (picks_touched touched.now.is_inverted touched.now.spans.now)

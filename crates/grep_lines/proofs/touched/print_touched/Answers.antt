@@ -9,7 +9,7 @@ use Rattle.grep_lines.specs.declared.context.Progress.{Progress}
 use Rattle.grep_lines.specs.declared.touched.Touched.{Touched}
 use Rattle.grep_lines.proofs.StretchLemmas.{stands_behind, stands_still}
 use Rattle.grep_lines.proofs.TouchedLemmas.{left_again}
-use Rattle.grep_lines.proofs.StandsLemmas.{few_more, stands_first, stands_next, told_at_end, told_enough}
+use Rattle.grep_lines.proofs.StandsLemmas.{few_more, left_at_end, left_at_enough, stands_first, stands_next, told_at_end, told_enough}
 use Rattle.grep_lines.proofs.touched.print_touched.Goals as goal
 
 -- nothing was read
@@ -41,6 +41,12 @@ returns-then-progress-eq0-clause-counted g c =
     (told_enough c.args.terminator c.args.extent (picks_touched c.args.touched.now.is_inverted c.args.touched.now.spans.now) (g.P.LinePrinter.printed c.args.printer.now) c.loop.progress
     (g.P.LinePrinter.printed c.loop.printer) c.loop.front.count c.loop.front.place (g.R.Read.remaining c.args.reader.now) (g.R.Read.remaining c.loop.reader)
     (omega arith) (omega arith) c.loop.invariant.stands).1
+
+pub returns-then-progress-eq0-clause-read : goal.returns-then-progress-eq0-clause-read
+returns-then-progress-eq0-clause-read g c =
+    left_at_enough c.args.terminator c.args.extent (picks_touched c.args.touched.now.is_inverted c.args.touched.now.spans.now) (g.P.LinePrinter.printed c.args.printer.now) c.loop.progress
+    (g.P.LinePrinter.printed c.loop.printer) c.loop.front.count c.loop.front.place (g.R.Read.remaining c.args.reader.now) (g.R.Read.remaining c.loop.reader)
+    (omega arith) (omega arith) c.loop.invariant.stands
 
 -- lines of a page were taken
 pub loop-preserved-in-Some : goal.loop-preserved-in-Some
@@ -131,6 +137,33 @@ returns-in-Ok-false-clause-counted g c =
     subst (λ b. IfSome next (λ text. TakesLine stop text b line left)) c.in-Ok-false.field-0-test c.in-Ok-false.ensures.taken in
     (told_at_end stop e picks start q new front.count front.place input next left line ensured.sound ended still).1
 
+pub returns-in-Ok-false-clause-read : goal.returns-in-Ok-false-clause-read
+returns-in-Ok-false-clause-read g c =
+    let e = c.args.extent in
+    let stop = c.args.terminator in
+    let touched = c.args.touched.now in
+    let picks = picks_touched touched.is_inverted touched.spans.now in
+    let inv = c.loop.invariant in
+    let start = g.P.LinePrinter.printed c.args.printer.now in
+    let input = g.R.Read.remaining c.args.reader.now in
+    let mid = g.R.Read.remaining c.loop.reader in
+    let now = g.P.LinePrinter.printed c.loop.printer in
+    let new = g.P.LinePrinter.printed c.take_touched.new.printer in
+    let p = c.loop.progress in
+    let q = c.take_touched.new.self in
+    let front = c.loop.front in
+    let ensured = c.in_ok-taken.ensures in
+    let next = g.R.Read.remaining c.take_touched.new.reader in
+    let untaken : IsUntaken p q now new × Keeps mid next =
+    subst (λ o. MatchOption o (IsUntaken p q now new × Keeps mid next) (λ t. IfSome mid (λ text. TakesLinesAt stop e
+    (picks_touched front.touched.now.is_inverted front.touched.now.spans.now) p q now new front.count t.selected front.place t.len text next))) c.in-None.is ensured.ok in
+    let still = stands_still stop e picks p q start now new front.count front.place input mid next inv.stands untaken.0 untaken.1 in
+    let left = g.R.Read.remaining c.next_line.new.reader in
+    let line = c.next_line.new.line.items in
+    let ended : IfSome next (λ text. TakesLine stop text false line left) =
+    subst (λ b. IfSome next (λ text. TakesLine stop text b line left)) c.in-Ok-false.field-0-test c.in-Ok-false.ensures.taken in
+    left_at_end stop e picks start q new front.count front.place input next left line ensured.sound ended (c.in-Ok-false.ensures.ended c.in-Ok-false.field-0-test) still
+
 bit : (b : Bool) → bool_byte b ≡ cond b 1 0
 bit true = refl
 bit false = refl
@@ -185,5 +218,5 @@ loop-preserved g c =
       left = λ k le. ap (left_at k) c.spans_from-front.ensures ∙ left_again front.place k front.spans.now (omega (arith, le)) ∙ inv.left k (omega (arith, le));
       stands =
           stands_next stop e picks start q r new (g.P.LinePrinter.printed c.take.new.printer) front.count more front.place _ line input next left b still taken passes is
-          (omega (arith, c.len.ensures, c.next_line.new.line.ok.0)) read.ok;
+          (omega (arith, c.len.ensures, c.next_line.new.line.ok.0)) read.ok read.left (λ enough. omega (arith, enough, ap (λ (x : Progress). x.left) untaken.0.same));
     }

@@ -1,4 +1,4 @@
-use Rattle.std.proofs.Common.{ℕ, List, ◌≡◌, ◌<◌, ◌+◌, ◌-◌, ◌∙◌, ◌++◌, ◌∷◌, [], ap, append_assoc, arith, drop, get_or, get_or-take, length, length-drop, length-take-le, refl, subst, sym, take, take_all}
+use Rattle.std.proofs.Common.{ℕ, List, ◌≡◌, ◌+◌, ◌-◌, ◌∙◌, ◌++◌, ◌∷◌, [], ap, append_assoc, arith, drop, get_or, get_or-take, length, length-drop, length-take-le, refl, subst, sym, take, take_all}
 use Rattle.std.proofs.lemmas.Bool.{eqb-true, eq-eqb}
 use Rattle.std.proofs.lemmas.List.{append-nil}
 use Rattle.grep_lines.specs.Ahead.{contents}

@@ -1,10 +1,8 @@
-use Rattle.std.proofs.Common.{ℕ, List, ◌≡◌, ◌≤◌, ◌+◌, ◌-◌, ◌∙◌, ◌++◌, [], ap, arith, drop, length, length-append, length-drop, subst, sym, take, take_all}
+use Rattle.std.proofs.Common.{◌≡◌, ◌-◌, ◌∙◌, ◌++◌, ap, arith, drop, length, length-append, length-drop, sym, take, take_all}
 use Rattle.std.proofs.lemmas.List.{take-append-drop}
 use Rattle.grep_lines.specs.Ahead.{contents}
 use Rattle.grep_lines.specs.Lines.{lines}
-use Rattle.grep_lines.specs.Pages.{IsWhole}
-use Rattle.grep_lines.proofs.AdvanceLemmas.{advances_kept, whole_drop}
-use Rattle.grep_lines.proofs.ContextLemmas.{contents_length}
+use Rattle.grep_lines.proofs.AdvanceLemmas.{advances_kept}
 use Rattle.grep_lines.proofs.PageLemmas.{lines_append}
 use Rattle.grep_lines.proofs.context.Progress.keep_last.Goals as goal
 

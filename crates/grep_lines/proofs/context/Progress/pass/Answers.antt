@@ -1,4 +1,4 @@
-use Rattle.std.proofs.Common.{◌≡◌, ◌+◌, ◌∙◌, ◌∷◌, ap, arith, length, map, refl}
+use Rattle.std.proofs.Common.{◌≡◌, ◌∷◌, ap, arith, length, map, refl}
 use Rattle.grep_lines.specs.Ahead.{contents, plain}
 use Rattle.grep_lines.specs.Context.{size_of}
 use Rattle.grep_lines.proofs.context.Progress.pass.Goals as goal

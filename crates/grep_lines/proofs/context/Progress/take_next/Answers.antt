@@ -22,3 +22,4 @@ returns-in-Ok-clause-ok g c =
     next_lines stop e picks c.args.self.now c.take.new.self (g.P.LinePrinter.printed c.args.printer.now) (g.P.LinePrinter.printed c.take.new.printer) c.args.count c.from.result line
     c.selects_more-is_selected.result left old taken
     (c.selects_more-is_selected.ensures.value ∙ ap (λ (l : List ℕ). picks l && nat_lt 0 (e.most - c.args.count)) c.deref.ensures.value) (c.from.ensures ∙ bit c.selects_more-is_selected.result) c.in-Ok.ensures.ok
+    c.in-Ok.ensures.left c.requires.context

@@ -32,7 +32,7 @@ returns-clause-ok g c =
     let new = g.R.Read.remaining c.consume.new.self in
     let taken =
     takes_block stop e picks p q a b front.count front.place block old new told.block (omega (arith, c.if-selected-plan.false, c.selected-selected.ensures)) c.in_default.ensures.ok
-    (subst (Consumes old new) same moved.0) in
+    (subst (Consumes old new) same moved.0) (omega (arith, c.if-front-plan.false)) c.in_default.ensures.left in
     subst (λ n. IfSome old (λ text. TakesLinesAt stop e picks p q a b front.count n front.place (length block.text.now) text new)) (sym c.selected-selected.ensures) taken
 
 pub returns-clause-near : goal.returns-clause-near
