@@ -1,6 +1,6 @@
 //! Steps: a search of a file in slices, between which the caller shows how far it is.
 ghost use Rattle.std.specs.Prelude.{◌≡◌, ℕ, length};
-ghost use Rattle.stream_search.specs.Stepping.{IfDone, IfNotYet, IsSliced, IsUnderWay, found_from};
+ghost use Rattle.stream_search.specs.Stepping.{IfDone, IfNotYet, IsOfSlice, IsSliced, IsUnderWay, found_from};
 
 use paged_file::{PagedCursor, Pages};
 use stream_search::{Progress, Stepper};
@@ -24,6 +24,7 @@ pub fn find_on<P: Pages>(
     ensures goes_on { (start : ℕ) → IsUnderWay cursor.old.stored.bytes start stepper.old
         → IfNotYet result (IsUnderWay cursor.old.stored.bytes start stepper.new) }
     ensures stays { IfDone result (λ _. stepper.new ≡ stepper.old) }
+    ensures settled { IfDone result (IsOfSlice stepper.old budget cursor.old.stored.bytes) }
     ensures sliced { IfNotYet result
         (IsSliced stepper.old budget (length cursor.old.stored.bytes) stepper.new) }
 {

@@ -1,12 +1,12 @@
 -- What the first bytes of a content tell of the whole.
-use Rattle.std.proofs.Common.{◌≡◌, ◌∙◌, ℕ, false, List, drop, take, Some, sym, ap, subst}
+use Rattle.std.proofs.Common.{◌≡◌, ◌∙◌, ◌++◌, ℕ, false, List, drop, take, Some, sym, ap, subst}
 use Rattle.std.proofs.lemmas.List.{take-append-drop}
 use Rattle.rc_text.specs.Found.{Found}
 use Rattle.rc_reach.specs.Partial.{final, from_place}
 use Rattle.api_meta.specs.Views.{regex_kind}
 use Rattle.api_meta.specs.declared.regex.Regex.{Regex}
 use Rattle.stream_search.specs.Searches.{seeks}
-use Rattle.stream_search.specs.Stepping.{IsUnderWay, Stepping, found_from}
+use Rattle.stream_search.specs.Stepping.{IsUnderWay, Settles, Stepping, found_from}
 use Rattle.stream_search.specs.Streams.{IsTold, MayBecome}
 
 module _ (r : Regex) (content : List ℕ) (at end : ℕ) where
@@ -37,3 +37,10 @@ module _ {s now : Stepping} (same : s ≡ now) (content shown : List ℕ) (is : 
       ∙ onward_in s.regex content s.from end k
       (subst (λ c. IsTold (regex_kind s.regex) (seeks s.regex) false (take end c) s.from (from_place k)) is told)
       ∙ ap (λ x. found_from x content k) (sym of)
+
+-- a match that the first bytes settle
+pub settled_in : {s now : Stepping} → s ≡ now → (content shown : List ℕ) → shown ≡ content → (end at : ℕ) → end ≡ at → (m : Found) →
+    IsTold (regex_kind s.regex) (seeks s.regex) false (take end shown) s.from (final m) → Settles now (take at content) (Some m)
+settled_in {s} {now} same content shown is end at ends m told = λ more.
+    sym (ap (λ (x : Stepping). found_from x.regex (take at content ++ more) x.from) same)
+    ∙ told (take at content ++ more) (more, ap (λ c. take at c ++ more) (sym is) ∙ ap (λ n. take n shown ++ more) (sym ends))

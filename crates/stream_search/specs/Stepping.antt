@@ -1,5 +1,5 @@
 -- Steppers: a search of a content that goes on slice by slice.
-use Rattle.std.specs.Prelude.{◌≡◌, ℕ, ◌+◌, ◌-◌, ◌<◌, ◌≤◌, List, Option, max}
+use Rattle.std.specs.Prelude.{◌≡◌, ◌⊎◌, ℕ, ◌+◌, ◌-◌, ◌<◌, ◌≤◌, List, ◌++◌, Option, length, max, take}
 use Rattle.rc_text.specs.Found.{Found}
 use Rattle.rc_reach.specs.Live.{found_by}
 use Rattle.api_meta.specs.Views.{regex_kind}
@@ -34,6 +34,14 @@ IsUnderWay content start s = found_from s.regex content start ≡ found_from s.r
 -- more, and at least one.
 abbrev pub slice_end : Stepping → ℕ → ℕ
 slice_end s budget = s.position + max (max budget (s.position - s.from)) 1
+
+-- However a content goes on after these bytes, a search from where the stepper goes on finds this.
+abbrev pub Settles : Stepping → (bytes : List ℕ) → Option Found → Type 0
+Settles s bytes m = (more : List ℕ) → found_from s.regex (bytes ++ more) s.from ≡ m
+
+-- The answer is one of a slice: the content ends in it, or what follows it can't change the answer.
+abbrev pub IsOfSlice : Stepping → (budget : ℕ) → (content : List ℕ) → Option Found → Type 0
+IsOfSlice s budget content m = (length content ≤ slice_end s budget) ⊎ Settles s (take (slice_end s budget) content) m
 
 -- A slice was searched, and the content goes on after it.
 pub record IsSliced (s : Stepping) (budget len : ℕ) (t : Stepping) : Type 0 where

@@ -81,7 +81,7 @@ impl<'r> StepperOf<Finder<'r>> {
 
 impl<F: PartialFinder> StepperOf<F> {
     ghost use Rattle.std.specs.Prelude.{◌≡◌, ℕ, List, length, min};
-    ghost use Rattle.stream_search.specs.Stepping.{IfDone, IfNotYet, IsSliced, IsUnderWay, begun, slice_end};
+    ghost use Rattle.stream_search.specs.Stepping.{IfDone, IfNotYet, IsOfSlice, IsSliced, IsUnderWay, begun, slice_end};
 
     /// Returns a search as `new` does, by another finder.
     pub fn over(finder: F, start: usize) -> StepperOf<F>
@@ -109,8 +109,9 @@ impl<F: PartialFinder> StepperOf<F> {
     /// It takes `budget` bytes more. It reads again those from a place on before which no match
     /// begins. If these are more than `budget`, it takes as many more as these, and always one at
     /// least. So at most half of what a slice reads was read before. `Done` is the match of the
-    /// whole text from the start on, or none. `NotYet` means that more bytes decide it. After `Done`
-    /// the search is unchanged, and would end again. It takes no memory.
+    /// whole text from the start on, or none: the text ends in the slice, or no byte after it can
+    /// change this answer. `NotYet` means that more bytes decide it. After `Done` the search is
+    /// unchanged, and would end again. It takes no memory.
     pub fn resume<C: Cursor + Drop>(&mut self, cursor: C, budget: usize) -> Progress
         ensures regex { self.new.regex ≡ self.old.regex }
         ensures done { (start : ℕ) → IsUnderWay (C.content cursor) start self.old
@@ -118,6 +119,7 @@ impl<F: PartialFinder> StepperOf<F> {
         ensures goes_on { (start : ℕ) → IsUnderWay (C.content cursor) start self.old
             → IfNotYet result (IsUnderWay (C.content cursor) start self.new) }
         ensures stays { IfDone result (λ _. self.new ≡ self.old) }
+        ensures settled { IfDone result (IsOfSlice self.old budget (C.content cursor)) }
         ensures sliced { IfNotYet result
             (IsSliced self.old budget (length (C.content cursor)) self.new) }
     {
