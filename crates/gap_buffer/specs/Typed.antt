@@ -15,6 +15,6 @@ edit_of t n bytes = record {
   inserted = length bytes;
 }
 
--- out of memory, nothing changed, or the list is stale
-abbrev pub IsUntyped : (s t : Edited) → (old new : Listed) → Type 0
-IsUntyped s t old new = ((t ≡ s) × (new ≡ old)) ⊎ IsStale new
+-- out of memory, nothing changed, or the text did, and the list is stale
+abbrev pub IsUntyped : (s : Edited) → (n : ℕ) → (bytes : List ℕ) → (t : Edited) → (old new : Listed) → Type 0
+IsUntyped s n bytes t old new = ((t ≡ s) × (new ≡ old)) ⊎ ((t ≡ typed s n bytes) × IsStale new)

@@ -1,5 +1,6 @@
 //! Editor searches: the next match, the previous one, and the matches on the screen.
 ghost use Rattle.std.specs.Prelude.{◌≡◌, ◌≤◌, ℕ, IfOk, false, filter, length};
+ghost use Rattle.api_meta.specs.Caches.{HasSameRoom};
 ghost use Rattle.api_meta.specs.Left.{find_left};
 ghost use Rattle.rc_program.specs.Matches.{AreInOrder, begin_of, end_of};
 ghost use Rattle.gap_buffer.specs.Shown.{IsCacheOf, IsSearchedFrom, LeavesAll, found_from, last_before, matches_of, overlaps};
@@ -16,6 +17,7 @@ use std::alloc::{AllocError, Global};
 pub fn next_match(text: &GapBuffer, regex: &Regex, cache: &mut Cache) -> Option<Match>
     requires made { IsCacheOf regex.now cache.old }
     ensures cache { IsCacheOf regex.now cache.new }
+    ensures room { HasSameRoom cache.old cache.new }
     ensures found { result ≡ found_from regex.now text.now.content text.now.caret }
 {
     let mut input = input_from(text, text.caret());

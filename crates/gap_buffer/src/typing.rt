@@ -33,7 +33,8 @@ pub fn type_over(text: &mut GapBuffer, deleted: usize, bytes: &[u8]) -> Result<E
 
 /// Types over a text as `type_over` does, and keeps the list of its matches. `longest` is the
 /// greatest length of a match, if it is known. The matches on the screen are those of
-/// `live.matches_in` then. An `Err` means out of memory: nothing changed, or the list is stale.
+/// `live.matches_in` then. An `Err` means out of memory: nothing changed, or the text did, and the
+/// list is stale.
 pub fn type_live(
     text: &mut GapBuffer,
     deleted: usize,
@@ -53,7 +54,8 @@ pub fn type_live(
         live.old.entries live.new.entries) }
     ensures drawn { IfOk result (λ c. IsDrawn (edit_of text.old deleted bytes.now)
         (listed live.old) (listed live.new) c.span) }
-    ensures untyped { IfErr result (λ _. IsUntyped text.old text.new live.old live.new) }
+    ensures untyped { IfErr result (λ _. IsUntyped text.old deleted bytes.now text.new
+        live.old live.new) }
 {
     let edit = type_over(text, deleted, bytes)?;
     let mut input = whole_input(text.cursor());
