@@ -1,6 +1,6 @@
 //! Regex builder: settings, and regexes built under them.
 
-ghost use Rattle.std.specs.Prelude.{◌≡◌, ◌≤◌, ◌/◌, ◌∷◌, [], All, option_map, IfOk, IfErr, IfSome, List, length, map};
+ghost use Rattle.std.specs.Prelude.{◌≡◌, ◌≤◌, ◌/◌, ◌∷◌, [], All, None, false, option_map, IfOk, IfErr, IfSome, List, length, map};
 ghost use Rattle.rc_pattern.specs.Limits.{greatest_weight};
 ghost use Rattle.rc_text.specs.Limits.{most_patterns};
 ghost use Rattle.rc_pattern.specs.Re.{Re};
@@ -20,7 +20,7 @@ ghost use Rattle.rc_settings.specs.Settings.{settings_of, unset, overwritten, nf
 ghost use Rattle.rc_reach.specs.Laws.{greatest_len};
 ghost use Rattle.rc_dfa.specs.Machine.{symbols};
 ghost use Rattle.rc_strategy.specs.Plans.{IsLazyFor, IsLazyOver};
-ghost use Rattle.api_meta.specs.Plans.{plan_by};
+ghost use Rattle.api_meta.specs.Plans.{HasNoneSwitchedOff, plan_by};
 ghost use Rattle.rc_build.specs.TextRefusals.{AllRead, IsTextRefusal, texts_of};
 ghost use Rattle.api_meta.specs.Views.{builder_settings, builder_syntax, regex_patterns, regex_settings};
 ghost use Rattle.rc_parser.specs.Settings.{default_settings, settings_of as syntax_of};
@@ -98,6 +98,7 @@ impl Builder {
         ensures read { IfOk result (λ r. AllRead (builder_syntax self.now) (pattern.now ∷ [])
             (regex_patterns r)) }
         ensures settings { IfOk result (λ r. regex_settings r ≡ builder_settings self.now) }
+        ensures engines { IfOk result HasNoneSwitchedOff }
         ensures buildable { IfOk result (λ r. IsBuildable
             (limit_by (nfa_size_limit_of (builder_settings self.now)) (builder_syntax self.now))
             (regex_patterns r)) }
@@ -118,6 +119,7 @@ impl Builder {
         ensures read { IfOk result (λ r. AllRead (builder_syntax self.now) (texts_of patterns.now)
             (regex_patterns r)) }
         ensures settings { IfOk result (λ r. regex_settings r ≡ builder_settings self.now) }
+        ensures engines { IfOk result HasNoneSwitchedOff }
         ensures buildable { IfOk result (λ r. IsBuildable
             (limit_by (nfa_size_limit_of (builder_settings self.now)) (builder_syntax self.now))
             (regex_patterns r)) }
@@ -133,6 +135,7 @@ impl Builder {
     pub fn build_from_hir(&self, alloc: Global, hir: &Hir) -> Result<Regex, BuildError>
         ensures patterns { IfOk result (λ r. regex_patterns r ≡ meaning hir.now ∷ []) }
         ensures settings { IfOk result (λ r. regex_settings r ≡ builder_settings self.now) }
+        ensures engines { IfOk result HasNoneSwitchedOff }
         ensures buildable { IfOk result (λ _. IsBuildable
             (limit_by (nfa_size_limit_of (builder_settings self.now)) (builder_syntax self.now))
             (meaning hir.now ∷ [])) }
@@ -153,6 +156,7 @@ impl Builder {
         requires { length hirs.now ≤ most_patterns }
         ensures patterns { IfOk result (λ r. regex_patterns r ≡ map meaning hirs.now) }
         ensures settings { IfOk result (λ r. regex_settings r ≡ builder_settings self.now) }
+        ensures engines { IfOk result HasNoneSwitchedOff }
         ensures buildable { IfOk result (λ _. IsBuildable
             (limit_by (nfa_size_limit_of (builder_settings self.now)) (builder_syntax self.now))
             (map meaning hirs.now)) }
@@ -174,6 +178,7 @@ pub(crate) fn build(
     requires { length hirs.now ≤ most_patterns }
     ensures patterns { IfOk result (λ r. regex_patterns r ≡ map meaning hirs.now) }
     ensures settings { IfOk result (λ r. regex_settings r ≡ settings_of config.now) }
+    ensures engines { IfOk result HasNoneSwitchedOff }
     ensures buildable { IfOk result (λ _. IsBuildable
         (limit_of (nfa_size_limit_of (settings_of config.now)) grammar) (map meaning hirs.now)) }
     ensures refused { IfErr result (λ e. IsRefusal
@@ -223,6 +228,10 @@ fn engines_of(
         (IsLazyFor (plan_by (map meaning hirs.now) (settings_of config.now)))) }
     ensures symbols { IfOk result (λ engines. IfSome engines.symbols
         (IsLazyOver symbols (plan_by (map meaning hirs.now) (settings_of config.now)))) }
+    ensures no_tables { IfOk result (λ engines. dfa_of (settings_of config.now) ≡ false
+        → engines.tables ≡ None) }
+    ensures no_lazy { IfOk result (λ engines. hybrid_of (settings_of config.now) ≡ false
+        → engines.lazy ≡ None) }
 {
     let needs = needs_of(alloc, config, hirs)?;
     let words = words_of(alloc, config, hirs)?;

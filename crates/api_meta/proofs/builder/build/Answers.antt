@@ -7,7 +7,7 @@ use Rattle.rc_program.specs.Places.{places_of}
 use Rattle.rc_program.specs.Program.{program, shown}
 use Rattle.rc_program.proofs.GroupLemmas.{shown_lighter}
 use Rattle.rc_program.proofs.WeightLemmas.{program_weighs}
-use Rattle.rc_settings.specs.Settings.{settings_of as all_of, program_settings}
+use Rattle.rc_settings.specs.Settings.{dfa_of, hybrid_of, settings_of as all_of, program_settings}
 use Rattle.rc_settings.specs.Thompson.{Settings, line_terminator_of, nfa_size_limit_of, settings_of, which_captures_of}
 use Rattle.rc_settings.specs.Which.{is_grouped}
 use Rattle.rc_reach.specs.Laws.{greatest_len}
@@ -73,3 +73,12 @@ invariant_of-result-clause-measured c =
 pub invariant_of-result-clause-bounded : goal.invariant_of-result-clause-bounded
 invariant_of-result-clause-bounded c =
     c.in_ok-engines.ensures.bounded ∙ ap (λ xs. greatest_len (map meaning xs)) c.deref.ensures.value
+
+-- what is switched off isn't there
+pub returns-clause-engines : goal.returns-clause-engines
+returns-clause-engines c =
+    let same = c.in_ok-config.ensures.same in
+    record {
+      no_tables = λ off. c.in_ok-engines.ensures.no_tables (sym (ap dfa_of same) ∙ off);
+      no_lazy = λ off. c.in_ok-engines.ensures.no_lazy (sym (ap hybrid_of same) ∙ off);
+    }

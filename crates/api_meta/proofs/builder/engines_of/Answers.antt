@@ -1,4 +1,4 @@
-use Rattle.std.proofs.Common.{◌≡◌, ◌∙◌, ℕ, Bool, List, IfSome, ap, length, map, subst, sym}
+use Rattle.std.proofs.Common.{◌≡◌, ◌∙◌, ℕ, Bool, List, IfSome, None, Ok, Err, Result, false, inl, ap, length, map, subst, sym}
 use Rattle.std.specs.Result.{IfOk}
 use Rattle.std.specs.Prelude.{All}
 use Rattle.std.proofs.lemmas.List.{length-map}
@@ -14,13 +14,14 @@ use Rattle.rc_literals.proofs.ConfineLemmas.{need_law}
 use Rattle.rc_words.specs.Words.{AreBetween, SpellWords, between_in}
 use Rattle.rc_words.specs.declared.words.Words.{Words}
 use Rattle.rc_words.proofs.AnswerLemmas.{word_law}
-use Rattle.rc_settings.specs.Settings.{Settings, settings_of, program_settings, byte_classes_of, hybrid_cache_capacity_of, line_terminator_of, match_kind_of}
+use Rattle.rc_settings.specs.Settings.{Settings, settings_of, program_settings, byte_classes_of, dfa_of, hybrid_cache_capacity_of, hybrid_of, line_terminator_of, match_kind_of}
 use Rattle.rc_settings.specs.Thompson.{which_captures_of}
 use Rattle.rc_settings.specs.Which.{is_grouped}
 use Rattle.rc_program.proofs.GroupLemmas.{length-shown}
 use Rattle.rc_text.specs.declared.types.MatchKind.{MatchKind}
 use Rattle.rc_pattern.specs.Re.{Re}
 use Rattle.rc_reach.specs.Laws.{greatest_len}
+use Rattle.rc_strategy.specs.Limits.{IsLazyBarred}
 use Rattle.rc_strategy.specs.Plans.{IsLazyFor, IsLazyOver, LazyPlan, plan_of}
 use Rattle.rc_dfa.specs.Machine.{symbols}
 use Rattle.rc_pikevm_search.specs.declared.engine.Engine.{Engine}
@@ -83,3 +84,19 @@ returns-clause-symbols g c =
     (same_plan c.args.engine (map meaning c.args.hirs.now) g.shown_hirs (settings_of c.args.config.now) c.limits_of.result
     c.requires.0 c.requires.1.1.1.1.0 c.requires.1.1.1.1.1 c.limits_of.ensures.classes c.limits_of.ensures.capacity)
     c.new.ensures.symbols
+
+-- no tables are made that are switched off
+ok_when : {A E : Type 0} (P : Type 0) (Q : A → Type 0) (r : Result A E) → (P → IfOk r Q) → IfOk r (λ v. P → Q v)
+ok_when P Q (Ok v) h = h
+ok_when P Q (Err e) h = tt
+
+pub returns-clause-no_tables : goal.returns-clause-no_tables
+returns-clause-no_tables g c =
+    ok_when (dfa_of (settings_of c.args.config.now) ≡ false) (λ (v : Engines). v.tables ≡ None) c.new.result
+    (λ off. c.new.ensures.barred (inl (c.limits_of.ensures.dfa ∙ off)))
+
+pub returns-clause-no_lazy : goal.returns-clause-no_lazy
+returns-clause-no_lazy g c =
+    IfOk-weaker c.new.result (λ (v : Engines). IsLazyBarred c.args.engine c.limits_of.result v.tables → v.lazy ≡ None)
+    (λ (v : Engines). hybrid_of (settings_of c.args.config.now) ≡ false → v.lazy ≡ None)
+    (λ v none off. none (inl (c.limits_of.ensures.hybrid ∙ off))) c.new.ensures.lazy_barred
