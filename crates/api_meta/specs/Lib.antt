@@ -5,6 +5,7 @@ pub mod Counts
 pub mod Left
 pub mod Lent
 pub mod Plans
+pub mod Switched
 pub mod Preferred
 pub mod Reached
 pub mod Reaching

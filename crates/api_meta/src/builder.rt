@@ -20,7 +20,8 @@ ghost use Rattle.rc_settings.specs.Settings.{settings_of, unset, overwritten, nf
 ghost use Rattle.rc_reach.specs.Laws.{greatest_len};
 ghost use Rattle.rc_dfa.specs.Machine.{symbols};
 ghost use Rattle.rc_strategy.specs.Plans.{IsLazyFor, IsLazyOver};
-ghost use Rattle.api_meta.specs.Plans.{HasNoneSwitchedOff, plan_by};
+ghost use Rattle.api_meta.specs.Plans.{plan_by};
+ghost use Rattle.api_meta.specs.Switched.{HasNoneSwitchedOff};
 ghost use Rattle.rc_build.specs.TextRefusals.{AllRead, IsTextRefusal, texts_of};
 ghost use Rattle.api_meta.specs.Views.{builder_settings, builder_syntax, regex_patterns, regex_settings};
 ghost use Rattle.rc_parser.specs.Settings.{default_settings, settings_of as syntax_of};
