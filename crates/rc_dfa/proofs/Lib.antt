@@ -1,4 +1,5 @@
 pub mod SampleLemmas
+pub mod PastLemmas
 pub mod LastLemmas
 pub mod AutomatonLemmas
 pub mod WithinLemmas

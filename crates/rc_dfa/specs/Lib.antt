@@ -1,6 +1,7 @@
 pub mod Machine
 pub mod Runs
 pub mod Samples
+pub mod Past
 pub mod Props
 pub mod Columns
 pub mod Symbols

@@ -6,10 +6,12 @@ ghost use Rattle.rc_determinize.specs.Steps.{AreBelow};
 ghost use Rattle.rc_determinize.specs.Sides.{Covers};
 ghost use Rattle.rc_determinize.specs.Reversed.{AreEdges};
 ghost use Rattle.rc_determinize.specs.Classes.{TellsAlike};
+ghost use Rattle.rc_dfa.specs.Past.{AreColumns};
 ghost use Rattle.rc_dfa.specs.Samples.{AreClassesBy, AreSamples, AreRising};
 ghost use Rattle.rc_dfa.specs.Props.{Covers-prop, TellsAlike-prop};
 
 use crate::matches::{last_of, pattern_of};
+use crate::past::columns_of;
 use crate::samples::samples_of;
 use crate::symbols::{Alphabet, Symbol, number_of, sides_over, told_beside};
 use rc_determinize::backward::{Reversed, last, prior};
@@ -46,6 +48,8 @@ pub struct Automaton {
     alphabet: Alphabet,
     classes: Vec<u8>,
     samples: Vec<u8>,
+    /// The column of each byte's symbol with no tag, in tables that read symbols.
+    past: Vec<u16>,
     ghost closed: { IsClosed (places_of places.items) },
     ghost rooted: { 0 < length places.items },
     ghost entered: { AreBelow (length places.items) entries.items },
@@ -55,6 +59,7 @@ pub struct Automaton {
     ghost alike: { TellsAlike (places_of places.items) needs terminator classes.items } by { TellsAlike-prop (places_of places.items) needs terminator classes.items },
     ghost sampled: { AreSamples classes.items samples.items },
     ghost rising: { AreRising classes.items },
+    ghost columns: { AreColumns classes.items past.items },
 }
 
 // Crates above call this, and drop no part by themselves.
@@ -70,6 +75,7 @@ impl Drop for Automaton {
             alphabet: _,
             classes: _,
             samples: _,
+            past: _,
         } = self;
     }
 }
@@ -143,6 +149,7 @@ impl Automaton {
         let needs = needs_of(&places);
         let classes = classes_by(alloc, &places, needs, terminator, byte_classes)?;
         let samples = samples_of(alloc, &classes)?;
+        let past = columns_of(alloc, &classes)?;
         Ok(Automaton {
             places,
             reversed,
@@ -153,6 +160,7 @@ impl Automaton {
             alphabet: Alphabet::Bytes,
             classes,
             samples,
+            past,
         })
     }
 
@@ -249,8 +257,7 @@ impl Automaton {
         requires past { IsPast symbol }
         ensures { result ≡ column_in self.now symbol }
     {
-        let class = self.classes[symbol.byte as usize] - self.classes[128];
-        self.classes[255] as usize + 1 + 5 * class as usize + number_of(symbol.tagged)
+        usize::from(self.past[symbol.byte as usize]) + number_of(symbol.tagged)
     }
 
     /// Whether a search may read the byte if it is known alone; the end may always be read. If some

@@ -8,6 +8,7 @@ pub mod halves;
 pub mod laws;
 mod matches;
 pub mod memo;
+mod past;
 mod samples;
 pub mod sides;
 pub mod states;

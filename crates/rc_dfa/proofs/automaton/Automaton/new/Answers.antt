@@ -25,5 +25,6 @@ invariant_of-result c =
       alike = tells_alike c.args.byte_classes (places_of c.args.places.items) c.needs_of-needs.result c.args.terminator c.in_ok-classes.classes.items
           (by_bytes c.args.places.items) classes;
       sampled = c.in_ok-samples.ensures;
+      columns = c.in_ok-past.ensures;
       rising = rising c.args.byte_classes (places_of c.args.places.items) c.needs_of-needs.result c.args.terminator c.in_ok-classes.classes.items classes;
     }
