@@ -61,6 +61,8 @@ impl Transitions for Dense {
 
     ghost view = { view_of };
 
+    ghost has_symbols = { λ d. Unit {0} };
+
     // It reads bytes, each known alone.
     #[inline(always)]
     fn reads_symbols<W: Way>(&self) -> bool {
@@ -186,4 +188,6 @@ impl Transitions for Dense {
     }
 
     ghost lawful = { lawful };
+
+    ghost with_symbols = { λ d b e. tt };
 }

@@ -19,7 +19,7 @@ use Rattle.rc_lazy_dfa.specs.declared.letters.Letter.TheVariants.{Alone, Tagged}
 use Rattle.rc_lazy_dfa.specs.Moves.{HasCell, HasStart}
 use Rattle.rc_lazy_dfa.specs.Halves.{IsPlace}
 use Rattle.rc_lazy_dfa.specs.declared.store.Store.{Store}
-use Rattle.rc_lazy_dfa.proofs.RowLemmas.{row_inside, same_row}
+use Rattle.rc_lazy_dfa.proofs.RowLemmas.{row_inside, row_small, same_row}
 use Rattle.rc_dfa.proofs.WithinLemmas.{machine_law}
 use Rattle.rc_lazy_dfa.proofs.WriteLemmas.{column_inside, byte_inside, symbol_between}
 
@@ -191,6 +191,16 @@ module _ (f : Frame) (s : Store) (row : ℕ) (h : Held f s) (p : IsPlace f s row
 
   row_here : IsRow f.width s.states row here.0
   row_here = (p.id, here.1, p.row_is)
+
+  -- a letter's cell is one of those that are held, and its index is small
+  pub cell_inside : (column : ℕ) (letter : Letter) → IsLetter f.machine.alphabet letter → column ≡ column_of f.classes f.width letter →
+      (row + column < length s.cells.items) × (row + column < 18446744073709551616)
+  cell_inside column letter read is =
+      let at : IsColumn f letter column = subst (λ c. IsColumn f letter c) (sym is) (column_is f letter h.frame read) in
+      let below = column_inside f letter column h.frame at in
+      let inside = row_inside f s h row here.0 row_here in
+      let small = row_small f s h row here.0 row_here in
+      (omega (arith, below, inside), omega (arith, below, small))
 
   pub led_within : (letter : Letter) (t : State) → ((u : State) → IsRow f.width s.states row u → LeadsByLetter f u letter t) → IsWithin f.machine t
   led_within letter t lead = leads_within f here.0 t letter h.frame (lead here.0 row_here)

@@ -2,7 +2,7 @@
 ghost use Rattle.std.specs.Prelude.{◌≡◌};
 ghost use Rattle.rc_lazy_dfa.specs.Courses.{direction_of};
 
-use crate::cells::{UNKNOWN, stop_by};
+use crate::cells::stop_by;
 use crate::half::Half;
 use crate::lazy::{Lazy, is_asked};
 use crate::letters::Letter;
@@ -53,12 +53,17 @@ impl Lazy {
 }
 
 impl Transitions for Lazy {
+    ghost use Rattle.std.specs.Prelude.{◌≡◌};
+    ghost use Rattle.rc_dfa.specs.Automata.{alphabet_in};
+    ghost use Rattle.rc_dfa.specs.Machine.{symbols};
     ghost use Rattle.rc_lazy_dfa.specs.Courses.{view_of};
     ghost use Rattle.rc_lazy_dfa.specs.SpendLaws.{lawful};
 
     type Cache = Half;
 
     ghost view = { view_of };
+
+    ghost has_symbols = { λ l. alphabet_in l.automaton ≡ symbols };
 
     #[inline(always)]
     fn reads_symbols<W: Way>(&self) -> bool {
@@ -130,13 +135,8 @@ impl Transitions for Lazy {
 
     #[inline(always)]
     fn known_over<W: Way>(&self, cache: &Half, row: usize, symbol: Symbol) -> usize {
-        match self.automaton.alphabet() {
-            Alphabet::Symbols => {
-                let letter = Letter::Tagged(symbol);
-                cache.known(&self.automaton, direction::<W>(), row, letter)
-            }
-            Alphabet::Bytes => UNKNOWN,
-        }
+        let letter = Letter::Tagged(symbol);
+        cache.known(&self.automaton, direction::<W>(), row, letter)
     }
 
     #[inline(always)]
@@ -216,4 +216,6 @@ impl Transitions for Lazy {
     }
 
     ghost lawful = { lawful };
+
+    ghost with_symbols = { λ l b e. e };
 }

@@ -1,22 +1,23 @@
 -- The scalars that a piece has whole decide the symbols of their bytes.
-use Rattle.std.proofs.Common.{◌≡◌, ◌≢◌, ℕ, ◌+◌, ◌-◌, ◌<◌, ◌≤◌, ◌==◌, Bool, true, false, true≢false, not, List, ◌++◌, length, take, drop, Some, None, slice_get, slice_range, if◌then◌else◌, ⊎_elim, refl, sym, ap, ap₂, ◌∙◌, arith}
+use Rattle.std.proofs.Common.{◌≡◌, ◌≢◌, ℕ, ◌+◌, ◌-◌, ◌<◌, ◌≤◌, ◌==◌, Bool, true, false, true≢false, not, List, ◌++◌, length, take, drop, Some, None, slice_get, slice_range, if◌then◌else◌, ⊎_elim, refl, sym, subst, ap, ap₂, ◌∙◌, arith, length-append, length-drop}
 use Rattle.std.specs.Char.{encode_utf8}
 use Rattle.std.proofs.lemmas.Bool.{cases_eq, cases_lt, eq-eqb, ne_eqb}
-use Rattle.std.proofs.lemmas.List.{append_assoc, drop-drop, drop-take}
+use Rattle.std.proofs.lemmas.List.{append_assoc, drop-drop, drop-take, take_all}
+use Rattle.std.proofs.lemmas.Option.{same_Some, slice_get-get_or}
 use Rattle.rc_text.specs.Text.{Searched, slice_end}
 use Rattle.rc_text.proofs.Ranges.{slice_range-append}
 use Rattle.rc_program.specs.Scalars.{scalar_at}
 use Rattle.rc_program.specs.Sought.{text_of}
-use Rattle.rc_program.specs.Text.{before_at, after_at}
+use Rattle.rc_program.specs.Text.{Text, before_at, after_at}
 use Rattle.rc_program.proofs.SideLemmas.{scalar_law}
 use Rattle.rc_symbols.specs.Symbols as text
 use Rattle.rc_symbols.specs.Symbols.{tag_of, IsScalarAt, IsAround, IsSymbolAt}
-use Rattle.rc_symbols.proofs.SymbolLemmas.{symbol_law}
+use Rattle.rc_symbols.proofs.SymbolLemmas.{next_at, symbol_law}
 use Rattle.rc_dfa.specs.Symbols.{opens_of, shuts_of, symbol_of}
 use Rattle.rc_dfa.specs.declared.symbols.Tagged.TheVariants.{Neither, First, Last}
 use Rattle.rc_table_search.specs.declared.scalars.Scalar.{Scalar}
 use Rattle.rc_table_search.specs.Decodes.{Has, IsWhole, entry_of, exit_of, near_of, rest_of, tag_in}
-use Rattle.rc_table_search.specs.Walks.{first_of, left_of, next_of}
+use Rattle.rc_table_search.specs.Walks.{byte_at, first_of, left_of, next_of}
 use Rattle.rc_table_search.specs.Ways.{IsBeside, IsBounded, IsOn, LiesWithin, offset_of}
 use Rattle.rc_table_search.proofs.WayLemmas.{there_of}
 
@@ -26,7 +27,20 @@ begins_on bs more c n e =
     let h = (scalar_law.begins bs c n).0 e in
     (scalar_law.begins (bs ++ more) c n).1 (h.0, h.1, (h.2.0 ++ more, ap (λ xs. xs ++ more) h.2.1 ∙ append_assoc (encode_utf8 c) h.2.0 more))
 
-later : (xs : List ℕ) (a p k : ℕ) → k ≤ p - a → slice_range xs (a + k) p ≡ drop k (slice_range xs a p)
+-- A scalar that begins at the place has no more bytes than there are from there on.
+pub scalar_inside : (piece : List ℕ) (first c n : ℕ) → scalar_at (take (length piece - first) (drop first piece)) ≡ Some (c, n) → first ≤ length piece →
+    first + n ≤ length piece
+scalar_inside piece first c n e le =
+    let bs = take (length piece - first) (drop first piece) in
+    let short = length-drop first piece in
+    let same : bs ≡ drop first piece = take_all (length piece - first) (drop first piece) (omega (arith, short)) in
+    let h = (scalar_law.begins bs c n).0 e in
+    let count = h.1 in
+    let all = ap length (sym same ∙ h.2.1) in
+    let size = length-append (encode_utf8 c) h.2.0 in
+    omega (arith, count, all, size, short, le)
+
+pub later : (xs : List ℕ) (a p k : ℕ) → k ≤ p - a → slice_range xs (a + k) p ≡ drop k (slice_range xs a p)
 later xs a p k h =
     let rest : p - (a + k) ≡ p - a - k = omega arith in
     let all : k + (p - a - k) ≡ p - a = omega (arith, h) in
@@ -113,6 +127,11 @@ module _ (terminator : ℕ) (seen : Searched) (start : ℕ) (piece : List ℕ) (
       shuts = shuts_by (k == s.first) (k + 1 == s.end) s.is_word not_both ∙ ap₂ (λ x w. if x then Some w else None) last_is whole.is_word
           ∙ sym (symbol_law.shuts (text_of terminator seen) p (start + s.first) whole.code whole.count symbol around symbol_here);
     }
+
+-- where a piece is read first
+pub first_inside : (backwards : Bool) (len : ℕ) → 0 < len → (first_of backwards len ≤ len) × (0 < left_of backwards len (first_of backwards len))
+first_inside false len some = (omega arith, omega (arith, some))
+first_inside true len some = (omega arith, omega (arith, some))
 
 -- the offset of the byte that is read next of a piece
 pub offset_within : (backwards : Bool) (len place : ℕ) → place ≤ len → 0 < left_of backwards len place → offset_of backwards place < len
@@ -216,3 +235,36 @@ entry_next true s place two is = (omega (arith, is, two), omega (arith, is, two)
 pub exit_next : (backwards : Bool) (s : Scalar) (place : ℕ) → s.first < place → place < s.end → rest_of backwards s place ≤ 1 → next_of backwards place ≡ exit_of backwards s
 exit_next false s place low high last = omega (arith, high, last)
 exit_next true s place low high last = omega (arith, low, last)
+
+-- each of its bytes is past ASCII, if it has more than one
+scalar_past : (piece : List ℕ) (s : Scalar) (place b : ℕ) → IsWhole piece s → s.first + 2 ≤ s.end → Has s place → slice_get piece place ≡ Some b → 128 ≤ b
+scalar_past piece s place b whole two has there =
+    let t : Text = record { content = piece; slice_start = 0; slice_end = length piece; terminator = 0 } in
+    let end = whole.end in
+    let short = length-drop s.first piece in
+    let is : IsScalarAt t s.first whole.code whole.count = record {
+      inside = omega arith;
+      scalar = ap scalar_at (take_all (length piece - s.first) (drop s.first piece) (omega (arith, short))) ∙ whole.is;
+    } in
+    ⊎_elim
+    (λ same.
+    ⊎_elim
+    (λ lt.
+    let one = (symbol_law.first t s.first whole.code whole.count b is (subst (λ k. slice_get piece k ≡ Some b) same there)).1.0 lt in
+    absurd (omega (arith, one, end, two)))
+    (λ ge. ge) (cases_lt b 128))
+    (λ ne.
+    let o = next_at t s.first whole.code whole.count is place (omega (arith, has.0, ne)) (omega (arith, has.1, end)) in
+    subst (λ k. 128 ≤ k) (same_Some o.0 b (sym o.1 ∙ there)) o.2)
+    (cases_eq place s.first)
+
+-- and so that which is read next
+pub past_here : (backwards : Bool) (piece : List ℕ) (s : Scalar) (place b : ℕ) → IsWhole piece s → s.first + 2 ≤ s.end → place ≤ length piece →
+    0 < left_of backwards (length piece) place → Has s (offset_of backwards place) → b ≡ byte_at backwards piece place → 128 ≤ b
+past_here false piece s place b whole two le some has is =
+    scalar_past piece s place b whole two has
+    (subst (λ k. slice_get piece place ≡ Some k) (sym is) (slice_get-get_or piece place 0 (omega (arith, some))))
+past_here true piece s place b whole two le some has is =
+    scalar_past piece s (place - 1) b whole two has
+    (subst (λ k. slice_get piece (place - 1) ≡ Some k) (sym is)
+    (slice_get-get_or piece (place - 1) 0 (omega (arith, le, some))))

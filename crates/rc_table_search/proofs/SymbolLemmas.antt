@@ -82,6 +82,10 @@ module _ (t : Text) (i b : ℕ) (low : t.slice_start ≤ i) (high : i < t.slice_
     shuts = first_shuts o ∙ sym (tag_behind (behind t (i + 1)) ∙ ap (λ k. shuts_of (last_of_scalar k)) (ends_none past));
   }
 
+-- an input of which only the chunk and the position changed has the same bytes before a position
+pub behind_kept : (s now : Searched) → Keeps s now → (p : ℕ) → bytes_before now p ≡ bytes_before s p
+behind_kept s now keeps p = rw (keeps.content, keeps.slice) refl
+
 -- the bytes around a position decide both
 module _ (s : Searched) (p : ℕ) (low : s.slice.start ≤ p) (high : p ≤ slice_end s) where
   after_around : scalar_at (drop (around_place_at s p) (around_bytes_at s p)) ≡ scalar_at (bytes_after s p)

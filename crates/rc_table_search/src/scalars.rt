@@ -33,12 +33,13 @@ impl Scalar {
     /// Returns how many of its bytes are left to read at the place.
     #[inline(always)]
     pub fn left<W: Way>(self, place: usize) -> usize
+        requires { (self.first ≤ place) × (place ≤ self.end) }
         ensures { result ≡ rest_of W.BACKWARDS self place }
     {
         if W::BACKWARDS {
-            return place.saturating_sub(self.first);
+            return place - self.first;
         }
-        self.end.saturating_sub(place)
+        self.end - place
     }
 
     /// Returns the place at which it is read first.
@@ -119,7 +120,8 @@ fn lead(piece: &[u8], place: usize) -> usize
 #[inline(always)]
 fn scalar_from(piece: &[u8], first: usize) -> Option<Scalar>
     requires { first ≤ length piece.now }
-    ensures { IfSome result (IsWhole piece.now) }
+    ensures whole { IfSome result (IsWhole piece.now) }
+    ensures within { IfSome result (λ s. s.end ≤ length piece.now) }
 {
     let (c, count) = scalar_at(&piece[first..])?;
     let end = first.checked_add(count)?;
@@ -162,10 +164,7 @@ pub fn scalar_next<W: Way>(piece: &[u8], place: usize) -> Option<Scalar>
         place
     };
     let scalar = scalar_from(piece, first)?;
-    if scalar.entry::<W>() != place
-        || scalar.end > piece.len()
-        || scalar.end.saturating_sub(scalar.first) < 2
-    {
+    if scalar.entry::<W>() != place || scalar.end - scalar.first < 2 {
         return None;
     }
     Some(scalar)

@@ -22,7 +22,7 @@ use crate::scalars::scalar_here;
 use crate::sides::{byte_beside, offset, piece_on};
 use crate::symbols::symbol_at;
 use crate::transitions::Transitions;
-use crate::way::{Way, byte, left, next, start, step_on};
+use crate::way::{Way, byte, first, left, next, start, step_on};
 use rc_dfa::ended::{Ended, Met, Reading};
 use rc_dfa::symbols::Symbol;
 use rc_text::cursor::Cursor;
@@ -73,7 +73,7 @@ pub(crate) fn told<W: Way, T: Transitions>(table: &T, noted: Option<(usize, usiz
 
 /// Returns the note of a run after a cell that was read at the position.
 #[inline(always)]
-fn noted_by<W: Way, T: Transitions>(
+pub(crate) fn noted_by<W: Way, T: Transitions>(
     table: &T,
     cache: &T::Cache,
     cell: usize,
@@ -95,7 +95,7 @@ fn noted_by<W: Way, T: Transitions>(
 
 /// Returns the note of a run over a piece: by the row that it noted last, or else the earlier note.
 #[inline(always)]
-fn note_of<W: Way, T: Transitions>(
+pub(crate) fn note_of<W: Way, T: Transitions>(
     table: &T,
     cache: &T::Cache,
     last: Option<(usize, usize)>,
@@ -131,7 +131,7 @@ fn reach<W: Way, T: Transitions>(table: &T, at: usize, until: usize, request: &R
 
 /// Whether the table reads the byte's symbol, and not the byte alone.
 #[inline(always)]
-fn needs_symbol<W: Way, T: Transitions>(table: &T, byte: u8) -> bool
+pub(crate) fn needs_symbol<W: Way, T: Transitions>(table: &T, byte: u8) -> bool
     ensures { result ≡ needs_symbol (T.view table.now W.BACKWARDS).alphabet byte }
 {
     byte >= 128 && table.reads_symbols::<W>()
@@ -276,8 +276,32 @@ fn step_over<W: Way, T: Transitions>(
     follow::<W, T>(table, cache, request, symbol.byte, at, stand, cell)
 }
 
-/// Reads the symbols that come next at the place, as far as the piece has their scalars whole. The
-/// piece begins at the position `start`. Returns the place after them, and how the search stands
+/// Reads the ASCII byte next to the position.
+#[inline(always)]
+fn step_alone<W: Way, T: Transitions>(
+    table: &T,
+    cache: &mut T::Cache,
+    request: &Request,
+    byte: u8,
+    at: usize,
+    stand: Stand,
+) -> Progress
+    ghost outset: { Outset T.Cache }
+    requires at { IsAt (T.view table.now W.BACKWARDS) W.BACKWARDS outset request.now cache.old at stand }
+    requires small { byte < 128 }
+    requires inside { IsInSlice W.BACKWARDS outset.seen at }
+    requires next { IsNext W.BACKWARDS outset.seen request.now.end at byte }
+    requires rests { request.now.extent.may_rest ≡ true → W.BACKWARDS ≡ false }
+    requires fits { W.BACKWARDS ≡ false → at < usize.MAX }
+    ensures { IsLeg (T.view table.now W.BACKWARDS) W.BACKWARDS outset request.now cache.new
+        (next_of W.BACKWARDS at) result }
+{
+    let cell = table.next::<W>(cache, stand.row, byte);
+    follow::<W, T>(table, cache, request, byte, at, stand, cell)
+}
+
+/// Reads the symbols that come next at the place, as far as the piece has their scalars whole, and
+/// the ASCII byte after them. The piece begins at the position `start`. Returns the place after them, and how the search stands
 /// there. `Err` says how the search ended among them.
 #[inline(never)]
 fn read_symbols<W: Way, T: Transitions>(
@@ -320,7 +344,11 @@ fn read_symbols<W: Way, T: Transitions>(
         }
         let byte = byte::<W>(piece, on);
         if byte < 128 {
-            return Ok((on, there));
+            let at = start + on;
+            return match step_alone::<W, T>(table, cache, request, byte, at, there) {
+                Progress::Through(stand) => Ok((next::<W>(piece, on), stand)),
+                Progress::Over(reading) => Err(reading),
+            };
         }
         let here = offset(on, W::BACKWARDS);
         let Some(scalar) = scalar_here(piece, here) else {
@@ -337,8 +365,8 @@ fn read_symbols<W: Way, T: Transitions>(
     Ok((place, stand))
 }
 
-/// Runs over a piece up to a byte whose cell needs a look, and reads the symbols that come next. The
-/// piece begins at the position `start`. Returns the place after them, and how the search stands
+/// Runs over a piece up to a byte whose cell needs a look, and reads the symbols that come next. If
+/// the piece begins with a symbol, it reads these alone. The piece begins at the position `start`. Returns the place after them, and how the search stands
 /// there. `Err` says how the search ended among them.
 #[inline(always)]
 fn read<W: Way, T: Transitions>(
@@ -358,12 +386,17 @@ fn read<W: Way, T: Transitions>(
     requires within { LiesWithin W.BACKWARDS start (length piece.now) request.now.end }
     requires rests { request.now.extent.may_rest ≡ true → W.BACKWARDS ≡ false }
     requires fits { start + length piece.now ≤ usize.MAX }
+    requires some { 0 < length piece.now }
     ensures read { IfOk result (λ there. there.0 ≤ length piece.now) }
     ensures at { IfOk result (λ there. IsAt (T.view table.now W.BACKWARDS) W.BACKWARDS outset
         request.now cache.new (start + there.0) there.1) }
     ensures over { IfErr result (λ reading. HasRun (T.view table.now W.BACKWARDS) W.BACKWARDS outset
         request.now cache.new reading.read reading.ended) }
 {
+    let from = first::<W>(piece);
+    if needs_symbol::<W, T>(table, byte::<W>(piece, from)) {
+        return read_symbols::<W, T>(table, cache, request, piece, start, from, stand);
+    }
     let (place, there) = table.run::<W>(cache, piece, start, stand.row, request.extent);
     let row = there.row;
     let noted = note_of::<W, T>(table, cache, there.noted, stand.noted);

@@ -1,5 +1,5 @@
 //! Symbols: which scalar begins or ends with a byte past ASCII, by the bytes around it.
-ghost use Rattle.std.specs.Prelude.{◌≡◌, ◌≤◌, ◌<◌, ℕ, slice_get};
+ghost use Rattle.std.specs.Prelude.{◌≡◌, ◌+◌, ◌^◌, ◌≤◌, ◌<◌, ℕ, IfSome, Some, length, slice_get};
 ghost use Rattle.rc_text.specs.Text.{Keeps, bytes_after, bytes_before, slice_end};
 ghost use Rattle.rc_program.specs.Scalars.{scalar_at, scalar_before};
 ghost use Rattle.rc_program.specs.Sought.{text_of};
@@ -7,6 +7,7 @@ ghost use Rattle.rc_symbols.specs.Symbols.{IsSymbolAt};
 ghost use Rattle.rc_dfa.specs.Symbols.{IsPast, symbol_of};
 ghost use Rattle.rc_table_search.specs.Decodes.{first_of_scalar, last_of_scalar};
 
+use crate::scalars::scalar_here;
 use rc_dfa::symbols::{Symbol, Tagged};
 use rc_program::look::{is_word_char, scalar_at, scalar_before};
 use rc_text::cursor::Cursor;
@@ -67,6 +68,27 @@ fn ended_at<C: Cursor>(input: &mut Input<C>, at: usize) -> Tagged
     ended(&bytes[..place])
 }
 
+/// Returns what is known of the slice's byte at the offset, which goes on with a scalar, if one chunk
+/// has this whole.
+#[inline(always)]
+fn ended_in_piece<C: Cursor>(input: &mut Input<C>, at: usize, byte: u8) -> Option<Tagged>
+    requires low { input.old.slice.start ≤ at }
+    requires high { at < slice_end input.old }
+    requires there { slice_get input.old.content at ≡ Some byte }
+    requires past { 128 ≤ byte }
+    requires fits { length input.old.content + 1 < 2 ^ 64 }
+    ensures keeps { Keeps input.old input.new }
+    ensures symbol { IfSome result (λ tagged. (terminator : ℕ)
+        → IsSymbolAt (text_of terminator input.old) at
+        (symbol_of (record { byte = byte; tagged = tagged }))) }
+{
+    let start = input.get_slice_span().start.max(at.saturating_sub(3));
+    let piece = piece_before(input, start, at + 1);
+    let place = piece.len() - 1;
+    let scalar = scalar_here(piece, place)?;
+    Some(scalar.tag(place))
+}
+
 /// Returns the symbol of the slice's byte at the offset, which is past ASCII. If it goes on with a
 /// scalar, it begins none, and else it ends none. No byte outside the slice is looked at.
 pub fn symbol_at<C: Cursor>(input: &mut Input<C>, at: usize, byte: u8) -> Symbol
@@ -81,6 +103,9 @@ pub fn symbol_at<C: Cursor>(input: &mut Input<C>, at: usize, byte: u8) -> Symbol
 {
     content_fits(input);
     if byte < 192 {
+        if let Some(tagged) = ended_in_piece(input, at, byte) {
+            return Symbol { byte, tagged };
+        }
         let tagged = ended_at(input, at + 1);
         return Symbol { byte, tagged };
     }

@@ -22,6 +22,8 @@ pub trait Transitions {
 
     // What the table of a direction says.
     ghost view: { Self → Bool → View Self.Cache };
+    // Cells over symbols may be asked for.
+    ghost has_symbols: { Self → Type 0 };
 
     /// Whether it reads symbols: of a byte past ASCII, also what is known of the scalar that begins
     /// or ends with it.
@@ -96,10 +98,11 @@ pub trait Transitions {
         ensures { result ≢ SKIP → IsStep (view self.now W.BACKWARDS) cache.now cache.now row
             byte result };
 
-    /// Returns the cell of a row and a symbol, if it reads symbols: `SKIP` if that isn't known.
+    /// Returns the cell of a row and a symbol: `SKIP` if that isn't known.
     fn known_over<W: Way>(&self, cache: &Self::Cache, row: usize, symbol: Symbol) -> usize
         requires cache { (view self.now W.BACKWARDS).IsCache cache.now }
         requires row { (view self.now W.BACKWARDS).IsRow cache.now row }
+        requires reads { has_symbols self.now }
         requires past { IsPast symbol }
         ensures { (view self.now W.BACKWARDS).alphabet ≡ symbols → result ≢ SKIP
             → IsStepOver (view self.now W.BACKWARDS) W.BACKWARDS cache.now cache.now row symbol
@@ -172,4 +175,7 @@ pub trait Transitions {
         ensures { result ≡ (view self.now W.BACKWARDS).era cache.now };
 
     ghost lawful: { (x : Self) (backwards : Bool) → IsLawful (view x backwards) };
+
+    ghost with_symbols: { (x : Self) (backwards : Bool) → (view x backwards).alphabet ≡ symbols
+        → has_symbols x };
 }

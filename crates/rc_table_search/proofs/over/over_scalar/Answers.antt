@@ -2,9 +2,42 @@ use Rattle.std.proofs.Common.{◌+◌, ◌<◌, ◌≤◌, ◌∙◌, length, sy
 use Rattle.std.proofs.lemmas.Option.{IfSome_then}
 use Rattle.rc_table_search.specs.Decodes.{entry_of, rest_of}
 use Rattle.rc_table_search.specs.Searches.{GoesAcross, GoesOver, IsAt}
-use Rattle.rc_table_search.proofs.ScalarLemmas.{entry_at, entry_next, exit_next, far_tag, inner_next, mid_tag, near_tag, rest_inside, rest_some}
+use Rattle.rc_table_search.proofs.ScalarLemmas.{entry_at, entry_next, exit_next, far_tag, inner_next, mid_tag, near_tag, past_here, rest_inside, rest_some}
 use Rattle.rc_table_search.proofs.OverLemmas.{across_one}
 use Rattle.rc_table_search.proofs.over.over_scalar.Goals as goal
+
+pub over_symbol-requires-clause-past : goal.over_symbol-requires-clause-past
+over_symbol-requires-clause-past g c =
+    let backwards = g.W.Way.BACKWARDS in
+    let s = c.args.scalar in
+    let piece = c.args.piece.now in
+    let entry = c.entry-entry.result in
+    let two = c.requires.several in
+    let at = entry_at backwards s entry two c.entry-entry.ensures in
+    let rest = rest_some backwards s entry (length piece) at.0 at.1 c.requires.ends at.2 in
+    past_here backwards piece s entry c.byte-front.result c.requires.whole two rest.0 rest.1 rest.2 c.byte-front.ensures
+
+pub over_symbol-requires-in-loop-byte-clause-past : goal.over_symbol-requires-in-loop-byte-clause-past
+over_symbol-requires-in-loop-byte-clause-past g c =
+    let backwards = g.W.Way.BACKWARDS in
+    let s = c.args.scalar in
+    let piece = c.args.piece.now in
+    let place = c.loop-byte.place in
+    let low = c.loop-byte.invariant.low in
+    let high = c.loop-byte.invariant.high in
+    let rest = rest_some backwards s place (length piece) (omega (arith, low)) (omega (arith, high)) c.requires.ends (rest_inside backwards s place low high) in
+    past_here backwards piece s place c.byte-byte.result c.requires.whole c.requires.several rest.0 rest.1 rest.2 c.byte-byte.ensures
+
+pub over_symbol-requires-2-clause-past : goal.over_symbol-requires-2-clause-past
+over_symbol-requires-2-clause-past g c =
+    let backwards = g.W.Way.BACKWARDS in
+    let s = c.args.scalar in
+    let piece = c.args.piece.now in
+    let place = c.loop-byte.place in
+    let low = c.loop-byte.invariant.low in
+    let high = c.loop-byte.invariant.high in
+    let rest = rest_some backwards s place (length piece) (omega (arith, low)) (omega (arith, high)) c.requires.ends (rest_inside backwards s place low high) in
+    past_here backwards piece s place c.byte-back.result c.requires.whole c.requires.several rest.0 rest.1 rest.2 c.byte-back.ensures
 
 pub loop-byte-init : goal.loop-byte-init
 loop-byte-init g c =
@@ -65,7 +98,7 @@ returns-clause-on g c =
     let high = at.high in
     let last : rest_of backwards s place ≤ 1 = omega (arith, c.left.ensures, c.loop-byte-test.false) in
     let rest = rest_some backwards s place (length piece) (omega (arith, low)) (omega (arith, high)) c.requires.ends (rest_inside backwards s place low high) in
-    IfSome_then c.over_byte-2.result {P = GoesOver v backwards c.args.cache.now c.byte-back.result c.far-far.result c.loop-byte.stand} c.over_byte-2.ensures.on
+    IfSome_then c.over_symbol-2.result {P = GoesOver v backwards c.args.cache.now c.byte-back.result c.far-far.result c.loop-byte.stand} c.over_symbol-2.ensures.on
     (λ next over. subst (λ k. GoesAcross v backwards c.args.cache.now piece (entry_of backwards s) k c.args.begin next) (exit_next backwards s place low high last)
     (across_one _ v backwards c.args.cache.now piece (entry_of backwards s) place c.byte-back.result c.far-far.result c.args.begin c.loop-byte.stand next rest.0 rest.1
     c.byte-back.ensures at.across over s c.requires.whole rest.2 (c.far-far.ensures ∙ far_tag backwards s place low high last)))

@@ -3,13 +3,13 @@ use Rattle.rc_table_search.specs.Walks.{left_of}
 use Rattle.rc_table_search.specs.Searches.{GoesAcross}
 use Rattle.rc_table_search.proofs.over.run_over.Given as goal
 
-abbrev pub invariant-loop-plain : goal.invariant-loop-plain
-invariant-loop-plain g l = record {
+abbrev pub invariant-loop-front : goal.invariant-loop-front
+invariant-loop-front g l = record {
   within : l.place ≤ length l.piece;
   on : left_of g.W.Way.BACKWARDS (length l.piece) l.place ≤ left_of g.W.Way.BACKWARDS (length l.piece) l.from;
   row : (g.T.Transitions.view l.table g.W.Way.BACKWARDS).IsRow l.cache l.stand.row;
   across : GoesAcross (g.T.Transitions.view l.table g.W.Way.BACKWARDS) g.W.Way.BACKWARDS l.cache l.piece l.from l.place l.fn.begin l.stand;
 }
 
-abbrev pub decreases-loop-plain : goal.decreases-loop-plain
-decreases-loop-plain g l = left_of g.W.Way.BACKWARDS (length l.piece) l.place
+abbrev pub decreases-loop-front : goal.decreases-loop-front
+decreases-loop-front g l = left_of g.W.Way.BACKWARDS (length l.piece) l.place

@@ -69,7 +69,7 @@ read-requires g c κs within_κs =
     let first = first_here g.W.Way.BACKWARDS (length c.piece_on-piece.result.now) c.loop-at.at c.args.request.now.end few.0 few.1 in
     let from = ap (λ n. n + first_of g.W.Way.BACKWARDS (length c.piece_on-piece.result.now)) c.start-start.ensures ∙ first.0 in
     let here = subst (λ i. IsAt v g.W.Way.BACKWARDS g.outset c.args.request.now c.loop-at.cache i c.loop-at.stand) (sym from) c.loop-at.invariant.here in
-    (search rules, (search rules, (search rules, (here, (c.requires.1.1.1.1.1.1.0, (c.requires.1.1.1.1.1.1.1.0, (bytes g d, (within g d, (c.requires.1.1.1.1.1.1.1.1.1.1.1.1, fits g d)))))))))
+    (search rules, (search rules, (search rules, (here, (c.requires.1.1.1.1.1.1.0, (c.requires.1.1.1.1.1.1.1.0, (bytes g d, (within g d, (c.requires.1.1.1.1.1.1.1.1.1.1.1.1, (fits g d, c.piece_on-piece.ensures.some))))))))))
 
 pub overflow_add-at : goal.overflow_add-at
 overflow_add-at g c =

@@ -5,10 +5,51 @@ use Rattle.rc_program.specs.Sought.{text_of}
 use Rattle.rc_symbols.specs.Symbols.{IsSymbolAt}
 use Rattle.rc_table_search.specs.Walks.{left_of}
 use Rattle.rc_table_search.specs.Ways.{IsAhead, IsNext, offset_of}
-use Rattle.rc_table_search.proofs.OverLemmas.{at_same, beside_here}
+use Rattle.rc_table_search.proofs.OverLemmas.{at_same, beside_here, slice_here}
 use Rattle.rc_table_search.proofs.SpanLemmas.{next_here}
 use Rattle.rc_table_search.proofs.ScalarLemmas.{not_last, symbol_found}
 use Rattle.rc_table_search.proofs.search.read_symbols.Goals as goal
+
+pub step_alone-requires : goal.step_alone-requires
+step_alone-requires g c κs within_κs =
+    let backwards = g.W.Way.BACKWARDS in
+    let v = g.T.Transitions.view c.args.table.now backwards in
+    let seen = g.outset.seen in
+    let r = c.requires.1.1.1 in
+    let piece = c.args.piece.now in
+    let start = c.args.start in
+    let place = c.run_over-on.result.0 in
+    let le = c.run_over-on.ensures.within in
+    let is = r.1.1.1.0 in
+    let inside = r.1.1.1.1.0 in
+    let lies : IsAhead backwards seen c.args.request.now.end start piece = record { is = is; low = inside.0; high = inside.1; inside = r.1.1.1.1.1.0; within = r.1.1.1.1.1.1.0 } in
+    let some : 0 < left_of backwards (length piece) place = omega (arith, c.left-rest.ensures, c.if-rest-eq0.false) in (
+      search rules,
+      (
+        search rules,
+        (
+          search rules,
+          (
+            at_same _ v backwards g.outset c.args.request.now _ c.serve.new.cache (start + place) c.run_over-on.result.1 c.serve.ensures
+                (c.run_over-on.ensures.across g.outset c.args.request.now start lies c.loop-cache.invariant.here),
+            (
+              c.if-byte-lt128.true,
+              (
+                slice_here backwards seen start place (length piece) inside.0 inside.1 le some,
+                (
+                  subst (IsNext backwards seen c.args.request.now.end (start + place)) (sym c.byte-byte.ensures)
+                      (next_here backwards seen c.args.request.now.end start place piece r.1.1.1.1.1.0 is r.1.1.1.1.1.1.0 le some),
+                  (
+                    r.1.1.1.1.1.1.1.0,
+                    λ forwards. let lt = not_last backwards (length piece) start place some forwards in let fits = r.1.1.1.1.1.1.1.1 in omega (arith, lt, fits),
+                  ),
+                ),
+              ),
+            ),
+          ),
+        ),
+      ),
+    )
 
 pub step_over-requires : goal.step_over-requires
 step_over-requires g c κs within_κs =

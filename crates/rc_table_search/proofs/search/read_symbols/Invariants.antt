@@ -6,6 +6,9 @@ use Rattle.rc_table_search.proofs.search.read_symbols.Given as goal
 abbrev pub ghost-step_over : goal.ghost-step_over
 ghost-step_over g a = g.outset
 
+abbrev pub ghost-step_alone : goal.ghost-step_alone
+ghost-step_alone g a = g.outset
+
 abbrev pub invariant-loop-cache : goal.invariant-loop-cache
 invariant-loop-cache g l = record {
   within : l.place ≤ length l.piece;

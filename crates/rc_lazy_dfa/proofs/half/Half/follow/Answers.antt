@@ -1,9 +1,9 @@
-use Rattle.std.proofs.Common.{◌≡◌, ◌∙◌, inl, inr, refl, sym, subst, ap}
+use Rattle.std.proofs.Common.{◌≡◌, ◌+◌, ◌<◌, ◌∙◌, length, inl, inr, refl, sym, subst, ap, arith}
 use Rattle.rc_determinize.specs.Places.{state_of}
 use Rattle.rc_lazy_dfa.specs.Cells.{column_of}
 use Rattle.rc_lazy_dfa.specs.Stores.{Grows, Spends, frame_of, Names}
 use Rattle.rc_lazy_dfa.specs.declared.store.Store.{Store}
-use Rattle.rc_lazy_dfa.proofs.StepLemmas.{cell_says, column_by, letter_by, cell_made, unread_by, read_by, led_within, there_still, same_still}
+use Rattle.rc_lazy_dfa.proofs.StepLemmas.{cell_inside, cell_says, column_by, letter_by, cell_made, unread_by, read_by, led_within, there_still, same_still}
 use Rattle.rc_lazy_dfa.proofs.WriteLemmas.{spends_written}
 use Rattle.rc_lazy_dfa.proofs.half.Half.follow.Goals as goal
 use Rattle.rc_lazy_dfa.proofs.half.Half.follow.Goals.{After-column-column, After-may_read, In_ok-named}
@@ -15,6 +15,20 @@ column g c =
 
 pub column-column-requires-clause-letter : goal.column-column-requires-clause-letter
 column-column-requires-clause-letter g c = letter_by g.f c.args.automaton.now c.args.direction c.args.letter c.requires.0 c.requires.1.1.1
+
+inside : (g : _) (c : After-column-column g) → (c.args.row + c.column-column.result < length c.args.self.now.store.cells.items)
+    × (c.args.row + c.column-column.result < 18446744073709551616)
+inside g c =
+    cell_inside g.f c.args.self.now.store c.args.row c.requires.1.0.held c.requires.1.1.0 c.column-column.result c.args.letter c.requires.1.1.1 (column g c)
+
+pub overflow_add-row : goal.overflow_add-row
+overflow_add-row g c = let at = inside g (goal.at.overflow_add-row g c).After-column-column in omega (arith, at.1)
+
+pub index-known-requires : goal.index-known-requires
+index-known-requires g c =
+    let at = inside g (goal.at.index-known-requires g c).After-column-column in
+    let size = c.args.self.now.store.cells.ok.0 in
+    omega (arith, at.0, size)
 
 pub returns-then-known-ne-UNKNOWN-clause-leads : goal.returns-then-known-ne-UNKNOWN-clause-leads
 returns-then-known-ne-UNKNOWN-clause-leads g c = λ s r.
@@ -90,3 +104,6 @@ pub returns-then-named-clause-grows : goal.returns-then-named-clause-grows
 returns-then-named-clause-grows g c = λ kept.
     subst (λ xs. Grows c.args.self.now.store.states xs) (sym c.write-then-named.ensures.writes.states)
     (grows g (goal.at.returns-then-named-clause-grows g c).In_ok-named kept)
+
+pub returns-in_err-named-clause-spends : goal.returns-in_err-named-clause-spends
+returns-in_err-named-clause-spends g c = subst (λ (s : Store). Spends g.f s c.name.new.self.store 1) c.in_ok-lead.ensures.store c.in_err-named.ensures.spends
