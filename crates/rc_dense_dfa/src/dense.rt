@@ -14,6 +14,7 @@ use rc_dfa::ended::{Ended, Reading};
 use rc_dfa::halves::{Halves, Run};
 use rc_dfa::memo::Memo;
 use rc_table_search::again::search_again;
+use rc_table_search::inside::search_inside;
 use rc_table_search::run::Extent;
 use rc_table_search::search::{Request, search};
 use rc_table_search::way;
@@ -138,6 +139,27 @@ impl Halves for Dense {
             },
         };
         search::<way::Forwards, Dense, C>(self, cache, input, &request)
+    }
+
+    #[inline(always)]
+    fn run_inside(
+        &self,
+        cache: &mut NoCache,
+        piece: &[u8],
+        start: usize,
+        run: Run,
+    ) -> Option<Reading> {
+        let request = Request {
+            anchored: run.anchored,
+            from: run.low,
+            end: run.high,
+            extent: Extent {
+                earliest: run.earliest,
+                may_rest: false,
+                rest_from: 0,
+            },
+        };
+        search_inside::<Dense>(self, cache, piece, start, &request)
     }
 
     fn run_again<C: Cursor>(

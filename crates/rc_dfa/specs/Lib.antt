@@ -12,3 +12,4 @@ pub mod Ended
 pub mod Keys
 pub mod Reads
 pub mod Memos
+pub mod Inside

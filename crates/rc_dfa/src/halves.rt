@@ -1,9 +1,10 @@
 //! Forward and reverse search: the trait of the DFA and the lazy DFA.
-ghost use Rattle.std.specs.Prelude.{◌≡◌, ◌+◌, ◌-◌, ◌≤◌, ℕ, Bool, Some, false, is_some};
+ghost use Rattle.std.specs.Prelude.{◌≡◌, ◌+◌, ◌-◌, ◌<◌, ◌≤◌, ℕ, Bool, Some, IfSome, false, is_some, length};
 ghost use Rattle.rc_text.specs.Text.{Keeps, Searched, high, low, slice_end};
 ghost use Rattle.rc_program.specs.Sought.{text_of};
 ghost use Rattle.rc_dfa.specs.Machine.{Machine, IsAsked};
 ghost use Rattle.rc_dfa.specs.Ended.{HasEndedDown, gave_up};
+ghost use Rattle.rc_dfa.specs.Inside.{IsPieceOf};
 ghost use Rattle.rc_dfa.specs.Reads.{HasEndedBelow};
 ghost use Rattle.rc_dfa.specs.Memos.{Has, IsBare};
 ghost use Rattle.rc_dfa.specs.declared.memo.Memo as memos;
@@ -69,6 +70,25 @@ pub trait Halves {
         ensures spends { Spends self.now cache.old cache.new (high input.old - run.low + 2) }
         ensures gives_up { (memory : Bool) → gave_up result.ended ≡ Some memory
             → GivesUp self.now cache.old cache.new (high input.old - run.low + 2) memory };
+
+    /// Runs forwards as `run_forwards` does, over a piece of the text alone, and never rests. The
+    /// piece begins at the position `start`, before the run does. Returns None if the run doesn't end
+    /// in the piece, or comes to a byte of which the piece doesn't tell all.
+    fn run_inside(
+        &self,
+        cache: &mut Self::Cache,
+        piece: &[u8],
+        start: usize,
+        run: Run,
+    ) -> Option<Reading>
+        requires cache { IsCache self.now cache.old }
+        requires begins { (start < run.low) × (run.low ≤ start + length piece.now) }
+        requires fits { start + length piece.now ≤ usize.MAX }
+        ensures cache { IsCache self.now cache.new }
+        ensures ended { (seen : Searched) (m n : Machine) → IsPieceOf seen run.high start piece.now
+            → run.high ≡ high seen → AreOf self.now m n → IsAsked m run.anchored
+            → IfSome result (λ o. HasEndedBelow m (text_of m.setting.terminator seen) (high seen)
+            run.low run.anchored run.earliest false o.ended o.read) };
 
     /// Runs forwards as `run_forwards` does, and never rests. If it comes to a mark of the memo, it
     /// ends as the run did that left it. It leaves marks of its own.

@@ -1,5 +1,5 @@
 -- How many bytes settle what searches find that go from needle to needle.
-use Rattle.std.proofs.Common.{◌≡◌, ℕ, ◌+◌, ◌-◌, ◌<◌, ◌≤◌, Bool, true, false, not, ◌&&◌, true≢false, IsTrue, slice_index_or, List, [], ◌∷◌, length, Option, Some, None, Result, IfOk, max, min, sym, subst, ap, ◌∙◌, refl, arith, inr, ⊎_elim, take, drop, take-take, length-take, slice_range}
+use Rattle.std.proofs.Common.{◌≡◌, ℕ, ◌+◌, ◌-◌, ◌<◌, ◌≤◌, Bool, true, false, not, ◌&&◌, true≢false, IsTrue, slice_index_or, List, [], ◌∷◌, length, Option, Some, None, Result, Ok, IfOk, max, min, sym, subst, ap, ◌∙◌, refl, arith, inr, ⊎_elim, take, take-take, length-take, slice_range}
 use Rattle.std.specs.Prelude.{slice_index}
 use Rattle.std.proofs.lemmas.List.{get_or-take, length-take-le, take_all}
 use Rattle.std.specs.Prelude.{is_some}
@@ -15,6 +15,7 @@ use Rattle.rc_text.specs.declared.types.Anchored.{Anchored}
 use Rattle.rc_text.specs.declared.types.Anchored.TheVariants.{No, Yes}
 use Rattle.rc_text.specs.declared.types.MatchKind.{MatchKind}
 use Rattle.rc_text.specs.declared.types.MatchError as error
+use Rattle.rc_text.specs.declared.types.MatchError.{MatchError}
 use Rattle.rc_pattern.specs.Re.{Re}
 use Rattle.rc_walks.specs.Walks.{Pair}
 use Rattle.rc_program.specs.Answer.{Search, Anchoring, HasNoWalkFrom, ends, only}
@@ -28,7 +29,6 @@ use Rattle.rc_program.proofs.HeadsLemmas.{none_goes_on}
 use Rattle.rc_needles.specs.ByteSets.{AreInside}
 use Rattle.rc_needles.specs.Needles.{NoneAt, find_needle, longest}
 use Rattle.rc_needles.specs.Guards.{Guards}
-use Rattle.rc_needles.specs.Tables.{AreSome, BeginsWithByte, numbered}
 use Rattle.rc_needles.specs.declared.hit.Hit.{Hit}
 use Rattle.rc_needles.proofs.StartLemmas.{needle_law}
 use Rattle.rc_literals.specs.Guard.{BeginsFor, IsGuard, guard_needles}
@@ -38,7 +38,7 @@ use Rattle.rc_literals.specs.declared.guard.Start.{Start}
 use Rattle.rc_utf8.specs.Laws.{by_bytes}
 use Rattle.rc_determinize.specs.Laws.{may_end_at}
 use Rattle.rc_reach.specs.Settled.{AgreesBelow, IsInside}
-use Rattle.rc_reach.proofs.AgreeLemmas.{get_below, range_is_rest, same_bound}
+use Rattle.rc_reach.proofs.AgreeLemmas.{get_below, same_bound}
 use Rattle.rc_dfa.specs.Machine.{Machine, IsAsked}
 use Rattle.rc_dfa.specs.Reads.{HasEndedBelow, SearchEndsBelow}
 use Rattle.rc_dfa.specs.Runs.{idle_at, met_last, SearchEndsDown}
@@ -57,7 +57,7 @@ use Rattle.rc_dfa_search.specs.Firsts.{TellsOthers, starting_at}
 use Rattle.rc_dfa_search.specs.Leftmost.{IsRaisedBy}
 use Rattle.rc_dfa_search.specs.Legs.{GoesByNeedles, HasRun, IsGiven, leg_of}
 use Rattle.rc_dfa_search.specs.Machines.{IsCase}
-use Rattle.rc_dfa_search.specs.Reaches.{GivesBelow, HasRunBelow, IsAnswerBelow, IsGivenBelow, NoneBeginBelow, TellsReach}
+use Rattle.rc_dfa_search.specs.Reaches.{GivesBelow, HasRunBelow, IsAnswerBelow, IsGivenBelow, NoneBeginBelow, TellsReach, found_from}
 use Rattle.rc_dfa_search.specs.Rests.{GivesToo, HasNoWalkBetween}
 use Rattle.rc_dfa_search.proofs.CaseLemmas.{same_reading}
 use Rattle.rc_dfa_search.proofs.BeginLemmas.{case_here, found_here, may as may_here, not_begun}
@@ -377,15 +377,18 @@ module _ (AreOf : Machine → Machine → Type 0) (aim : Aim) (hs : List Re) (te
       met_here e r (subst (λ x. HasEndedBelow of.ahead (text_of x s) (high s) from Yes false false e r) (ap (λ (m : Machine). m.setting.terminator) ms.ahead)
       (ends of.ahead of.back of.are_of tt))
 
-pub met_below_so : (kind : MatchKind) (s : Search) (from r : ℕ) (met : Met) (pattern end : ℕ) → IsMetBelow kind s from r (Some met) → pattern ≡ met.pattern →
-    end ≡ min (max met.at from) s.hi →
-    IsAnswerBelow kind (starting_at from s) r (Some (let f : Found = record { pattern = pattern; start = from; end = end } in f))
-met_below_so kind s from r met pattern end h same is =
+pub met_below_so : (kind : MatchKind) (s : Search) (from r bound : ℕ) (told : Result (Option Met) MatchError) (found : Option Found) → bound ≡ s.hi →
+    IfOk told (IsMetBelow kind s from r) → (met : Option Met) × (told ≡ Ok met) × (found ≡ found_from from bound met) →
+    IsAnswerBelow kind (starting_at from s) r found
+met_below_so kind s from r bound told found end is (None, same, was) =
+    subst (IsAnswerBelow kind (starting_at from s) r) (sym was) (subst (λ t. IfOk t (IsMetBelow kind s from r)) same is)
+met_below_so kind s from r bound told found end is (Some met, same, was) =
+    let h = subst (λ t. IfOk t (IsMetBelow kind s from r)) same is in
     let a = h.0 in
     let b = h.1 in
-    let there : met.at ≡ end = omega (arith, is, a, b) in
-    subst (λ e. IsAnswerBelow kind (starting_at from s) r (Some (let f : Found = record { pattern = pattern; start = from; end = e } in f))) there
-    (subst (λ p. IsAnswerBelow kind (starting_at from s) r (Some (let f : Found = record { pattern = p; start = from; end = met.at } in f))) (sym same) h.2)
+    let there : met.at ≡ min (max met.at from) bound = omega (arith, end, a, b) in
+    subst (IsAnswerBelow kind (starting_at from s) r) (sym was)
+    (subst (λ e. IsAnswerBelow kind (starting_at from s) r (Some (let f : Found = record { pattern = met.pattern; start = from; end = e } in f))) there h.2)
 
 -- ONE RUN
 

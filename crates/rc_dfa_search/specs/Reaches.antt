@@ -1,6 +1,7 @@
 -- Only proofs use this file.
 -- Reaches: how many bytes settle what a DFA search finds.
-use Rattle.std.specs.Prelude.{◌≡◌, ℕ, ◌<◌, ◌≤◌, Bool, true, false, Option, Some, None, MatchOption}
+use Rattle.std.specs.Prelude.{◌≡◌, ℕ, ◌<◌, ◌≤◌, Bool, true, false, Option, Some, None, MatchOption, max, min}
+use Rattle.std.specs.Option.{option_map}
 use Rattle.rc_text.specs.Found.{Found}
 use Rattle.rc_text.specs.declared.types.Anchored.{Anchored}
 use Rattle.rc_text.specs.declared.types.Anchored.TheVariants.{No}
@@ -35,6 +36,11 @@ pub record TellsReach (aim : Aim) : Type 0 where
   pub kind : IsLeftmost aim.kind
   pub late : aim.earliest ≡ false
   pub all : aim.passes_over ≡ false
+
+-- The match that begins at the first position, where a run from there met this. It doesn't end beyond
+-- the second.
+abbrev pub found_from : ℕ → ℕ → Option Met → Option Found
+found_from from bound = option_map (λ (met : Met). let f : Found = record { pattern = met.pattern; start = from; end = min (max met.at from) bound } in f)
 
 -- This was found from one position on, by the bytes before r alone.
 abbrev pub HasMetBelow : Machine → Text → ℕ → ℕ → Anchored → ℕ → Option Met → Type 0

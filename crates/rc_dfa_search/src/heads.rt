@@ -10,12 +10,12 @@ ghost use Rattle.rc_dfa_search.specs.Aims.{AreBounds, AreHalvesOf, search_for};
 ghost use Rattle.rc_dfa_search.specs.Firsts.{TellsOthers};
 ghost use Rattle.rc_dfa_search.specs.Reaches.{IsAnswerBelow, TellsReach};
 
-use crate::reach::{Settled, find_settled, settle_here};
+use crate::reach::{Settled, find_settled, settle_inside, settle_unless};
 use crate::search::{Aim, Bounds};
 use rc_dfa::halves::Halves;
 use rc_needles::byte_set::ByteSet;
 use rc_text::cursor::Cursor;
-use rc_text::input::{Input, piece_from};
+use rc_text::input::{Input, content_fits, piece_from};
 use rc_text::types::MatchError;
 
 /// Where a search tries anchored runs before it goes along the text.
@@ -57,6 +57,7 @@ pub fn find_settled_first<H: Halves, C: Cursor>(
     if input.get_anchored().is_anchored() {
         return find_settled(halves, cache, input, aim, bounds);
     }
+    content_fits(input);
     let Bounds { low, high } = bounds;
     let mut left = tries.runs;
     let mut at = low;
@@ -69,7 +70,8 @@ pub fn find_settled_first<H: Halves, C: Cursor>(
         if passed == near {
             return find_settled(halves, cache, input, aim, bounds);
         }
-        let here = settle_here(halves, cache, input, from, high)?;
+        let inside = settle_inside(halves, cache, piece, at, from, high);
+        let here = settle_unless(halves, cache, input, inside, from, high)?;
         reach = reach.max(here.reach).max(from);
         if here.found.is_some() {
             return Ok(Settled {

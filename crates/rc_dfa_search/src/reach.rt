@@ -1,19 +1,22 @@
 //! Reaches: DFA searches that tell how many bytes settle what they find. Positions are in bytes of
 //! the whole content.
-ghost use Rattle.std.specs.Prelude.{◌≡◌, ◌↔◌, ◌≤◌, ℕ, List, IfOk, IfSome, IsTrue};
+ghost use Rattle.std.specs.Prelude.{◌≡◌, ◌↔◌, ◌+◌, ◌<◌, ◌≤◌, ℕ, List, Ok, Option, IfOk, IfSome, IsTrue, length};
 ghost use Rattle.std.specs.Option.{option_map};
 ghost use Rattle.rc_text.specs.Bounds.{IsWithinBounds};
-ghost use Rattle.rc_text.specs.Text.{Keeps, low, high};
+ghost use Rattle.rc_text.specs.Text.{Keeps, Searched, low, high};
 ghost use Rattle.rc_pattern.specs.Re.{Re};
 ghost use Rattle.rc_program.specs.Sought.{text_of};
+ghost use Rattle.rc_dfa.specs.Inside.{IsPieceOf};
+ghost use Rattle.rc_dfa.specs.declared.ended.Met.{Met};
 ghost use Rattle.rc_dfa_reach.specs.RunReach.{seen_to};
 ghost use Rattle.rc_dfa_search.specs.Aims.{AreBounds, AreHalvesOf, search_for};
-ghost use Rattle.rc_dfa_search.specs.Ends.{Asks};
+ghost use Rattle.rc_dfa_search.specs.Ends.{Asks, told_of};
 ghost use Rattle.rc_dfa_search.specs.Firsts.{starting_at};
 ghost use Rattle.rc_dfa_search.specs.Legs.{GoesByNeedles};
-ghost use Rattle.rc_dfa_search.specs.Reaches.{BeginsBy, IsAnswerBelow, TellsReach};
+ghost use Rattle.rc_dfa_search.specs.Reaches.{BeginsBy, IsAnswerBelow, TellsReach, found_from};
 
 use crate::search::{Aim, Bounds, asks, id_of, run_backwards, told};
+use rc_dfa::ended::Reading;
 use rc_dfa::halves::{Halves, Run};
 use rc_text::cursor::Cursor;
 use rc_text::input::{Input, content_fits};
@@ -75,6 +78,26 @@ fn start_of<H: Halves, C: Cursor>(
     Ok(Some(met.at))
 }
 
+/// Returns the match that begins at the position `from`, if one does, by what an anchored run read,
+/// and how many bytes settle that. An `Err` says why the DFA has no answer.
+#[inline(always)]
+fn settled_by(reading: Reading, from: usize, bound: usize) -> Result<Settled, MatchError>
+    requires { from ≤ bound }
+    ensures told { IfOk result (λ o. (o.reach ≡ reading.read) × ((met : Option Met)
+        × (told_of reading.ended ≡ Ok met) × (o.found ≡ found_from from bound met))) }
+    ensures within { IfOk result (λ o. IfSome o.found
+        (λ m. (m.start ≡ from) × (m.start ≤ m.end) × (m.end ≤ bound))) }
+{
+    let reach = reading.read;
+    let Some(met) = told(reading.ended)? else {
+        return Ok(Settled { found: None, reach });
+    };
+    let end = met.at.max(from).min(bound);
+    let pattern = id_of(met.pattern, end)?;
+    let found = Some(Match::new(pattern, Span { start: from, end }));
+    Ok(Settled { found, reach })
+}
+
 /// Returns the match that begins at the position `from`, if one does, by an anchored run, and how
 /// many bytes settle that. An `Err` says why the DFA has no answer.
 #[inline(always)]
@@ -107,19 +130,87 @@ pub(crate) fn settle_here<H: Halves, C: Cursor>(
         earliest: false,
     };
     let reading = halves.run_forwards(cache, input, run, None);
-    let Some(met) = told(reading.ended)? else {
-        return Ok(Settled {
-            found: None,
-            reach: reading.read,
-        });
+    settled_by(reading, from, bound)
+}
+
+/// Returns what `settle_here` does, by a run over a piece of the text alone, which begins at the
+/// position `start`. Returns None if the run begins there too, or doesn't end in the piece.
+#[inline(always)]
+pub(crate) fn settle_inside<H: Halves>(
+    halves: &H,
+    cache: &mut H::Cache,
+    piece: &[u8],
+    start: usize,
+    from: usize,
+    bound: usize,
+) -> Option<Result<Settled, MatchError>>
+    requires cache { H.IsCache halves.now cache.old }
+    requires begins { (start ≤ from) × (from ≤ start + length piece.now) }
+    requires within { from ≤ bound }
+    requires fits { start + length piece.now ≤ usize.MAX }
+    ensures cache { H.IsCache halves.now cache.new }
+    ensures settled { (seen : Searched) (aim : Aim) (hs : List Re) (terminator : ℕ)
+        (of : AreHalvesOf (H.AreOf halves.now) aim hs terminator)
+        → IsPieceOf seen bound start piece.now → bound ≡ high seen → low seen ≤ from
+        → GoesByNeedles aim seen.anchored
+        → IfSome result (λ told. IfOk told (λ o. IsAnswerBelow aim.kind
+        (starting_at from (search_for aim hs terminator seen))
+        (seen_to of.ahead.alphabet o.reach) o.found)) }
+    ensures within { IfSome result (λ told. IfOk told (λ o. IfSome o.found
+        (λ m. (m.start ≡ from) × (m.start ≤ m.end) × (m.end ≤ bound)))) }
+{
+    if from == start {
+        return None;
+    }
+    let run = Run {
+        anchored: Anchored::Yes,
+        low: from,
+        high: bound,
+        earliest: false,
     };
-    let end = met.at.max(from).min(bound);
-    let pattern = id_of(met.pattern, end)?;
-    let found = Some(Match::new(pattern, Span { start: from, end }));
-    Ok(Settled {
-        found,
-        reach: reading.read,
-    })
+    let reading = halves.run_inside(cache, piece, start, run)?;
+    Some(settled_by(reading, from, bound))
+}
+
+/// Returns what `settle_here` does, unless a run over a piece told it.
+#[inline(always)]
+pub(crate) fn settle_unless<H: Halves, C: Cursor>(
+    halves: &H,
+    cache: &mut H::Cache,
+    input: &mut Input<C>,
+    inside: Option<Result<Settled, MatchError>>,
+    from: usize,
+    bound: usize,
+) -> Result<Settled, MatchError>
+    ghost seen: { Searched }
+    requires cache { H.IsCache halves.now cache.old }
+    requires seen { Keeps seen input.old }
+    requires low { low seen ≤ from }
+    requires bound { bound ≡ high seen }
+    requires within { from ≤ bound }
+    requires settled { (aim : Aim) (hs : List Re) (terminator : ℕ)
+        (of : AreHalvesOf (H.AreOf halves.now) aim hs terminator)
+        → GoesByNeedles aim seen.anchored
+        → IfSome inside (λ told. IfOk told (λ o. IsAnswerBelow aim.kind
+        (starting_at from (search_for aim hs terminator seen))
+        (seen_to of.ahead.alphabet o.reach) o.found)) }
+    requires there { IfSome inside (λ told. IfOk told (λ o. IfSome o.found
+        (λ m. (m.start ≡ from) × (m.start ≤ m.end) × (m.end ≤ bound)))) }
+    ensures cache { H.IsCache halves.now cache.new }
+    ensures keeps { Keeps input.old input.new }
+    ensures settled { (aim : Aim) (hs : List Re) (terminator : ℕ)
+        (of : AreHalvesOf (H.AreOf halves.now) aim hs terminator)
+        → GoesByNeedles aim seen.anchored
+        → IfOk result (λ o. IsAnswerBelow aim.kind
+        (starting_at from (search_for aim hs terminator seen))
+        (seen_to of.ahead.alphabet o.reach) o.found) }
+    ensures within { IfOk result (λ o. IfSome o.found
+        (λ m. (m.start ≡ from) × (m.start ≤ m.end) × (m.end ≤ bound))) }
+{
+    match inside {
+        Some(told) => told,
+        None => settle_here(halves, cache, input, from, bound),
+    }
 }
 
 /// Returns the match that `find` returns, and how many bytes settle it: those at which the run

@@ -14,6 +14,7 @@ use rc_dfa::halves::{Halves, Run};
 use rc_dfa::memo::Memo;
 use rc_pattern_set::sets::PatternSet;
 use rc_table_search::again::search_again;
+use rc_table_search::inside::search_inside;
 use rc_table_search::run::Extent;
 use rc_table_search::search::{Request, search};
 use rc_table_search::way::{Backwards, Forwards};
@@ -279,6 +280,27 @@ impl Halves for Lazy {
             },
         };
         search::<Forwards, Lazy, C>(self, &mut cache.forward, input, &request)
+    }
+
+    #[inline(always)]
+    fn run_inside(
+        &self,
+        cache: &mut Cache,
+        piece: &[u8],
+        start: usize,
+        run: Run,
+    ) -> Option<Reading> {
+        let request = Request {
+            anchored: run.anchored,
+            from: run.low,
+            end: run.high,
+            extent: Extent {
+                earliest: run.earliest,
+                may_rest: false,
+                rest_from: 0,
+            },
+        };
+        search_inside::<Lazy>(self, &mut cache.forward, piece, start, &request)
     }
 
     fn run_again<C: Cursor>(

@@ -3,6 +3,7 @@
 
 pub mod again;
 pub mod cells;
+pub mod inside;
 pub(crate) mod over;
 pub mod refusal;
 pub mod rows;

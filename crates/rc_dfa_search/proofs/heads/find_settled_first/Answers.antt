@@ -1,7 +1,9 @@
-use Rattle.std.proofs.Common.{◌≡◌, ◌+◌, ◌<◌, ◌≤◌, ℕ, List, arith, inl, inr, subst, sym, ◌∙◌}
+use Rattle.std.proofs.Common.{rules, ◌≡◌, ◌+◌, ◌<◌, ◌≤◌, ℕ, List, length, slice_range, arith, inl, inr, subst, sym, ap, ◌∙◌}
 use Rattle.std.proofs.lemmas.Bool.{cases_lt}
 use Rattle.std.proofs.lemmas.List.{length-take-le}
-use Rattle.rc_text.specs.Text.{Keeps, low}
+use Rattle.rc_text.specs.Text.{Keeps, high, low}
+use Rattle.rc_text.specs.declared.types.Span.{Span}
+use Rattle.rc_dfa.specs.Inside.{IsPieceOf}
 use Rattle.rc_pattern.specs.Re.{Re}
 use Rattle.rc_program.specs.Answer.{HasNoWalkFrom, Search}
 use Rattle.rc_program.specs.Program.{program}
@@ -13,7 +15,7 @@ use Rattle.rc_dfa_search.specs.Legs.{GoesByNeedles}
 use Rattle.rc_dfa_search.specs.Reaches.{IsAnswerBelow, NoneBeginBelow}
 use Rattle.rc_dfa_search.proofs.SeenLemmas.{seen_more, seen_past}
 use Rattle.rc_dfa_search.proofs.SettledLemmas.{agrees_less, first_settles_some, goes_free, none_there, others_skipped}
-use Rattle.rc_dfa_search.proofs.ToldLemmas.{kept_high, kept_search, kept_then}
+use Rattle.rc_dfa_search.proofs.ToldLemmas.{kept_high, kept_low, kept_same, kept_search, kept_then}
 use Rattle.rc_dfa_search.proofs.heads.find_settled_first.Given.{Over}
 use Rattle.rc_dfa_search.proofs.heads.find_settled_first.Goals as goal
 use Rattle.rc_dfa_search.proofs.heads.find_settled_first.Goals.{After-first_outside-passed}
@@ -61,6 +63,54 @@ kept : (g : Over) (c : After-first_outside-passed g) → Keeps c.args.input.now 
 kept g c =
     kept_then c.args.input.now c.loop-left.input c.piece_from-piece.follows.lender-at-none c.loop-left.invariant.keeps c.piece_from-piece.follows.holds-at-none
 
+pub settle_unless-requires : goal.settle_unless-requires
+settle_unless-requires g c κs within_κs =
+    let k = (goal.at.settle_unless-requires g c).After-first_outside-passed in
+    let s = c.args.input.now in
+    let u = c.piece_from-piece.follows.lender-at-none in
+    let keeps = kept g k in
+    let from = c.loop-left.at + c.first_outside-passed.result in
+    let above = c.loop-left.invariant.low in
+    let within = inside g k c.if-passed-near.false in
+    let low_here = kept_low s u keeps in
+    let high_here = kept_high s u keeps in
+    let low : low u ≤ from = omega (arith, low_here, above, c.requires.bounds) in
+    let high : c.args.bounds.high ≡ high u = omega (arith, high_here, c.requires.bounds) in
+    let in_slice = ap (λ (p : Span). p.start) keeps.slice in
+    let piece : IsPieceOf u c.args.bounds.high c.loop-left.at c.piece_from-piece.result.now = record {
+      is = subst (λ xs. c.piece_from-piece.result.now ≡ slice_range xs c.loop-left.at (c.loop-left.at + length c.piece_from-piece.result.now))
+          (sym c.piece_from-piece.follows.holds-at-none.content) c.piece_from-piece.ensures.bytes;
+      low = omega (arith, in_slice, above, c.requires.bounds);
+      high = omega (arith, c.piece_from-piece.ensures.within, c.if-at-high.true);
+    } in (
+      search rules,
+      (
+        search rules,
+        (
+          search rules,
+          (
+            c.settle_inside-inside.ensures.cache,
+            (
+              kept_same u,
+              (
+                low,
+                (
+                  high,
+                  (
+                    omega (arith, within),
+                    (
+                      λ aim hs terminator of free. c.settle_inside-inside.ensures.settled u aim hs terminator of piece high low free,
+                      c.settle_inside-inside.ensures.within,
+                    ),
+                  ),
+                ),
+              ),
+            ),
+          ),
+        ),
+      ),
+    )
+
 pub returns-then-is_some-clause-settled : goal.returns-then-is_some-clause-settled
 returns-then-is_some-clause-settled g c hs terminator of tells =
     let k = (goal.at.returns-then-is_some-clause-settled g c).After-first_outside-passed in
@@ -95,7 +145,7 @@ loop-left-preserved g c =
     let within = inside g k c.if-passed-near.false in
     record {
       cache = c.in_ok-here.ensures.cache;
-      keeps = kept_then s u c.settle_here.new.input keeps c.in_ok-here.ensures.keeps;
+      keeps = kept_then s u c.settle_unless.new.input keeps c.in_ok-here.ensures.keeps;
       low = omega (arith, above);
       high = inside g k c.if-passed-near.false;
       passed = λ hs terminator of tells t in2 agrees z low lt.

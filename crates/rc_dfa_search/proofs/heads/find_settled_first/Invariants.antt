@@ -1,4 +1,4 @@
-use Rattle.std.proofs.Common.{◌-◌, ◌+◌, ◌≤◌, ℕ, List}
+use Rattle.std.proofs.Common.{◌≤◌, ℕ, List}
 use Rattle.rc_text.specs.Text.{Keeps}
 use Rattle.rc_pattern.specs.Re.{Re}
 use Rattle.rc_program.specs.Program.{program}
@@ -22,3 +22,6 @@ invariant-loop-left g l = record {
 
 abbrev pub decreases-loop-left : goal.decreases-loop-left
 decreases-loop-left g l = l.left
+
+abbrev pub ghost-settle_unless : goal.ghost-settle_unless
+ghost-settle_unless g a = a.input.now

@@ -3,10 +3,9 @@ use Rattle.rc_text.specs.Text.{high}
 use Rattle.rc_program.specs.Answer.{Search}
 use Rattle.rc_needles.specs.Prefilters.{needles_of}
 use Rattle.rc_dfa_search.specs.declared.needles.Leg.TheVariants.{Rested}
-use Rattle.rc_dfa_reach.specs.RunReach.{seen_to}
 use Rattle.rc_dfa_search.specs.Aims.{search_for}
-use Rattle.rc_dfa_search.specs.Reaches.{HasRunBelow, NoneBeginBelow}
-use Rattle.rc_dfa_search.proofs.IdleLemmas.{idle_first, idle_next, needle_next}
+use Rattle.rc_dfa_search.specs.Reaches.{HasRunBelow}
+use Rattle.rc_dfa_search.proofs.IdleLemmas.{idle_next, needle_next}
 use Rattle.rc_dfa_search.proofs.NeedleLemmas.{came_on}
 use Rattle.rc_dfa_search.proofs.ToldLemmas.{kept_same, kept_search, kept_then}
 use Rattle.rc_dfa_search.proofs.undecided.last_idle_by_needles.Goals as goal

@@ -1,5 +1,5 @@
-use Rattle.std.proofs.Common.{◌≡◌, ◌≤◌, ℕ, List, ◌+◌, ◌-◌}
-use Rattle.rc_text.specs.Text.{Keeps, high, low}
+use Rattle.std.proofs.Common.{◌≡◌, ◌≤◌, ℕ, List, ◌-◌}
+use Rattle.rc_text.specs.Text.{Keeps, high}
 use Rattle.rc_text.specs.declared.types.MatchKind.TheVariants.{LeftmostFirst}
 use Rattle.rc_pattern.specs.Re.{Re}
 use Rattle.rc_program.specs.Program.{program}

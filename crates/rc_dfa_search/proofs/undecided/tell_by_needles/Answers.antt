@@ -1,4 +1,4 @@
-use Rattle.std.proofs.Common.{◌≡◌, ◌∙◌, ◌≤◌, ℕ, List, arith, subst, sym}
+use Rattle.std.proofs.Common.{◌≡◌, ◌∙◌, ℕ, List, arith, subst, sym}
 use Rattle.rc_text.specs.Text.{Keeps, high}
 use Rattle.rc_program.specs.Answer.{Search}
 use Rattle.rc_pattern.specs.Re.{Re}

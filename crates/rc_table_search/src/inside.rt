@@ -1,0 +1,103 @@
+//! Search in a piece: runs a DFA forwards by its table over one piece of the text alone.
+ghost use Rattle.std.specs.Prelude.{◌≡◌, ◌+◌, ◌≤◌, ◌<◌, None, false, IfSome, length};
+ghost use Rattle.rc_text.specs.Text.{Searched, slice_end};
+ghost use Rattle.rc_dfa.specs.Inside.{IsPieceOf};
+ghost use Rattle.rc_table_search.specs.Searches.{HasRun, IsAt, IsOver, Outset};
+
+use crate::cells::{QUIT, has_died, row_of};
+use crate::search::{Request, needs_symbol, note_of, noted_by, told};
+use crate::transitions::Transitions;
+use crate::way::Forwards;
+use rc_dfa::ended::{Ended, Reading};
+
+/// Runs over the rest of a piece from the row of the search's first state on, up to a byte whose cell
+/// needs a look, and reads that. Returns None if the search doesn't die there.
+#[inline(always)]
+fn run_inside<T: Transitions>(
+    table: &T,
+    cache: &mut T::Cache,
+    rest: &[u8],
+    row: usize,
+    request: &Request,
+) -> Option<Reading>
+    requires cache { (T.view table.now false).IsCache cache.old }
+    requires row { (T.view table.now false).IsRow cache.old row }
+    requires fits { request.now.from + length rest.now ≤ usize.MAX }
+    ensures cache { (T.view table.now false).IsCache cache.new }
+    ensures spends { (T.view table.now false).Spends cache.old cache.new 1 }
+    ensures over { (o : Outset T.Cache)
+        → IsAt (T.view table.now false) false o request.now cache.old request.now.from
+        (record { row = row; noted = None })
+        → IsPieceOf o.seen request.now.end request.now.from rest.now
+        → request.now.end ≤ slice_end o.seen
+        → IfSome result (λ reading. HasRun (T.view table.now false) false o request.now
+        cache.new reading.read reading.ended) }
+{
+    let (on, there) = table.run::<Forwards>(cache, rest, request.from, row, request.extent);
+    let noted = note_of::<Forwards, T>(table, cache, there.noted, None);
+    if on == rest.len() {
+        return None;
+    }
+    let byte = rest[on];
+    if needs_symbol::<Forwards, T>(table, byte) {
+        return None;
+    }
+    let Ok(cell) = table.next::<Forwards>(cache, there.row, byte) else {
+        return None;
+    };
+    if cell == QUIT {
+        return None;
+    }
+    if has_died(cell) {
+        let at = request.from + on;
+        let noted = noted_by::<Forwards, T>(table, cache, cell, at, noted);
+        let ended = told::<Forwards, T>(table, noted);
+        let read = at + 1;
+        return Some(Reading { ended, read });
+    }
+    None
+}
+
+/// Searches as `search` does, forwards in a piece of the text that begins at the position `start`,
+/// before the search does. Returns None if the search doesn't die in the piece, or would have to read
+/// a symbol.
+#[inline(always)]
+pub fn search_inside<T: Transitions>(
+    table: &T,
+    cache: &mut T::Cache,
+    piece: &[u8],
+    start: usize,
+    request: &Request,
+) -> Option<Reading>
+    requires cache { (T.view table.now false).IsCache cache.old }
+    requires begins { (start < request.now.from) × (request.now.from ≤ start + length piece.now) }
+    requires fits { start + length piece.now ≤ usize.MAX }
+    ensures cache { (T.view table.now false).IsCache cache.new }
+    ensures spends { (T.view table.now false).Spends cache.old cache.new 2 }
+    ensures over { (seen : Searched)
+        → IsPieceOf seen request.now.end start piece.now
+        → request.now.end ≤ slice_end seen
+        → IfSome result (λ reading. IsOver (T.view table.now false) false
+        (record { seen = seen; begun = cache.old }) request.now
+        cache.new reading.read reading.ended) }
+{
+    let place = request.from - start;
+    let before = piece[place - 1];
+    if needs_symbol::<Forwards, T>(table, before) {
+        return None;
+    }
+    let Ok(cell) = table.start::<Forwards>(cache, request.anchored, Some(before)) else {
+        return None;
+    };
+    if cell == QUIT {
+        return None;
+    }
+    if has_died(cell) {
+        let ended = Ended::Found(None);
+        return Some(Reading {
+            ended,
+            read: request.from,
+        });
+    }
+    run_inside::<T>(table, cache, &piece[place..], row_of(cell), request)
+}
