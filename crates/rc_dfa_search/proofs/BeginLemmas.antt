@@ -1,5 +1,5 @@
 -- Searches that ask first whether a match begins where the first one may.
-use Rattle.std.proofs.Common.{◌≡◌, ◌↔◌, ◌∙◌, ℕ, ◌-◌, ◌<◌, ◌≤◌, Bool, true, false, not, ◌||◌, true≢false, List, Option, Some, None, Result, Ok, Err, IfOk, sym, subst, ap, ap₂, refl, arith, inl, inr, ⊎_elim}
+use Rattle.std.proofs.Common.{◌≡◌, ◌↔◌, ◌∙◌, ℕ, ◌<◌, ◌≤◌, Bool, true, false, not, ◌||◌, true≢false, List, Option, Some, None, Result, Ok, Err, IfOk, sym, subst, ap, ap₂, refl, arith, inl, inr, ⊎_elim}
 use Rattle.std.proofs.lemmas.Bool.{cases_lt}
 use Rattle.rc_text.specs.Found.{Found}
 use Rattle.rc_walks.specs.Walks.{Pair}
@@ -32,10 +32,10 @@ use Rattle.rc_dfa_search.specs.Legs.{GoesByNeedles}
 -- WHERE NO WALK BEGINS BEFORE
 
 -- the match is told exactly where it is that of a walk that counts
-abbrev IsTold : Option Found → Search → (ℕ → List Pair → Type 0) → Found → Type 0
+abbrev pub IsTold : Option Found → Search → (ℕ → List Pair → Type 0) → Found → Type 0
 IsTold o s Counts m = (o ≡ Some m) ↔ ((c : Chosen) × IsAnswerOf s Counts c × (found s c ≡ m))
 
-first_told : (s : Search) (m : Found) → IsTold (answer s) s (IsFirstFrom s) m
+pub first_told : (s : Search) (m : Found) → IsTold (answer s) s (IsFirstFrom s) m
 first_told s m = (
   λ e. let r = (answer_law.answer_some s m).0 e in (r.0, (longest_law.first_is s r.0).1 r.1, r.2),
   λ r. (answer_law.answer_some s m).1 (r.0, (longest_law.first_is s r.0).0 r.1, r.2),

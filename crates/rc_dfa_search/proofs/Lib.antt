@@ -26,6 +26,7 @@ pub mod ReverseEndLemmas
 pub mod SameLemmas
 pub mod JumpLemmas
 pub mod BeginLemmas
+pub mod HereLemmas
 pub mod SeenLemmas
 pub mod ReachLemmas
 pub mod SettledLemmas

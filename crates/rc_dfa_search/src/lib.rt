@@ -6,6 +6,7 @@ pub mod build;
 pub mod first;
 pub mod guarded;
 pub mod heads;
+pub mod here;
 pub mod idle;
 pub mod laws;
 pub mod literals;
