@@ -1,6 +1,6 @@
 //! Regex builder: settings, and regexes built under them.
 
-ghost use Rattle.std.specs.Prelude.{◌≡◌, ◌≤◌, ◌/◌, ◌∷◌, [], All, None, false, option_map, IfOk, IfErr, IfSome, List, length, map};
+ghost use Rattle.std.specs.Prelude.{◌≡◌, ◌⊎◌, ◌≤◌, ◌/◌, ◌∷◌, [], All, None, false, option_map, IfOk, IfErr, IfSome, List, length, map};
 ghost use Rattle.rc_pattern.specs.Limits.{greatest_weight};
 ghost use Rattle.rc_text.specs.Limits.{most_patterns};
 ghost use Rattle.rc_pattern.specs.Re.{Re};
@@ -16,7 +16,7 @@ ghost use Rattle.rc_program.specs.Program.{program, shown};
 ghost use Rattle.rc_build.specs.Refusals.{IsBuildable, IsRefusal, limit_by, limit_of};
 ghost use Rattle.rc_settings.specs.Thompson.{which_captures_of};
 ghost use Rattle.rc_settings.specs.Which.{is_grouped};
-ghost use Rattle.rc_settings.specs.Settings.{settings_of, unset, overwritten, nfa_size_limit_of, program_settings, line_terminator_of, match_kind_of, dfa_of, hybrid_of, hybrid_cache_capacity_of, byte_classes_of, unicode_words_of, dfa_size_limit_of, dfa_state_limit_of};
+ghost use Rattle.rc_settings.specs.Settings.{settings_of, unset, overwritten, auto_prefilter_of, nfa_size_limit_of, program_settings, line_terminator_of, match_kind_of, dfa_of, hybrid_of, hybrid_cache_capacity_of, byte_classes_of, unicode_words_of, dfa_size_limit_of, dfa_state_limit_of};
 ghost use Rattle.rc_reach.specs.Laws.{greatest_len};
 ghost use Rattle.rc_dfa.specs.Machine.{symbols};
 ghost use Rattle.rc_strategy.specs.Plans.{IsLazyFor, IsLazyOver};
@@ -233,6 +233,12 @@ fn engines_of(
         → engines.tables ≡ None) }
     ensures no_lazy { IfOk result (λ engines. hybrid_of (settings_of config.now) ≡ false
         → engines.lazy ≡ None) }
+    ensures no_symbols { IfOk result (λ engines. (hybrid_of (settings_of config.now) ≡ false)
+        ⊎ (unicode_words_of (settings_of config.now) ≡ false) → engines.symbols ≡ None) }
+    ensures no_needs { IfOk result (λ engines. auto_prefilter_of (settings_of config.now) ≡ false
+        → engines.needs ≡ None) }
+    ensures no_words { IfOk result (λ engines. auto_prefilter_of (settings_of config.now) ≡ false
+        → engines.words ≡ None) }
 {
     let needs = needs_of(alloc, config, hirs)?;
     let words = words_of(alloc, config, hirs)?;
@@ -254,6 +260,8 @@ fn needs_of(alloc: Global, config: &Config, hirs: &[Hir]) -> Result<Option<Needs
         (λ n. (t : Text) → Holds t (map meaning hirs.now) (needles_of n.needles))) }
     ensures leaves { IfOk result (λ found. IfSome found
         (λ n. (t : Text) → LeavesOut t (map meaning hirs.now) n.stops.table)) }
+    ensures off { IfOk result (λ found. auto_prefilter_of (settings_of config.now) ≡ false
+        → found ≡ None) }
 {
     if !config.get_auto_prefilter() {
         return Ok(None);
@@ -263,8 +271,10 @@ fn needs_of(alloc: Global, config: &Config, hirs: &[Hir]) -> Result<Option<Needs
 
 /// The literals between two assertions, if the pattern is a list of them and searches use literals.
 fn words_of(alloc: Global, config: &Config, hirs: &[Hir]) -> Result<Option<Words>, AllocError>
-    ensures { IfOk result (λ found. IfSome found
+    ensures between { IfOk result (λ found. IfSome found
         (λ w. AreBetween (map meaning hirs.now) (between_in w))) }
+    ensures off { IfOk result (λ found. auto_prefilter_of (settings_of config.now) ≡ false
+        → found ≡ None) }
 {
     if !config.get_auto_prefilter() {
         return Ok(None);

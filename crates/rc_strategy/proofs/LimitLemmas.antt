@@ -26,7 +26,7 @@ use Rattle.rc_dfa_search.specs.Classes.{AreClassesOf}
 use Rattle.rc_dfa_search.specs.Machines.{AreMachines, AreMachinesOver}
 use Rattle.rc_dfa_search.proofs.PatternLemmas.{few_by_weight}
 use Rattle.rc_pikevm_search.specs.declared.engine.Engine.{Engine}
-use Rattle.rc_strategy.specs.Limits.{AreOff, AreTooHeavy, NoneServe}
+use Rattle.rc_strategy.specs.Limits.{AreOff, AreSymbolsOff, AreTooHeavy, NoneServe}
 use Rattle.rc_strategy.specs.Makes.{AreMade, AreOverSymbols}
 use Rattle.rc_strategy.specs.Plans.{IsLazyOver, IsShortFor, plan_of}
 use Rattle.rc_strategy.specs.Tables.{AreHalvesFor, AreHalvesOver, MayBeTablesFor, MayBeTablesOver}
@@ -100,13 +100,14 @@ module _ (e : Engine) (hs : List Re) (a : Automaton) (of : AreMachines hs e.prog
 
   pub symbols_so : (patterns : ℕ) (limits : Limits) → AreClassesOf limits.byte_classes hs e.program.terminator (classes_of a) → places_of e.program.places.items ≡ program hs →
       patterns ≡ length hs → heaviness (places_of e.program.places.items) ≤ 2147483646 → (b : Automaton) → IsOverSymbols a b → (met : Option Lazy) →
-      IfSome met (IsLazyOf b limits.capacity) → AreOverSymbols e patterns hs limits met
-  symbols_so patterns limits classed same counted light b h met made =
+      IfSome met (IsLazyOf b limits.capacity) → (AreSymbolsOff limits → met ≡ None) → AreOverSymbols e patterns hs limits met
+  symbols_so patterns limits classed same counted light b h met made off =
       let own = over_symbols b h in
       let own_classed = subst (AreClassesOf limits.byte_classes hs e.program.terminator) (sym h.classes) classed in record {
         fit = fits symbols e hs b own patterns limits own_classed same counted light met made;
         read = reads symbols e hs b own patterns limits own_classed same counted light met made;
         planned = plans symbols e hs b own patterns limits own_classed same counted light met made;
+        off = off;
       }
 
   module _ (limits : Limits) (classed : AreClassesOf limits.byte_classes hs e.program.terminator (classes_of a)) where
@@ -154,7 +155,7 @@ module _ (e : Engine) (hs : List Re) (a : Automaton) (of : AreMachines hs e.prog
 
 -- there is none
 pub no_symbols : (e : Engine) (patterns : ℕ) (hs : List Re) (limits : Limits) → AreOverSymbols e patterns hs limits None
-no_symbols e patterns hs limits = record { fit = tt; read = tt; planned = tt }
+no_symbols e patterns hs limits = record { fit = tt; read = tt; planned = tt; off = λ off. refl }
 
 -- no needles tell each answer
 pub not_answered : {A B : Type 0} (f : A → B) {b : Bool} {t : Option B} → (o : Option A) → b ≡ is_some o → b ≡ false → option_map f o ≡ t → IsSome t → ⊥

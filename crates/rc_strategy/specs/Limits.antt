@@ -18,6 +18,10 @@ use Rattle.rc_strategy.specs.declared.engines.Limits.{Limits}
 abbrev pub AreOff : List Re → Limits → Type 0
 AreOff hs limits = (limits.dfa ≡ false) ⊎ IsSomeAnd limits.state_limit (λ most. most < length (bytes_of (program hs)))
 
+-- The lazy DFA over symbols may not be built: lazy DFAs are switched off, or those over symbols are.
+abbrev pub AreSymbolsOff : Limits → Type 0
+AreSymbolsOff limits = (limits.hybrid ≡ false) ⊎ (limits.unicode_words ≡ false)
+
 -- No DFA serves: literals alone decide each answer.
 abbrev pub NoneServe : Engine → Type 0
 NoneServe e = IsSome (answering_for e.kind e.literals)

@@ -6,7 +6,7 @@ use Rattle.rc_dfa.specs.Machine.{bytes, symbols}
 use Rattle.rc_lazy_dfa.specs.declared.lazy.Lazy.{Lazy}
 use Rattle.rc_dense_dfa.specs.declared.dense.Dense.{Dense}
 use Rattle.rc_pikevm_search.specs.declared.engine.Engine.{Engine}
-use Rattle.rc_strategy.specs.Limits.{AreBarred, AreTooHeavy, IsLazyBarred}
+use Rattle.rc_strategy.specs.Limits.{AreBarred, AreSymbolsOff, AreTooHeavy, IsLazyBarred}
 use Rattle.rc_strategy.specs.Plans.{IsLazyFor, IsLazyOver, IsShortFor, plan_of}
 use Rattle.rc_strategy.specs.Tables.{MayBeLazyFor, MayBeLazyOver, MayBeTablesFor, MayBeTablesOver}
 use Rattle.rc_strategy.specs.declared.engines.Limits.{Limits}
@@ -23,8 +23,9 @@ pub record AreMade (e : Engine) (patterns : ℕ) (hs : List Re) (limits : Limits
   pub lazy_barred : IsLazyBarred e limits dense → met ≡ None
   pub lazy_none : met ≡ None → IsLazyBarred e limits dense ⊎ IsShortFor (plan_of e hs limits)
 
--- It is that of the engine's patterns, and reads symbols.
+-- It is that of the engine's patterns, and reads symbols. There is none if the limits switch it off.
 pub record AreOverSymbols (e : Engine) (patterns : ℕ) (hs : List Re) (limits : Limits) (met : Option Lazy) : Type 0 where
   pub fit : MayBeLazyFor e patterns met
   pub read : MayBeLazyOver symbols e patterns met
   pub planned : IfSome met (IsLazyOver symbols (plan_of e hs limits))
+  pub off : AreSymbolsOff limits → met ≡ None

@@ -156,7 +156,7 @@ impl Engines {
     ghost use Rattle.rc_strategy.specs.Caches.{IsCacheIn, IsSameCacheIn};
     ghost use Rattle.rc_strategy.specs.Early.{IsHalfBy};
     ghost use Rattle.rc_strategy.specs.Needed.{NeedsConfine};
-    ghost use Rattle.rc_strategy.specs.Limits.{AreBarred, AreTooHeavy, IsLazyBarred};
+    ghost use Rattle.rc_strategy.specs.Limits.{AreBarred, AreSymbolsOff, AreTooHeavy, IsLazyBarred};
     ghost use Rattle.rc_dfa.specs.Machine.{symbols as read_symbols};
     ghost use Rattle.rc_strategy.specs.Plans.{IsLazyFor, IsLazyOver, IsShortFor, plan_of};
     ghost use Rattle.rc_strategy.specs.Lengths.{BoundsWalks};
@@ -208,6 +208,10 @@ impl Engines {
             (λ engines. IsLazyBarred engine limits engines.tables → engines.lazy ≡ None) }
         ensures lazy_none { IfOk result (λ engines. engines.lazy ≡ None
             → IsLazyBarred engine limits engines.tables ⊎ IsShortFor (plan_of engine hs limits)) }
+        ensures symbols_off { IfOk result
+            (λ engines. AreSymbolsOff limits → engines.symbols ≡ None) }
+        ensures needs { IfOk result (λ engines. engines.needs ≡ needs) }
+        ensures words { IfOk result (λ engines. words ≡ None → engines.words ≡ None) }
     {
         let made = machines_of(alloc, &engine, needs.is_some(), patterns, limits)?;
         let words = words_beside(words, &made.tables.dense);

@@ -1,6 +1,6 @@
 //! Searches by words: literals and the assertions on their two sides decide the match, if the
 //! pattern is a list of literals between two assertions.
-ghost use Rattle.std.specs.Prelude.{◌≡◌, Some};
+ghost use Rattle.std.specs.Prelude.{◌≡◌, None, Some};
 ghost use Rattle.rc_words.specs.declared.words.Words.{Words as WordsOf};
 
 use crate::engines::Engines;
@@ -15,7 +15,8 @@ use rc_words::words::Words;
 /// Returns the words by which searches go: none if there is a DFA, which reads a byte as fast and
 /// begins at no candidate anew.
 pub(crate) fn words_beside(words: Option<Words>, dense: &Option<Dense>) -> Option<Words>
-    ensures { (w : WordsOf) → result ≡ Some w → words ≡ Some w }
+    ensures same { (w : WordsOf) → result ≡ Some w → words ≡ Some w }
+    ensures none { words ≡ None → result ≡ None }
 {
     if dense.is_some() {
         return None;

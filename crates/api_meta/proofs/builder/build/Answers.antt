@@ -1,19 +1,22 @@
-use Rattle.std.proofs.Common.{◌≡◌, ◌∙◌, ◌≤◌, IfSome, Some, ap, arith, map, refl, subst, sym}
+use Rattle.std.proofs.Common.{◌≡◌, ◌∙◌, ◌≤◌, ⊎_elim, ℕ, Bool, IfSome, List, None, Option, Some, ap, arith, false, inl, inr, map, refl, subst, sym, true≢false}
 use Rattle.std.specs.Prelude.{All}
 use Rattle.rc_pattern.specs.Meaning.{meaning}
+use Rattle.rc_pattern.specs.Re.{Re}
 use Rattle.rc_pattern.specs.WellFormed.{IsWellFormed}
 use Rattle.rc_program.specs.Laws.{heaviness}
 use Rattle.rc_program.specs.Places.{places_of}
 use Rattle.rc_program.specs.Program.{program, shown}
 use Rattle.rc_program.proofs.GroupLemmas.{shown_lighter}
 use Rattle.rc_program.proofs.WeightLemmas.{program_weighs}
-use Rattle.rc_settings.specs.Settings.{dfa_of, hybrid_of, settings_of as all_of, program_settings}
+use Rattle.rc_settings.specs.Settings.{auto_prefilter_of, dfa_of, hybrid_of, prefilter_of, settings_of as all_of, program_settings, unicode_words_of}
 use Rattle.rc_settings.specs.Thompson.{Settings, line_terminator_of, nfa_size_limit_of, settings_of, which_captures_of}
 use Rattle.rc_settings.specs.Which.{is_grouped}
 use Rattle.rc_reach.specs.Laws.{greatest_len}
 use Rattle.rc_build.specs.Refusals.{IsBuildable, limit_of}
 use Rattle.rc_build.proofs.Runnable.{bounded}
 use Rattle.rc_dfa.specs.Machine.{symbols}
+use Rattle.rc_pikevm_search.specs.Choices.{IsGuard, answering, guarding}
+use Rattle.rc_pikevm_search.specs.declared.engine.Engine.{Engine}
 use Rattle.rc_strategy.specs.Plans.{IsLazyFor, IsLazyOver}
 use Rattle.api_meta.specs.Plans.{plan_by}
 use Rattle.api_meta.specs.Reaching.{longest_after}
@@ -74,11 +77,36 @@ pub invariant_of-result-clause-bounded : goal.invariant_of-result-clause-bounded
 invariant_of-result-clause-bounded c =
     c.in_ok-engines.ensures.bounded ∙ ap (λ xs. greatest_len (map meaning xs)) c.deref.ensures.value
 
+-- if no others may be used, the needles are the ones asked for
+own_guard : (hs : List Re) (asked : Option (List (List ℕ))) (is_auto : Bool) (guard : Option (List (List ℕ))) → is_auto ≡ false →
+    IsGuard hs asked is_auto guard → IfSome guard (λ needles. asked ≡ Some needles)
+own_guard hs asked is_auto None off h = tt
+own_guard hs asked is_auto (Some needles) off h = ⊎_elim (λ own. own.0) (λ others. absurd (true≢false (sym others.0 ∙ off))) h.2
+
 -- what is switched off isn't there
 pub returns-clause-engines : goal.returns-clause-engines
 returns-clause-engines c =
     let same = c.in_ok-config.ensures.same in
+    let made = c.in_ok-engines.ensures in
+    let built = c.in_ok-built.ensures in
+    let hs = map meaning c.args.hirs.now in
     record {
-      no_tables = λ off. c.in_ok-engines.ensures.no_tables (sym (ap dfa_of same) ∙ off);
-      no_lazy = λ off. c.in_ok-engines.ensures.no_lazy (sym (ap hybrid_of same) ∙ off);
+      no_tables = λ off. made.no_tables (sym (ap dfa_of same) ∙ off);
+      no_lazy = λ off. made.no_lazy (sym (ap hybrid_of same) ∙ off);
+      no_symbols = λ off. made.no_symbols (⊎_elim (λ lazy. inl (sym (ap hybrid_of same) ∙ lazy)) (λ words. inr (sym (ap unicode_words_of same) ∙ words)) off);
+      no_literals = λ off.
+          let auto = sym (ap auto_prefilter_of same) ∙ off in
+          let none_auto = c.get_auto_prefilter.ensures ∙ auto in
+          let unanswered = built.unanswered none_auto in
+          let e = c.in_ok-built.built.engine in
+          let own = own_guard hs _ c.get_auto_prefilter.result (guarding e.literals) none_auto (built.guards unanswered) in
+          record {
+            no_answers = ap (λ (x : Engine). answering x.literals) made.engine ∙ unanswered;
+            no_prefixes = subst (λ (x : Engine). IfSome (guarding x.literals) (λ needles. prefilter_of (all_of c.in_ok-config.config) ≡ Some needles))
+                (sym made.engine)
+                (subst (λ asked. IfSome (guarding e.literals) (λ needles. asked ≡ Some needles))
+                (c.get_prefilter.ensures ∙ sym (ap prefilter_of same)) own);
+            no_needs = made.no_needs auto;
+            no_words = made.no_words auto;
+          };
     }

@@ -1,4 +1,4 @@
-use Rattle.std.proofs.Common.{◌≡◌, ◌∙◌, ℕ, Bool, List, IfSome, None, Ok, Err, Result, false, inl, ap, length, map, subst, sym}
+use Rattle.std.proofs.Common.{◌≡◌, ◌⊎◌, ◌∙◌, ⊎_elim, ℕ, Bool, List, IfSome, None, Ok, Err, Result, false, inl, inr, ap, length, map, subst, sym}
 use Rattle.std.specs.Result.{IfOk}
 use Rattle.std.specs.Prelude.{All}
 use Rattle.std.proofs.lemmas.List.{length-map}
@@ -14,14 +14,14 @@ use Rattle.rc_literals.proofs.ConfineLemmas.{need_law}
 use Rattle.rc_words.specs.Words.{AreBetween, SpellWords, between_in}
 use Rattle.rc_words.specs.declared.words.Words.{Words}
 use Rattle.rc_words.proofs.AnswerLemmas.{word_law}
-use Rattle.rc_settings.specs.Settings.{Settings, settings_of, program_settings, byte_classes_of, dfa_of, hybrid_cache_capacity_of, hybrid_of, line_terminator_of, match_kind_of}
+use Rattle.rc_settings.specs.Settings.{Settings, auto_prefilter_of, settings_of, program_settings, byte_classes_of, dfa_of, hybrid_cache_capacity_of, hybrid_of, line_terminator_of, match_kind_of, unicode_words_of}
 use Rattle.rc_settings.specs.Thompson.{which_captures_of}
 use Rattle.rc_settings.specs.Which.{is_grouped}
 use Rattle.rc_program.proofs.GroupLemmas.{length-shown}
 use Rattle.rc_text.specs.declared.types.MatchKind.{MatchKind}
 use Rattle.rc_pattern.specs.Re.{Re}
 use Rattle.rc_reach.specs.Laws.{greatest_len}
-use Rattle.rc_strategy.specs.Limits.{IsLazyBarred}
+use Rattle.rc_strategy.specs.Limits.{AreSymbolsOff, IsLazyBarred}
 use Rattle.rc_strategy.specs.Plans.{IsLazyFor, IsLazyOver, LazyPlan, plan_of}
 use Rattle.rc_dfa.specs.Machine.{symbols}
 use Rattle.rc_pikevm_search.specs.declared.engine.Engine.{Engine}
@@ -47,7 +47,7 @@ new-requires g c =
         (
           λ w there. subst (λ ps. SpellWords ps c.args.engine.program.terminator (between_in w)) (sym is)
               (word_law.spell hs grouped c.args.engine.program.terminator (between_in w) bounded
-              (subst (λ o. IfSome o (λ (k : Words). AreBetween hs (between_in k))) there c.in_ok-words.ensures)),
+              (subst (λ o. IfSome o (λ (k : Words). AreBetween hs (between_in k))) there c.in_ok-words.ensures.between)),
           (c.requires.1.0, (sym (ap length c.requires.0 ∙ length-shown grouped hs ∙ length-map c.args.hirs.now meaning), c.requires.1.1.0)),
         ),
       ),
@@ -100,3 +100,22 @@ returns-clause-no_lazy g c =
     IfOk-weaker c.new.result (λ (v : Engines). IsLazyBarred c.args.engine c.limits_of.result v.tables → v.lazy ≡ None)
     (λ (v : Engines). hybrid_of (settings_of c.args.config.now) ≡ false → v.lazy ≡ None)
     (λ v none off. none (inl (c.limits_of.ensures.hybrid ∙ off))) c.new.ensures.lazy_barred
+
+pub returns-clause-no_symbols : goal.returns-clause-no_symbols
+returns-clause-no_symbols g c =
+    IfOk-weaker c.new.result (λ (v : Engines). AreSymbolsOff c.limits_of.result → v.symbols ≡ None)
+    (λ (v : Engines). (hybrid_of (settings_of c.args.config.now) ≡ false) ⊎ (unicode_words_of (settings_of c.args.config.now) ≡ false) → v.symbols ≡ None)
+    (λ v none off. none (⊎_elim (λ lazy. inl (c.limits_of.ensures.hybrid ∙ lazy)) (λ words. inr (c.limits_of.ensures.words ∙ words)) off))
+    c.new.ensures.symbols_off
+
+pub returns-clause-no_needs : goal.returns-clause-no_needs
+returns-clause-no_needs g c =
+    IfOk-weaker c.new.result (λ (v : Engines). v.needs ≡ c.in_ok-needs.needs)
+    (λ (v : Engines). auto_prefilter_of (settings_of c.args.config.now) ≡ false → v.needs ≡ None)
+    (λ v same off. same ∙ c.in_ok-needs.ensures.off off) c.new.ensures.needs
+
+pub returns-clause-no_words : goal.returns-clause-no_words
+returns-clause-no_words g c =
+    IfOk-weaker c.new.result (λ (v : Engines). c.in_ok-words.words ≡ None → v.words ≡ None)
+    (λ (v : Engines). auto_prefilter_of (settings_of c.args.config.now) ≡ false → v.words ≡ None)
+    (λ v none off. none (c.in_ok-words.ensures.off off)) c.new.ensures.words

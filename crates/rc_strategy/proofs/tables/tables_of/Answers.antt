@@ -1,5 +1,5 @@
 use Rattle.std.proofs.Common.{sym, ◌∙◌}
-use Rattle.rc_strategy.proofs.LimitLemmas.{answered_so, is_answered, lazy_so, no_symbols, not_answered}
+use Rattle.rc_strategy.proofs.LimitLemmas.{answered_so, dense_so, is_answered, lazy_so, no_symbols, not_answered}
 use Rattle.rc_strategy.proofs.tables.tables_of.Goals as goal
 
 pub returns-then-is_some-clause-made : goal.returns-then-is_some-clause-made
@@ -9,6 +9,13 @@ returns-then-is_some-clause-made g c =
 
 pub returns-then-is_some-clause-symbols : goal.returns-then-is_some-clause-symbols
 returns-then-is_some-clause-symbols g c = no_symbols c.args.engine.now c.args.patterns g.hs c.args.limits
+
+pub returns-then-is_some-2-clause-made : goal.returns-then-is_some-2-clause-made
+returns-then-is_some-2-clause-made g c =
+    dense_so c.args.engine.now c.args.patterns g.hs c.args.limits c.in_ok-dense.dense
+    (not_answered _ c.literals_of.result c.is_some.ensures c.if-is_some.false c.literals_of.ensures.value)
+    c.in_ok-dense.ensures.fit c.in_ok-dense.ensures.read c.in_ok-dense.ensures.off c.in_ok-dense.ensures.none
+    (sym c.is_some-2.ensures ∙ c.if-is_some-2.true)
 
 pub returns-clause-made : goal.returns-clause-made
 returns-clause-made g c =

@@ -11,7 +11,7 @@ pub invariant_of-result-clause-programmed : goal.invariant_of-result-clause-prog
 invariant_of-result-clause-programmed g c = ∣ (g.hs, c.requires.1.1.1.0) ∣₁
 
 pub invariant_of-result-clause-worded : goal.invariant_of-result-clause-worded
-invariant_of-result-clause-worded g c = ∣ (λ w is. c.requires.1.1.0 w (c.words_beside-words.ensures w is)) ∣₁
+invariant_of-result-clause-worded g c = ∣ (λ w is. c.requires.1.1.0 w (c.words_beside-words.ensures.same w is)) ∣₁
 
 pub returns-clause-barred : goal.returns-clause-barred
 returns-clause-barred g c = c.in_ok-made.ensures.made.barred
@@ -27,3 +27,9 @@ returns-clause-lazy_barred g c = c.in_ok-made.ensures.made.lazy_barred
 
 pub returns-clause-lazy_none : goal.returns-clause-lazy_none
 returns-clause-lazy_none g c = c.in_ok-made.ensures.made.lazy_none
+
+pub returns-clause-symbols_off : goal.returns-clause-symbols_off
+returns-clause-symbols_off g c = c.in_ok-made.ensures.symbols.off
+
+pub returns-clause-words : goal.returns-clause-words
+returns-clause-words g c = c.words_beside-words.ensures.none
