@@ -11,6 +11,7 @@ ghost use Rattle.rc_strategy.specs.Lookahead.{IsLookahead};
 ghost use Rattle.rc_strategy.specs.Tables.{MayBeLazyFor, MayBeLazyOver, MayBeTablesFor, MayBeTablesOver};
 ghost use Rattle.rc_strategy.specs.Worded.{AreSpelled};
 
+use crate::at_once::begins_at_once;
 use crate::cache::Cache;
 use crate::lengths::Lengths;
 use crate::lookahead::lookahead_of;
@@ -79,6 +80,9 @@ pub struct Engines {
     pub(crate) words: Option<Words>,
     /// Whether the search for the prefix literals is fast.
     pub(crate) sought_fast: bool,
+    /// Whether each search finds a match where it begins, unless that is passed over, and is likely
+    /// to find one that isn't empty.
+    pub(crate) begins_at_once: bool,
     /// How many bytes the longest literals have.
     pub(crate) longest: LongestLiterals,
     /// How many bytes after their position the assertions look at, at most.
@@ -125,6 +129,7 @@ impl Drop for Engines {
             needs: _,
             words: _,
             sought_fast: _,
+            begins_at_once: _,
             longest: _,
             lookahead: _,
             free_route: _,
@@ -216,6 +221,7 @@ impl Engines {
         let made = machines_of(alloc, &engine, needs.is_some(), patterns, limits)?;
         let words = words_beside(words, &made.tables.dense);
         let sought_fast = are_fast(&engine.literals);
+        let begins_at_once = begins_at_once(&engine.program, &spans);
         let longest = LongestLiterals::new(&engine.literals, &needs);
         let lookahead = lookahead_of(&engine.program);
         let free_route = free_route(&engine, &spans, needs.is_some());
@@ -232,6 +238,7 @@ impl Engines {
             needs,
             words,
             sought_fast,
+            begins_at_once,
             longest,
             lookahead,
             free_route,

@@ -109,6 +109,11 @@ impl Lengths {
         self.least <= 2
     }
 
+    /// Whether a span may be empty, as far as is known.
+    pub(crate) fn may_be_empty(&self) -> bool {
+        self.least == 0
+    }
+
     /// Whether each span begins where a line does, as far as is known.
     pub(crate) fn begin_lines(&self) -> bool {
         self.lines

@@ -1,6 +1,7 @@
 //! Meta strategy: picks what searches: literals alone, a DFA, a lazy DFA or the Pike VM.
 #![tactic(auto)]
 
+mod at_once;
 pub mod cache;
 pub mod engines;
 mod entries;

@@ -25,7 +25,7 @@ use rc_text::types::{Anchored, MatchKind};
 
 /// If more bytes of ASCII than these may begin a match, one of them is likely to: else most attempts
 /// fail.
-const MANY_BYTES: usize = 64;
+pub(crate) const MANY_BYTES: usize = 64;
 
 /// How many bytes are looked at for one over which a match may begin, if it is likely to fail there.
 const NEAR: usize = 16;

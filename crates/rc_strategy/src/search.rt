@@ -8,6 +8,7 @@ use crate::route::{Route, TableChoice};
 use rc_dense_dfa::dense::NoCache;
 use rc_dfa::halves::Halves;
 use rc_dfa_search::guarded::find_end_guarded;
+use rc_dfa_search::here::find_here_first;
 use rc_dfa_search::literals::find_by_guard;
 use rc_dfa_search::search::{Aim, Bounds, find_between, find_end_between, find_to_end};
 use rc_lazy_dfa::lazy;
@@ -187,8 +188,9 @@ impl Engines {
         Ok(Some(Match::new(found.pattern(), Span { start, end })))
     }
 
-    /// Returns the match by a DFA search along the text, without a guard. An `Err` says why the DFA
-    /// has no answer.
+    /// Returns the match by a DFA search along the text, without a guard. If each search finds a
+    /// match where it begins, but some are passed over, an anchored run is tried first. An `Err`
+    /// says why the DFA has no answer.
     #[inline(always)]
     pub(crate) fn find_unguarded<H: Halves, C: Cursor>(
         &self,
@@ -207,7 +209,11 @@ impl Engines {
         ensures within { IfOk result (λ found. IfSome found (IsWithinBounds input.old)) }
     {
         if !self.tells_reach(input) {
-            return find_between(halves, cache, input, self.aim(), bounds);
+            let aim = self.aim();
+            if self.begins_at_once {
+                return find_here_first(halves, cache, input, aim, bounds);
+            }
+            return find_between(halves, cache, input, aim, bounds);
         }
         let settled = self.settle_forwards(halves, cache, input, bounds)?;
         Ok(settled.found)

@@ -9,11 +9,17 @@ use Rattle.rc_strategy.proofs.QuestionLemmas.{tables_may}
 use Rattle.rc_strategy.proofs.ReachLemmas.{answered}
 use Rattle.rc_strategy.proofs.engines.Engines.find_unguarded.Goals as goal
 
+pub returns-then-self-clause-found : goal.returns-then-self-clause-found
+returns-then-self-clause-found g c =
+    let e = c.args.self.now in
+    tables_may e.engine e.patterns c.args.input.now c.requires.own Match c.aim-aim.result c.aim-aim.ensures c.find_here_first.result
+    (λ hs same h. c.find_here_first.ensures.found hs e.engine.program.terminator h)
+
 pub returns-then-not-tells_reach-clause-found : goal.returns-then-not-tells_reach-clause-found
 returns-then-not-tells_reach-clause-found g c =
     let e = c.args.self.now in
-    tables_may e.engine e.patterns c.args.input.now c.requires.own Match c.aim.result c.aim.ensures c.find_between.result
-    (λ hs same h. whole_found c.aim.result hs e.engine.program.terminator c.args.input.now c.args.bounds.low c.requires.bounds.0 c.find_between.result
+    tables_may e.engine e.patterns c.args.input.now c.requires.own Match c.aim-aim.result c.aim-aim.ensures c.find_between.result
+    (λ hs same h. whole_found c.aim-aim.result hs e.engine.program.terminator c.args.input.now c.args.bounds.low c.requires.bounds.0 c.find_between.result
     (c.find_between.ensures.found hs e.engine.program.terminator h))
 
 pub returns-clause-found : goal.returns-clause-found
