@@ -9,7 +9,7 @@ use crate::faults::{Fault, Verdict};
 use crate::inputs::input;
 use crate::row::{Quits, Row, Want, is_refused};
 use crate::slots::Asker;
-use crate::{parses, searches, streams, which};
+use crate::{parses, partial, searches, streams, which};
 use rc_settings::error::BuildError;
 use rc_text::chunks::ChunkCursor;
 use std::alloc::Global;
@@ -138,6 +138,7 @@ fn over_all_cuttings(asker: &mut Asker, engines: &mut Engines, row: &Row)
     parses::agree(asker, engines, row);
     over_each_cutting(asker, engines, row);
     streams::all(asker, engines, row);
+    partial::answers(asker, engines, row);
 }
 
 /// The engines answer the row over each cutting of its text: anew at each move, and as a list of

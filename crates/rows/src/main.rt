@@ -11,6 +11,7 @@ mod grouped;
 mod inputs;
 mod judge;
 mod parses;
+mod partial;
 mod reach;
 mod row;
 mod searches;

@@ -74,6 +74,11 @@ pub struct Row<'a> {
     pub reach: Option<Pair>,
     /// How many matches a stream gives before it ends, at least.
     pub early: usize,
+    /// The match that is final, whatever follows the text.
+    pub settled: Option<Pair>,
+    /// The least and the greatest position of a partial answer. No match begins before them, whatever
+    /// follows the text.
+    pub from: Option<Pair>,
     /// The text, as it stands.
     escaped: &'a str,
     /// How many bytes stand before the text, each `a` where its offset has an even number of binary
@@ -116,6 +121,8 @@ impl<'a> Row<'a> {
             quits: Quits::Nowhere,
             reach: None,
             early: 0,
+            settled: None,
+            from: None,
             escaped: "",
             parities: 0,
         }
@@ -153,6 +160,8 @@ impl<'a> Row<'a> {
             "refused" => self.wants(Want::Refused(value), "none", verdict),
             "alike" => self.wants(Want::Alike, "none", verdict),
             "early" => self.early = number(value, verdict),
+            "final" => self.settled = pair(value, verdict),
+            "from" => self.from = pair(value, verdict),
             "parities" => self.parities = number(value, verdict),
             _ => self.settings.set(name, value, verdict),
         }
