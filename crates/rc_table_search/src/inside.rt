@@ -86,6 +86,9 @@ pub fn search_inside<T: Transitions>(
     if needs_symbol::<Forwards, T>(table, before) {
         return None;
     }
+    if place < piece.len() && needs_symbol::<Forwards, T>(table, piece[place]) {
+        return None;
+    }
     let Ok(cell) = table.start::<Forwards>(cache, request.anchored, Some(before)) else {
         return None;
     };

@@ -124,7 +124,7 @@ fn scalar_from(piece: &[u8], first: usize) -> Option<Scalar>
     ensures within { IfSome result (λ s. s.end ≤ length piece.now) }
 {
     let (c, count) = scalar_at(&piece[first..])?;
-    let end = first.checked_add(count)?;
+    let end = first + count;
     let is_word = is_word_char(c);
     Some(Scalar {
         first,

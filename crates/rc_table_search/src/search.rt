@@ -547,7 +547,7 @@ pub(crate) fn begin<W: Way, T: Transitions, C: Cursor>(
 
 /// Ends a search that came to its bound. The byte beyond, or the end of what the search sees,
 /// decides whether something is found there.
-#[inline(always)]
+#[inline(never)]
 pub(crate) fn finish<W: Way, T: Transitions, C: Cursor>(
     table: &T,
     cache: &mut T::Cache,
@@ -624,7 +624,7 @@ fn go_on<W: Way, T: Transitions, C: Cursor>(
 /// Searches in bytes of the whole content, wherever chunks are cut. Returns what was found last,
 /// and how far the search looked. If a search forwards comes to its bound, it looks at the byte
 /// there, or sees that none is.
-#[inline(always)]
+#[inline(never)]
 pub fn search<W: Way, T: Transitions, C: Cursor>(
     table: &T,
     cache: &mut T::Cache,

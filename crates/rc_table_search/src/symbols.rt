@@ -91,6 +91,7 @@ fn ended_in_piece<C: Cursor>(input: &mut Input<C>, at: usize, byte: u8) -> Optio
 
 /// Returns the symbol of the slice's byte at the offset, which is past ASCII. If it goes on with a
 /// scalar, it begins none, and else it ends none. No byte outside the slice is looked at.
+#[inline(always)]
 pub fn symbol_at<C: Cursor>(input: &mut Input<C>, at: usize, byte: u8) -> Symbol
     requires low { input.old.slice.start ≤ at }
     requires high { at < slice_end input.old }
