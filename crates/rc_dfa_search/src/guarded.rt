@@ -114,7 +114,7 @@ pub fn find_end_guarded<H: Halves, C: Cursor>(
 /// These are the bytes at which the runs forwards looked, and those up to the needle from which the
 /// last one began, with the longest needle from there on. Without a match the end of the slice may
 /// have been looked at. An `Err` says why the DFA has no answer.
-#[inline(always)]
+#[inline(never)]
 pub fn find_settled_guarded<H: Halves, C: Cursor>(
     halves: &H,
     cache: &mut H::Cache,

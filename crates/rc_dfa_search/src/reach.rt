@@ -215,7 +215,7 @@ pub(crate) fn settle_unless<H: Halves, C: Cursor>(
 
 /// Returns the match that `find` returns, and how many bytes settle it: those at which the run
 /// forwards looked.
-#[inline(always)]
+#[inline(never)]
 pub fn find_settled<H: Halves, C: Cursor>(
     halves: &H,
     cache: &mut H::Cache,

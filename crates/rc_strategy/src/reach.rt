@@ -121,11 +121,10 @@ impl Engines {
         settled
     }
 
-    /// Returns the match by a DFA search, if each match begins with a needle and the search for
-    /// these is slow, and how many bytes settle it. If the DFA quits, it searches once more, from
-    /// needle to needle. An `Err` says why the DFA has no answer.
-    #[inline(always)]
-    fn settle_past_quit<H: Halves, C: Cursor>(
+    /// Returns the match by a DFA search from needle to needle, if each match begins with one, and how
+    /// many bytes settle it. An `Err` says why the DFA has no answer.
+    #[inline(never)]
+    fn settle_by_needles<H: Halves, C: Cursor>(
         &self,
         halves: &H,
         cache: &mut H::Cache,
@@ -148,18 +147,14 @@ impl Engines {
             (engine_search self.now.engine input.old) (seen_to alphabet o.reach) o.found) }
         ensures within { IfOk result (λ o. IfSome o.found (IsWithinBounds input.old)) }
     {
-        let aim = self.aim();
-        let settled = find_settled_first(halves, cache, input, aim, &self.tries, bounds);
-        if let Err(MatchError::Quit { .. }) = settled {
-            let guard = Guard::Begins(needles);
-            let longest_len = self.longest.prefix;
-            return find_settled_guarded(halves, cache, input, aim, guard, longest_len, bounds);
-        }
-        settled
+        let guard = Guard::Begins(needles);
+        let longest_len = self.longest.prefix;
+        find_settled_guarded(halves, cache, input, self.aim(), guard, longest_len, bounds)
     }
 
     /// Returns the match by a DFA search along the text, from literal to literal if there are some,
-    /// and how many bytes settle it. An `Err` says why the DFA has no answer.
+    /// and how many bytes settle it. If the DFA quits where the search for the literals is slow, it
+    /// searches once more, from one to the next. An `Err` says why the DFA has no answer.
     #[inline(always)]
     pub(crate) fn settle_forwards<H: Halves, C: Cursor>(
         &self,
@@ -185,10 +180,13 @@ impl Engines {
             let longest_len = self.longest.of_guard(guard);
             return find_settled_guarded(halves, cache, input, aim, guard, longest_len, bounds);
         }
-        match guards_of(&self.engine.literals) {
-            Some(needles) => self.settle_past_quit(halves, cache, input, needles, bounds),
-            None => find_settled_first(halves, cache, input, aim, &self.tries, bounds),
+        let settled = find_settled_first(halves, cache, input, aim, &self.tries, bounds);
+        if let Err(MatchError::Quit { .. }) = settled {
+            if let Some(needles) = guards_of(&self.engine.literals) {
+                return self.settle_by_needles(halves, cache, input, needles, bounds);
+            }
         }
+        settled
     }
 
     /// Returns the match by a DFA search, by its route, and how many bytes settle it. An `Err` says

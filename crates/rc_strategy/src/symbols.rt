@@ -73,7 +73,7 @@ impl Engines {
     /// Replies by the lazy DFA over symbols, if the cache has its states. For the match it goes from
     /// one prefix literal to the next, however slow the search for them is: to read on over symbols
     /// would take longer. Returns None if there is no such DFA, or it has no answer.
-    #[inline(never)]
+    #[inline(always)]
     pub(crate) fn ask_symbols<C: Cursor>(
         &self,
         cache: &mut Option<lazy::Cache>,

@@ -18,14 +18,9 @@ returns-in-Some-clause-settled g c =
     tables_settle e.engine e.patterns c.args.input.now c.aim-aim.result c.requires.own c.aim-aim.ensures c.find_settled_guarded.result
     (λ hs same h. c.find_settled_guarded.ensures.settled hs p.terminator h (subst (λ ps. IsGuard ps p.terminator c.in-Some.guard) same guards))
 
-pub returns-in-None-clause-settled : goal.returns-in-None-clause-settled
-returns-in-None-clause-settled g c =
+pub returns-in_default-2-clause-settled : goal.returns-in_default-2-clause-settled
+returns-in_default-2-clause-settled g c =
     let e = c.args.self.now in
-    tables_settle e.engine e.patterns c.args.input.now c.aim-aim.result c.requires.own c.aim-aim.ensures c.find_settled_first.result
-    (λ hs same h. c.find_settled_first.ensures.settled hs e.engine.program.terminator h (subst (λ ps. TellsOthers ps 0 e.tries.others.flags) same e.tried))
-
-pub settle_past_quit-requires-clause-guards : goal.settle_past_quit-requires-clause-guards
-settle_past_quit-requires-clause-guards g c =
-    let e = c.args.self.now in
-    let p = e.engine.program in
-    c.in-Some-guards_of.ensures.sound (places_of p.places.items) p.terminator p.passes_over e.engine.sound
+    tables_settle e.engine e.patterns c.args.input.now c.aim-aim.result c.requires.own c.aim-aim.ensures c.find_settled_first-settled.result
+    (λ hs same h. c.find_settled_first-settled.ensures.settled hs e.engine.program.terminator h
+    (subst (λ ps. TellsOthers ps 0 e.tries.others.flags) same e.tried))
