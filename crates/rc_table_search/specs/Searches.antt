@@ -1,7 +1,7 @@
 -- Only proofs use this file.
 -- Searches by a table: what their runs keep, and how they end.
 use Rattle.std.specs.Prelude.{◌≡◌, ℕ, ◌+◌, ◌<◌, ◌≤◌, Bool, false, not, List, Option, Some, None, Result, IfOk, IfErr}
-use Rattle.rc_text.specs.Text.{Searched}
+use Rattle.rc_text.specs.Text.{Searched, slice_end}
 use Rattle.rc_program.specs.Text.{Text}
 use Rattle.rc_program.specs.Sought.{text_of}
 use Rattle.rc_determinize.specs.States.{State}
@@ -9,9 +9,11 @@ use Rattle.rc_symbols.specs.Symbols.{IsSymbolAt}
 use Rattle.rc_dfa.specs.Machine.{Machine, IsAsked}
 use Rattle.rc_dfa.specs.Runs.{MayReadSide, BeginsBy, LeadsAcross, met_last}
 use Rattle.rc_dfa.specs.Ended.{gave_up}
+use Rattle.rc_dfa.specs.Inside.{IsPieceOf}
 use Rattle.rc_dfa.specs.Symbols.{symbol_of}
 use Rattle.rc_dfa.specs.declared.symbols.Tagged.{Tagged}
 use Rattle.rc_dfa.specs.declared.ended.Ended.{Ended}
+use Rattle.rc_dfa.specs.declared.ended.Reading.{Reading}
 use Rattle.rc_text.specs.declared.types.Anchored.{Anchored}
 use Rattle.rc_table_search.specs.Walks.{has_died, next_of, row_of}
 use Rattle.rc_table_search.specs.Ways.{Course, EndsFrom, HasEndedBy, HasEndedFrom, IsAhead, IsBeside, IsInSlice, IsOn, RunsBy, far_at, offset_of, side_at, span}
@@ -143,6 +145,32 @@ pub record HasRun {C : Type 0} (v : View C) (backwards : Bool) (o : Outset C) (q
 abbrev pub IsLeg : {C : Type 0} → View C → Bool → Outset C → Request → C → ℕ → Progress → Type 0
 IsLeg v backwards o q c i (Through s) = IsAt v backwards o q c i s
 IsLeg v backwards o q c i (Over reading) = HasRun v backwards o q c reading.read reading.ended
+
+-- If something goes on from the cell, it has a row of the cache.
+abbrev pub IsRowOf : {C : Type 0} → View C → C → ℕ → Type 0
+IsRowOf v c cell = has_died cell ≡ false → v.IsRow c (row_of cell)
+
+-- If the run goes on, it does so at a row of the cache.
+abbrev pub GoesOnIn : {C : Type 0} → View C → C → Progress → Type 0
+GoesOnIn v c (Through s) = v.IsRow c s.row
+GoesOnIn v c (Over reading) = Unit {0}
+
+-- Wherever the piece stands, a search forwards from the place begins where the cell says.
+abbrev pub BeginsInside : {C : Type 0} → View C → C → Anchored → List ℕ → ℕ → ℕ → Type 0
+BeginsInside v c anchored piece place cell = (seen : Searched) (bound start : ℕ) → IsPieceOf seen bound start piece → bound ≤ slice_end seen →
+    BeginsAt v false seen c anchored (start + place) cell
+
+-- Wherever the piece stands, a run that stood so by the first cache at the first place stands so by
+-- the second at the second.
+abbrev pub ReadsOn : {C : Type 0} → View C → Bool → Request → List ℕ → ℕ → C → ℕ → Stand → C → ℕ → Stand → Type 0
+ReadsOn {C} v backwards q piece start old from begin new to stand = (o : Outset C) → IsAhead backwards o.seen q.end start piece →
+    IsAt v backwards o q old (start + from) begin → IsAt v backwards o q new (start + to) stand
+
+-- Wherever the piece stands, a run that stood so by the first cache at the place ended so, by the
+-- second.
+abbrev pub EndsOn : {C : Type 0} → View C → Bool → Request → List ℕ → ℕ → C → ℕ → Stand → C → Reading → Type 0
+EndsOn {C} v backwards q piece start old from begin new reading = (o : Outset C) → IsAhead backwards o.seen q.end start piece →
+    IsAt v backwards o q old (start + from) begin → HasRun v backwards o q new reading.read reading.ended
 
 -- The result of a run that found this last.
 pub record Says {C : Type 0} (v : View C) (backwards : Bool) (IsLast : Machine → Option (ℕ × ℕ) → Type 0) (e : Ended) : Type 0 where

@@ -1,14 +1,22 @@
 //! Search in a piece: runs a DFA forwards by its table over one piece of the text alone.
-ghost use Rattle.std.specs.Prelude.{◌≡◌, ◌+◌, ◌≤◌, ◌<◌, None, false, IfSome, length};
+ghost use Rattle.std.specs.Prelude.{◌≡◌, ◌+◌, ◌-◌, ◌≤◌, ◌<◌, None, false, true, IfSome, length, slice_index_or};
 ghost use Rattle.rc_text.specs.Text.{Searched, slice_end};
 ghost use Rattle.rc_dfa.specs.Inside.{IsPieceOf};
-ghost use Rattle.rc_table_search.specs.Searches.{HasRun, IsAt, IsOver, Outset};
+ghost use Rattle.rc_dfa.specs.Machine.{symbols};
+ghost use Rattle.rc_table_search.specs.Searches.{BeginsInside, HasRun, IsAt, IsOver, IsRowOf, Outset};
 
 use crate::cells::{QUIT, has_died, row_of};
-use crate::search::{Request, needs_symbol, note_of, noted_by, told};
+use crate::run::Stand;
+use crate::scalars::scalar_here;
+use crate::search::{Request, needs_symbol, note_of, noted_by, read_symbols, told};
 use crate::transitions::Transitions;
 use crate::way::Forwards;
 use rc_dfa::ended::{Ended, Reading};
+use rc_dfa::symbols::Symbol;
+use rc_text::types::Anchored;
+
+/// In fewer bytes than this a run over symbols hardly ends, so in a short rest of a piece it isn't begun.
+const SHORT: usize = 24;
 
 /// Runs over the rest of a piece from the row of the search's first state on, up to a byte whose cell
 /// needs a look, and reads that. Returns None if the search doesn't die there.
@@ -58,9 +66,67 @@ fn run_inside<T: Transitions>(
     None
 }
 
+/// Returns the cell in which a search forwards begins at the place, by the symbol before. Returns None
+/// if the piece doesn't have its scalar whole, or the state was refused.
+#[inline(never)]
+fn start_by_symbol<T: Transitions>(
+    table: &T,
+    cache: &mut T::Cache,
+    anchored: Anchored,
+    piece: &[u8],
+    place: usize,
+) -> Option<usize>
+    requires cache { (T.view table.now false).IsCache cache.old }
+    requires reads { (T.view table.now false).alphabet ≡ symbols }
+    requires place { (0 < place) × (place ≤ length piece.now) }
+    requires past { 128 ≤ slice_index_or piece.now (place - 1) 0 }
+    ensures cache { (T.view table.now false).IsCache cache.new }
+    ensures spends { (T.view table.now false).Spends cache.old cache.new 1 }
+    ensures row { IfSome result (IsRowOf (T.view table.now false) cache.new) }
+    ensures cell { IfSome result (BeginsInside (T.view table.now false) cache.new anchored piece.now
+        place) }
+{
+    let byte = piece[place - 1];
+    let scalar = scalar_here(piece, place - 1)?;
+    let tagged = scalar.tag(place - 1);
+    let symbol = Symbol { byte, tagged };
+    let Ok(cell) = table.start_beside::<Forwards>(cache, anchored, symbol) else {
+        return None;
+    };
+    Some(cell)
+}
+
+/// Returns the cell in which a search forwards begins at the place, by the byte before or its symbol.
+/// Returns None if the piece doesn't tell that, or the state was refused.
+#[inline(always)]
+fn start_inside<T: Transitions>(
+    table: &T,
+    cache: &mut T::Cache,
+    anchored: Anchored,
+    piece: &[u8],
+    place: usize,
+) -> Option<usize>
+    requires cache { (T.view table.now false).IsCache cache.old }
+    requires place { (0 < place) × (place ≤ length piece.now) }
+    ensures cache { (T.view table.now false).IsCache cache.new }
+    ensures spends { (T.view table.now false).Spends cache.old cache.new 1 }
+    ensures row { IfSome result (IsRowOf (T.view table.now false) cache.new) }
+    ensures cell { IfSome result (BeginsInside (T.view table.now false) cache.new anchored piece.now
+        place) }
+{
+    let before = piece[place - 1];
+    if needs_symbol::<Forwards, T>(table, before) {
+        return start_by_symbol::<T>(table, cache, anchored, piece, place);
+    }
+    let Ok(cell) = table.start::<Forwards>(cache, anchored, Some(before)) else {
+        return None;
+    };
+    Some(cell)
+}
+
 /// Searches as `search` does, forwards in a piece of the text that begins at the position `start`,
-/// before the search does. Returns None if the search doesn't die in the piece, or would have to read
-/// a symbol.
+/// before the search does. Returns None if the search doesn't die in the piece, or the piece doesn't
+/// have a scalar whole of which it would have to read a symbol, or is too short for symbols.
 #[inline(always)]
 pub fn search_inside<T: Transitions>(
     table: &T,
@@ -73,7 +139,8 @@ pub fn search_inside<T: Transitions>(
     requires begins { (start < request.now.from) × (request.now.from ≤ start + length piece.now) }
     requires fits { start + length piece.now ≤ usize.MAX }
     ensures cache { (T.view table.now false).IsCache cache.new }
-    ensures spends { (T.view table.now false).Spends cache.old cache.new 2 }
+    ensures spends { (T.view table.now false).Spends cache.old cache.new
+        (start + length piece.now - request.now.from + 2) }
     ensures over { (seen : Searched)
         → IsPieceOf seen request.now.end start piece.now
         → request.now.end ≤ slice_end seen
@@ -82,16 +149,7 @@ pub fn search_inside<T: Transitions>(
         cache.new reading.read reading.ended) }
 {
     let place = request.from - start;
-    let before = piece[place - 1];
-    if needs_symbol::<Forwards, T>(table, before) {
-        return None;
-    }
-    if place < piece.len() && needs_symbol::<Forwards, T>(table, piece[place]) {
-        return None;
-    }
-    let Ok(cell) = table.start::<Forwards>(cache, request.anchored, Some(before)) else {
-        return None;
-    };
+    let cell = start_inside::<T>(table, cache, request.anchored, piece, place)?;
     if cell == QUIT {
         return None;
     }
@@ -102,5 +160,17 @@ pub fn search_inside<T: Transitions>(
             read: request.from,
         });
     }
-    run_inside::<T>(table, cache, &piece[place..], row_of(cell), request)
+    let row = row_of(cell);
+    if place < piece.len() && needs_symbol::<Forwards, T>(table, piece[place]) {
+        if piece.len() - place < SHORT {
+            return None;
+        }
+        let stand = Stand { row, noted: None };
+        let read = read_symbols::<Forwards, T>(table, cache, request, piece, start, place, stand);
+        let Err(reading) = read else {
+            return None;
+        };
+        return Some(reading);
+    }
+    run_inside::<T>(table, cache, &piece[place..], row, request)
 }

@@ -159,6 +159,7 @@ pub fn run_over<W: Way, T: Transitions>(
     ensures within { result.0 ≤ length piece.now }
     ensures on { left_of W.BACKWARDS (length piece.now) result.0
         ≤ left_of W.BACKWARDS (length piece.now) from }
+    ensures row { (T.view table.now W.BACKWARDS).IsRow cache.now result.1.row }
     ensures across { GoesAcross (T.view table.now W.BACKWARDS) W.BACKWARDS cache.now piece.now from
         result.0 begin result.1 }
 {

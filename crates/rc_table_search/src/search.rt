@@ -9,12 +9,12 @@ ghost use Rattle.rc_dfa.specs.Machine.{Machine, symbols};
 ghost use Rattle.rc_dfa.specs.Runs.{IsByte};
 ghost use Rattle.rc_dfa.specs.Symbols.{IsPast, symbol_of};
 ghost use Rattle.rc_table_search.specs.Refusals.{is_memory};
-ghost use Rattle.rc_table_search.specs.Walks.{first_of, next_of};
+ghost use Rattle.rc_table_search.specs.Walks.{first_of, left_of, next_of};
 ghost use Rattle.rc_table_search.specs.Ways.{IsBeside, IsBounded, IsInSlice, IsNext, IsOn, LiesWithin, beside_at, offset_of, span};
-ghost use Rattle.rc_table_search.specs.Views.{IsFound, IsNoted, LeadsTo, needs_symbol};
-ghost use Rattle.rc_table_search.specs.Searches.{BeginsAt, HasBegun, HasLed, HasRun, IsAt, IsBegun, IsLeg, IsOver, LeadsAt, Origin, Outset, Says};
+ghost use Rattle.rc_table_search.specs.Views.{IsFound, IsNoted, IsStepOver, LeadsTo, needs_symbol};
+ghost use Rattle.rc_table_search.specs.Searches.{BeginsAt, EndsOn, GoesOnIn, HasBegun, HasLed, HasRun, IsAt, IsBegun, IsLeg, IsOver, IsRowOf, LeadsAt, Origin, Outset, ReadsOn, Says};
 
-use crate::cells::{MET, QUIT, has_died, row_of};
+use crate::cells::{MET, QUIT, SKIP, has_died, row_of};
 use crate::over::run_over;
 use crate::refusal::Refusal;
 use crate::run::{Extent, Stand};
@@ -181,13 +181,16 @@ fn follow<W: Way, T: Transitions>(
     stand: Stand,
     cell: Result<usize, Refusal>,
 ) -> Progress
-    ghost outset: { Outset T.Cache }
-    requires led { HasLed (T.view table.now W.BACKWARDS) W.BACKWARDS outset request.now cache.now at
-        stand cell }
-    requires next { IsNext W.BACKWARDS outset.seen request.now.end at byte }
+    requires cache { (T.view table.now W.BACKWARDS).IsCache cache.now }
+    requires row { IfOk cell (IsRowOf (T.view table.now W.BACKWARDS) cache.now) }
     requires rests { request.now.extent.may_rest ≡ true → W.BACKWARDS ≡ false }
+    requires low { W.BACKWARDS ≡ true → 0 < at }
     requires fits { W.BACKWARDS ≡ false → at < usize.MAX }
-    ensures { IsLeg (T.view table.now W.BACKWARDS) W.BACKWARDS outset request.now cache.now
+    ensures row { GoesOnIn (T.view table.now W.BACKWARDS) cache.now result }
+    ensures leg { (o : Outset T.Cache)
+        → HasLed (T.view table.now W.BACKWARDS) W.BACKWARDS o request.now cache.now at stand cell
+        → IsNext W.BACKWARDS o.seen request.now.end at byte
+        → IsLeg (T.view table.now W.BACKWARDS) W.BACKWARDS o request.now cache.now
         (next_of W.BACKWARDS at) result }
 {
     let read = step_on::<W>(at);
@@ -250,6 +253,32 @@ fn step<W: Way, T: Transitions, C: Cursor>(
     follow::<W, T>(table, cache, request, byte, at, stand, cell)
 }
 
+/// Returns the cell to which the symbol leads from the row, whether it is known or not.
+#[inline(always)]
+fn cell_over<W: Way, T: Transitions>(
+    table: &T,
+    cache: &mut T::Cache,
+    row: usize,
+    symbol: Symbol,
+) -> Result<usize, Refusal>
+    requires cache { (T.view table.now W.BACKWARDS).IsCache cache.old }
+    requires row { (T.view table.now W.BACKWARDS).IsRow cache.old row }
+    requires reads { (T.view table.now W.BACKWARDS).alphabet ≡ symbols }
+    requires past { IsPast symbol }
+    ensures cache { (T.view table.now W.BACKWARDS).IsCache cache.new }
+    ensures spends { (T.view table.now W.BACKWARDS).Spends cache.old cache.new 1 }
+    ensures cell { IfOk result (IsStepOver (T.view table.now W.BACKWARDS) W.BACKWARDS cache.old
+        cache.new row symbol) }
+    ensures refused { IfErr result (λ e. (T.view table.now W.BACKWARDS).GivesUp cache.old
+        cache.new 1 (is_memory e)) }
+{
+    let known = table.known_over::<W>(cache, row, symbol);
+    if known != SKIP {
+        return Ok(known);
+    }
+    table.next_over::<W>(cache, row, symbol)
+}
+
 /// Reads the symbol next to the position.
 #[inline(always)]
 fn step_over<W: Way, T: Transitions>(
@@ -260,19 +289,25 @@ fn step_over<W: Way, T: Transitions>(
     at: usize,
     stand: Stand,
 ) -> Progress
-    ghost outset: { Outset T.Cache }
-    requires at { IsAt (T.view table.now W.BACKWARDS) W.BACKWARDS outset request.now cache.old at stand }
+    requires cache { (T.view table.now W.BACKWARDS).IsCache cache.old }
+    requires row { (T.view table.now W.BACKWARDS).IsRow cache.old stand.row }
     requires reads { (T.view table.now W.BACKWARDS).alphabet ≡ symbols }
     requires past { IsPast symbol }
-    requires symbol { (terminator : ℕ) → IsSymbolAt (text_of terminator outset.seen)
-        (offset_of W.BACKWARDS at) (symbol_of symbol) }
-    requires next { IsNext W.BACKWARDS outset.seen request.now.end at symbol.byte }
     requires rests { request.now.extent.may_rest ≡ true → W.BACKWARDS ≡ false }
+    requires low { W.BACKWARDS ≡ true → 0 < at }
     requires fits { W.BACKWARDS ≡ false → at < usize.MAX }
-    ensures { IsLeg (T.view table.now W.BACKWARDS) W.BACKWARDS outset request.now cache.new
+    ensures cache { (T.view table.now W.BACKWARDS).IsCache cache.new }
+    ensures spends { (T.view table.now W.BACKWARDS).Spends cache.old cache.new 1 }
+    ensures row { GoesOnIn (T.view table.now W.BACKWARDS) cache.new result }
+    ensures leg { (o : Outset T.Cache)
+        → IsAt (T.view table.now W.BACKWARDS) W.BACKWARDS o request.now cache.old at stand
+        → ((terminator : ℕ) → IsSymbolAt (text_of terminator o.seen) (offset_of W.BACKWARDS at)
+        (symbol_of symbol))
+        → IsNext W.BACKWARDS o.seen request.now.end at symbol.byte
+        → IsLeg (T.view table.now W.BACKWARDS) W.BACKWARDS o request.now cache.new
         (next_of W.BACKWARDS at) result }
 {
-    let cell = table.next_over::<W>(cache, stand.row, symbol);
+    let cell = cell_over::<W, T>(table, cache, stand.row, symbol);
     follow::<W, T>(table, cache, request, symbol.byte, at, stand, cell)
 }
 
@@ -286,14 +321,20 @@ fn step_alone<W: Way, T: Transitions>(
     at: usize,
     stand: Stand,
 ) -> Progress
-    ghost outset: { Outset T.Cache }
-    requires at { IsAt (T.view table.now W.BACKWARDS) W.BACKWARDS outset request.now cache.old at stand }
+    requires cache { (T.view table.now W.BACKWARDS).IsCache cache.old }
+    requires row { (T.view table.now W.BACKWARDS).IsRow cache.old stand.row }
     requires small { byte < 128 }
-    requires inside { IsInSlice W.BACKWARDS outset.seen at }
-    requires next { IsNext W.BACKWARDS outset.seen request.now.end at byte }
     requires rests { request.now.extent.may_rest ≡ true → W.BACKWARDS ≡ false }
+    requires low { W.BACKWARDS ≡ true → 0 < at }
     requires fits { W.BACKWARDS ≡ false → at < usize.MAX }
-    ensures { IsLeg (T.view table.now W.BACKWARDS) W.BACKWARDS outset request.now cache.new
+    ensures cache { (T.view table.now W.BACKWARDS).IsCache cache.new }
+    ensures spends { (T.view table.now W.BACKWARDS).Spends cache.old cache.new 1 }
+    ensures row { GoesOnIn (T.view table.now W.BACKWARDS) cache.new result }
+    ensures leg { (o : Outset T.Cache)
+        → IsAt (T.view table.now W.BACKWARDS) W.BACKWARDS o request.now cache.old at stand
+        → IsInSlice W.BACKWARDS o.seen at
+        → IsNext W.BACKWARDS o.seen request.now.end at byte
+        → IsLeg (T.view table.now W.BACKWARDS) W.BACKWARDS o request.now cache.new
         (next_of W.BACKWARDS at) result }
 {
     let cell = table.next::<W>(cache, stand.row, byte);
@@ -301,10 +342,10 @@ fn step_alone<W: Way, T: Transitions>(
 }
 
 /// Reads the symbols that come next at the place, as far as the piece has their scalars whole, and
-/// the ASCII byte after them. The piece begins at the position `start`. Returns the place after them, and how the search stands
-/// there. `Err` says how the search ended among them.
+/// the ASCII byte after them. The piece begins at the position `start`. Returns the place after
+/// them, and how the search stands there. `Err` says how the search ended among them.
 #[inline(never)]
-fn read_symbols<W: Way, T: Transitions>(
+pub(crate) fn read_symbols<W: Way, T: Transitions>(
     table: &T,
     cache: &mut T::Cache,
     request: &Request,
@@ -313,23 +354,20 @@ fn read_symbols<W: Way, T: Transitions>(
     from: usize,
     begin: Stand,
 ) -> Result<(usize, Stand), Reading>
-    ghost outset: { Outset T.Cache }
-    requires at { IsAt (T.view table.now W.BACKWARDS) W.BACKWARDS outset request.now cache.old
-        (start + from) begin }
+    requires cache { (T.view table.now W.BACKWARDS).IsCache cache.old }
+    requires row { (T.view table.now W.BACKWARDS).IsRow cache.old begin.row }
     requires reads { (T.view table.now W.BACKWARDS).alphabet ≡ symbols }
     requires from { from ≤ length piece.now }
-    requires piece { piece.now ≡ slice_range outset.seen.content start (start + length piece.now) }
-    requires inside { (outset.seen.slice.start ≤ start)
-        × (start + length piece.now ≤ slice_end outset.seen) }
-    requires bound { IsBounded W.BACKWARDS outset.seen request.now.end }
-    requires within { LiesWithin W.BACKWARDS start (length piece.now) request.now.end }
     requires rests { request.now.extent.may_rest ≡ true → W.BACKWARDS ≡ false }
     requires fits { start + length piece.now ≤ usize.MAX }
+    ensures cache { (T.view table.now W.BACKWARDS).IsCache cache.new }
+    ensures spends { (T.view table.now W.BACKWARDS).Spends cache.old cache.new
+        (left_of W.BACKWARDS (length piece.now) from) }
     ensures read { IfOk result (λ there. there.0 ≤ length piece.now) }
-    ensures at { IfOk result (λ there. IsAt (T.view table.now W.BACKWARDS) W.BACKWARDS outset
-        request.now cache.new (start + there.0) there.1) }
-    ensures over { IfErr result (λ reading. HasRun (T.view table.now W.BACKWARDS) W.BACKWARDS outset
-        request.now cache.new reading.read reading.ended) }
+    ensures at { IfOk result (λ there. ReadsOn (T.view table.now W.BACKWARDS) W.BACKWARDS request.now
+        piece.now start cache.old from begin cache.new there.0 there.1) }
+    ensures over { IfErr result (EndsOn (T.view table.now W.BACKWARDS) W.BACKWARDS request.now
+        piece.now start cache.old from begin cache.new) }
 {
     let may_rest = request.extent.may_rest;
     let mut stand = begin;
@@ -366,8 +404,9 @@ fn read_symbols<W: Way, T: Transitions>(
 }
 
 /// Runs over a piece up to a byte whose cell needs a look, and reads the symbols that come next. If
-/// the piece begins with a symbol, it reads these alone. The piece begins at the position `start`. Returns the place after them, and how the search stands
-/// there. `Err` says how the search ended among them.
+/// the piece begins with a symbol, it reads these alone. The piece begins at the position `start`.
+/// Returns the place after them, and how the search stands there. `Err` says how the search ended
+/// among them.
 #[inline(always)]
 fn read<W: Way, T: Transitions>(
     table: &T,

@@ -1,4 +1,4 @@
-use Rattle.std.proofs.Common.{◌∙◌, ◌+◌, ◌≤◌, length, sym, arith}
+use Rattle.std.proofs.Common.{◌∙◌, sym, arith}
 use Rattle.rc_table_search.proofs.ScalarLemmas.{scalar_inside}
 use Rattle.rc_table_search.proofs.scalars.scalar_from.Goals as goal
 

@@ -2,6 +2,3 @@ use Rattle.rc_table_search.proofs.search.step.Given as goal
 
 abbrev pub ghost-cell_on : goal.ghost-cell_on
 ghost-cell_on g a = g.outset.seen
-
-abbrev pub ghost-follow : goal.ghost-follow
-ghost-follow g a = g.outset

@@ -1,4 +1,0 @@
-use Rattle.rc_table_search.proofs.search.step_over.Given as goal
-
-abbrev pub ghost-follow : goal.ghost-follow
-ghost-follow g a = g.outset
