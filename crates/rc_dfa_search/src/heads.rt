@@ -1,8 +1,9 @@
 //! First bytes: DFA searches that first try anchored runs where a match may begin. Positions are in
 //! bytes of the whole content.
-ghost use Rattle.std.specs.Prelude.{◌≡◌, ℕ, List, IfOk, IfSome};
+ghost use Rattle.std.specs.Prelude.{◌≡◌, ◌≤◌, ℕ, List, IfOk, IfSome, length};
 ghost use Rattle.rc_text.specs.Bounds.{IsWithinBounds};
 ghost use Rattle.rc_text.specs.Text.{Keeps};
+ghost use Rattle.rc_needles.specs.ByteSets.{AreInside};
 ghost use Rattle.rc_pattern.specs.Re.{Re};
 ghost use Rattle.rc_program.specs.Program.{program};
 ghost use Rattle.rc_dfa_reach.specs.RunReach.{seen_to};
@@ -27,6 +28,24 @@ pub struct Tries {
     pub near: usize,
     /// How many runs are tried.
     pub runs: usize,
+}
+
+/// Returns the index of the first of the bytes over which a match may begin, or how many they are.
+/// Where matches are dense, it's one of the first two, which are looked at without a vector.
+#[inline(always)]
+fn first_over(others: &ByteSet, bytes: &[u8]) -> usize
+    ensures within { result ≤ length bytes.now }
+    ensures passed { AreInside others.now.flags bytes.now result }
+{
+    if bytes.len() > 1 {
+        if !others.flags[bytes[0] as usize] {
+            return 0;
+        }
+        if !others.flags[bytes[1] as usize] {
+            return 1;
+        }
+    }
+    others.first_outside(bytes)
 }
 
 /// Returns the match that `find` returns, and how many bytes settle it. If the search isn't
@@ -65,7 +84,7 @@ pub fn find_settled_first<H: Halves, C: Cursor>(
     while left > 0 && at < high {
         let piece = piece_from(input, at, high);
         let near = piece.len().min(tries.near);
-        let passed = tries.others.first_outside(&piece[..near]);
+        let passed = first_over(&tries.others, &piece[..near]);
         let from = at + passed;
         if passed == near {
             return find_settled(halves, cache, input, aim, bounds);

@@ -18,13 +18,13 @@ use Rattle.rc_dfa_search.proofs.SettledLemmas.{agrees_less, first_settles_some, 
 use Rattle.rc_dfa_search.proofs.ToldLemmas.{kept_high, kept_low, kept_same, kept_search, kept_then}
 use Rattle.rc_dfa_search.proofs.heads.find_settled_first.Given.{Over}
 use Rattle.rc_dfa_search.proofs.heads.find_settled_first.Goals as goal
-use Rattle.rc_dfa_search.proofs.heads.find_settled_first.Goals.{After-first_outside-passed}
+use Rattle.rc_dfa_search.proofs.heads.find_settled_first.Goals.{After-first_over-passed}
 
 -- no match begins before the first byte over which one may
-none : (g : Over) (c : After-first_outside-passed g) (hs : List Re) (terminator : ℕ) (of : AreHalvesOf (g.H.Halves.AreOf c.args.halves.now) c.args.aim hs terminator) →
+none : (g : Over) (c : After-first_over-passed g) (hs : List Re) (terminator : ℕ) (of : AreHalvesOf (g.H.Halves.AreOf c.args.halves.now) c.args.aim hs terminator) →
     TellsOthers (program hs) 0 c.args.tries.now.others.flags → (r : ℕ) → seen_to of.ahead.alphabet c.loop-left.reach ≤ r →
-    c.loop-left.at + c.first_outside-passed.result ≤ r →
-    NoneBeginBelow (search_for c.args.aim hs terminator c.args.input.now) r (c.loop-left.at + c.first_outside-passed.result)
+    c.loop-left.at + c.first_over-passed.result ≤ r →
+    NoneBeginBelow (search_for c.args.aim hs terminator c.args.input.now) r (c.loop-left.at + c.first_over-passed.result)
 none g c hs terminator of tells r less far t in2 agrees z above lt =
     let aim = c.args.aim in
     let s = c.args.input.now in
@@ -38,38 +38,38 @@ none g c hs terminator of tells r less far t in2 agrees z above lt =
           (agrees_less (search_for aim hs terminator s) t (seen_to of.ahead.alphabet c.loop-left.reach) r less agrees) z above h
       | inr h ↦
           others_skipped aim hs terminator u c.args.tries.now.others.flags tells c.piece_from-piece.result.now c.loop-left.at c.min-near.result
-          c.first_outside-passed.result c.piece_from-piece.ensures.bytes (omega (arith, c.piece_from-piece.ensures.within, high, c.requires.bounds, here))
-          (omega (arith, c.min-near.ensures)) c.first_outside-passed.ensures.within c.first_outside-passed.ensures.passed r far t in2
+          c.first_over-passed.result c.piece_from-piece.ensures.bytes (omega (arith, c.piece_from-piece.ensures.within, high, c.requires.bounds, here))
+          (omega (arith, c.min-near.ensures)) c.first_over-passed.ensures.within c.first_over-passed.ensures.passed r far t in2
           (subst (λ (q : Search). AgreesBelow r q t) (sym same) agrees) z (omega (arith, h)) lt
     ]
 
 -- that byte is in the bounds
-inside : (g : Over) (c : After-first_outside-passed g) → ¬ (c.first_outside-passed.result ≡ c.min-near.result) →
-    c.loop-left.at + c.first_outside-passed.result + 1 ≤ c.args.bounds.high
+inside : (g : Over) (c : After-first_over-passed g) → ¬ (c.first_over-passed.result ≡ c.min-near.result) →
+    c.loop-left.at + c.first_over-passed.result + 1 ≤ c.args.bounds.high
 inside g c apart =
     let all = length-take-le c.min-near.result c.piece_from-piece.result.now (omega (arith, c.min-near.ensures)) in
     let here = kept_high c.args.input.now c.loop-left.input c.loop-left.invariant.keeps in
     let high = c.loop-left.invariant.high in
-    let short : c.first_outside-passed.result < c.min-near.result = omega (arith, apart, all, c.first_outside-passed.ensures.within) in
+    let short : c.first_over-passed.result < c.min-near.result = omega (arith, apart, all, c.first_over-passed.ensures.within) in
     omega (arith, short, c.min-near.ensures, c.piece_from-piece.ensures.within, high, here, c.requires.bounds)
 
-goes : (g : Over) (c : After-first_outside-passed g) → GoesByNeedles c.args.aim c.args.input.now.anchored
+goes : (g : Over) (c : After-first_over-passed g) → GoesByNeedles c.args.aim c.args.input.now.anchored
 goes g c =
     goes_free c.args.aim c.args.input.now.anchored c.get_anchored.result c.is_anchored.result c.requires.tells c.get_anchored.ensures c.is_anchored.ensures
     c.if-is_anchored.false
 
 -- the input after the piece
-kept : (g : Over) (c : After-first_outside-passed g) → Keeps c.args.input.now c.piece_from-piece.follows.lender-at-none
+kept : (g : Over) (c : After-first_over-passed g) → Keeps c.args.input.now c.piece_from-piece.follows.lender-at-none
 kept g c =
     kept_then c.args.input.now c.loop-left.input c.piece_from-piece.follows.lender-at-none c.loop-left.invariant.keeps c.piece_from-piece.follows.holds-at-none
 
 pub settle_unless-requires : goal.settle_unless-requires
 settle_unless-requires g c κs within_κs =
-    let k = (goal.at.settle_unless-requires g c).After-first_outside-passed in
+    let k = (goal.at.settle_unless-requires g c).After-first_over-passed in
     let s = c.args.input.now in
     let u = c.piece_from-piece.follows.lender-at-none in
     let keeps = kept g k in
-    let from = c.loop-left.at + c.first_outside-passed.result in
+    let from = c.loop-left.at + c.first_over-passed.result in
     let above = c.loop-left.invariant.low in
     let within = inside g k c.if-passed-near.false in
     let low_here = kept_low s u keeps in
@@ -113,11 +113,11 @@ settle_unless-requires g c κs within_κs =
 
 pub returns-then-is_some-clause-settled : goal.returns-then-is_some-clause-settled
 returns-then-is_some-clause-settled g c hs terminator of tells =
-    let k = (goal.at.returns-then-is_some-clause-settled g c).After-first_outside-passed in
+    let k = (goal.at.returns-then-is_some-clause-settled g c).After-first_over-passed in
     let aim = c.args.aim in
     let s = c.args.input.now in
     let u = c.piece_from-piece.follows.lender-at-none in
-    let from = c.loop-left.at + c.first_outside-passed.result in
+    let from = c.loop-left.at + c.first_over-passed.result in
     let reach = c.max-reach.result in
     let alphabet = of.ahead.alphabet in
     let r = seen_to alphabet reach in
@@ -134,12 +134,12 @@ returns-then-is_some-clause-settled g c hs terminator of tells =
 
 pub loop-left-preserved : goal.loop-left-preserved
 loop-left-preserved g c =
-    let k = (goal.at.loop-left-preserved g c).After-first_outside-passed in
+    let k = (goal.at.loop-left-preserved g c).After-first_over-passed in
     let aim = c.args.aim in
     let s = c.args.input.now in
     let u = c.piece_from-piece.follows.lender-at-none in
     let keeps = kept g k in
-    let from = c.loop-left.at + c.first_outside-passed.result in
+    let from = c.loop-left.at + c.first_over-passed.result in
     let reach = c.max-reach.result in
     let above = c.loop-left.invariant.low in
     let within = inside g k c.if-passed-near.false in
