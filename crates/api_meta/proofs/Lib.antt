@@ -8,4 +8,5 @@ pub mod PatternSpans
 pub mod LentRuns
 pub mod Reaching
 pub mod Looking
+pub mod StopLemmas
 pub mod Partials

@@ -17,8 +17,11 @@ use Rattle.rc_reach.proofs.LawLemmas.{reach_law}
 use Rattle.rc_reach.specs.Laws.{greatest_len}
 use Rattle.rc_reach.specs.Partial.{IsPartial, final, from_place}
 use Rattle.rc_reach.specs.Settled.{AgreesBelow, IsSettled}
+use Rattle.rc_literals.specs.Guard.{IsBehind}
+use Rattle.rc_literals.specs.Needs.{IsBehindStop}
 use Rattle.rc_dfa_search.proofs.SettledLemmas.{agrees_less}
 use Rattle.rc_dfa_search.proofs.ToldLemmas.{kept_high}
+use Rattle.api_meta.proofs.StopLemmas.{from_stop}
 use Rattle.api_meta.proofs.Reaching.{kept, longest_is, regex_bounded, search_inside}
 use Rattle.api_meta.specs.Partials.{IsFarOn, far_on}
 use Rattle.api_meta.specs.declared.partial.Partial.{Partial}
@@ -81,7 +84,7 @@ from_start q kind i t on m found =
 
 -- in code
 module _ (r : Regex) (i : Searched) where
-  abbrev S : Search
+  abbrev pub S : Search
   S = search_for (sought r) i
 
   pub from_there : (from : ℕ) → from ≡ low i → IsPartial (regex_kind r) S (from_place from)
@@ -97,6 +100,17 @@ module _ (r : Regex) (i : Searched) where
       (λ some. from_length (sought r) (regex_kind r) i other (regex_bounded r) n (sym (longest_is (regex_patterns r)) ∙ sym r.measured ∙ len) o is k (omega (arith, some, fits, fars, below)) before)
       (λ none t on m found. omega (arith, none))
       (cases_lt 0 k)))
+
+  -- a stop byte with three bytes behind it, and a place that isn't behind it, or behind the start of what was found
+  pub from_behind : regex_kind r ≢ all_matches → (o : Option Found) → o ≡ answer_by (regex_kind r) S → (known first behind k : ℕ) → known ≡ high i - 3 →
+      first < known → behind ≤ known → first ≤ behind → behind ≢ first → IsBehind r.stops.table i.content first known behind → k ≤ behind →
+      IfSome o (λ m. k ≤ m.start) → IsPartial (regex_kind r) S (from_place k)
+  from_behind other o is known first behind k is_known some within order moved stop near before =
+      ⊎_elim (λ same. absurd (moved same))
+      (λ (q : IsBehindStop r.stops.table i.content behind).
+      from_stop (sought r) (regex_kind r) i other (regex_bounded r) r.stops.table r.stopped o is (behind - 1) q.0 q.1 q.2 (omega (arith, is_known, some, within, order))
+      k (omega (arith, near)) before)
+      stop.least
 
 -- a place that the lengths tell
 pub is_far_on : (r : Regex) (i : Searched) (o : Option Found) (n : ℕ) → r.longest ≡ Some n → (k : ℕ) → far_on n i o ≤ k →

@@ -32,6 +32,7 @@ use rc_build::build::build_all;
 use rc_build::texts::parse_all;
 use rc_literals::guard::Needs;
 use rc_literals::needs;
+use rc_literals::stops::stops_of;
 use rc_parser::Grammar;
 use rc_pattern::hir::Hir;
 use rc_pikevm_search::engine::Engine;
@@ -197,6 +198,7 @@ pub(crate) fn build(
     let hirs = built.hirs;
     let engines = engines_of(alloc, config, &hirs, built.engine)?;
     let longest = greatest_length(&hirs);
+    let stops = stops_of(&hirs);
     let config = config.try_clone(alloc)?;
     Ok(Regex {
         config,
@@ -204,6 +206,7 @@ pub(crate) fn build(
         engines,
         info: built.info,
         longest,
+        stops,
     })
 }
 

@@ -7,13 +7,17 @@ use crate::cache::Cache;
 use crate::reach::LOOKS_AHEAD;
 use crate::regex::Regex;
 use rc_dfa_search::reach::Settled;
+use rc_literals::guard::behind_stop;
 use rc_text::cursor::Cursor;
 use rc_text::input::{Input, high, low, move_to, position};
 use rc_text::types::{Match, MatchKind};
 
-/// If the lengths of the patterns rule out matches that begin in the first so many bytes, or in half
-/// of them if those are more, nothing else is asked.
+/// If the lengths of the patterns, or their stop bytes, rule out matches that begin in the first so
+/// many bytes, or in half of them if those are more, nothing else is asked.
 const FAR: usize = 256;
+
+/// How many bytes are looked through for a stop byte, at most.
+const NEAR: usize = 1024;
 
 /// What the content that is here tells of a search, if more may follow it.
 #[derive(Clone, Copy, Debug, PartialEq, Eq)]
@@ -45,9 +49,10 @@ impl Regex {
     /// Otherwise a search of a content that goes on may begin at the position that is returned.
     ///
     /// If no pattern matches more than n bytes, and the kind isn't `MatchKind::All`, that is at most
-    /// n + 3 bytes before the end of the bounds, or where the match that was found begins. If a DFA
-    /// searches for a leftmost-first match, and none is passed over, it may be later: about the last
-    /// position at which nothing is under way. Otherwise it is where this search begins.
+    /// n + 3 bytes before the end of the bounds, or where the match that was found begins. It may be
+    /// later: behind a byte that no match contains, or, if a DFA searches for a leftmost-first match
+    /// and none is passed over, about the last position at which nothing is under way. Otherwise it
+    /// is where this search begins.
     #[inline(always)]
     pub fn search_partial_with<C: Cursor>(&self, cache: &mut Cache, input: &mut Input<C>) -> Partial
         requires made { IsCacheFor (regex_patterns self.now) (regex_settings self.now) cache.old }
@@ -87,8 +92,8 @@ impl Regex {
         self.partial_by_lengths(cache, input, reached)
     }
 
-    /// Returns what the content tells of a search that found this, by the lengths of the patterns,
-    /// or else by what is under way.
+    /// Returns what the content tells of a search that found this, by the lengths of the patterns
+    /// and the bytes that no match contains, or else by what is under way.
     #[inline(never)]
     fn partial_by_lengths<C: Cursor>(
         &self,
@@ -118,8 +123,12 @@ impl Regex {
         if is_far(input, by_length) {
             return Partial::From(by_length);
         }
+        let told = by_length.max(self.undecided_by_stop(settled.found, input));
+        if is_far(input, told) {
+            return Partial::From(told);
+        }
         let idle = self.engines.undecided_from(&mut cache.inner, input);
-        Partial::From(idle.max(by_length))
+        Partial::From(idle.max(told))
     }
 
     /// Returns what the content tells of a search that goes from needle to needle. Returns None if it
@@ -174,6 +183,36 @@ impl Regex {
         match found {
             Some(found) => from.max(far.min(found.start())),
             None => from.max(far),
+        }
+    }
+
+    /// Returns a position before which no match begins, as far as the last stop byte tells: a match
+    /// that begins before that byte ends before it too, and a search would have found it.
+    fn undecided_by_stop<C: Cursor>(&self, found: Option<Match>, input: &mut Input<C>) -> usize
+        requires answer { found
+            ≡ answer_by (regex_kind self.now) (search_for (sought self.now) input.old) }
+        ensures keeps { Keeps input.old input.new }
+        ensures told { IsPartial (regex_kind self.now) (search_for (sought self.now) input.old)
+            (from_place result) }
+        ensures within { (low input.old ≤ result) × (result ≤ max (low input.old) (high input.old)) }
+    {
+        let from = low(input);
+        let kind = self.get_config().get_match_kind();
+        if let MatchKind::All = kind {
+            return from;
+        }
+        let known = high(input).saturating_sub(LOOKS_AHEAD - 1);
+        let first = from.max(known.saturating_sub(NEAR));
+        if known <= first {
+            return from;
+        }
+        let behind = behind_stop(input, &self.stops, first, known);
+        if behind == first {
+            return from;
+        }
+        match found {
+            Some(found) => from.max(behind.min(found.start())),
+            None => behind,
         }
     }
 }

@@ -10,6 +10,8 @@ ghost use Rattle.rc_strategy.specs.Plans.{IsLazyFor, IsLazyOver};
 ghost use Rattle.api_meta.specs.Plans.{plan_by};
 ghost use Rattle.api_meta.specs.Reaching.{longest_after};
 ghost use Rattle.rc_pattern.specs.Meaning.{meaning};
+ghost use Rattle.rc_program.specs.Text.{Text};
+ghost use Rattle.rc_literals.specs.Needs.{LeavesOut};
 ghost use Rattle.rc_settings.specs.Settings.{settings_of, program_settings, auto_prefilter_of, prefilter_of, match_kind_of};
 
 use crate::builder::{Builder, build};
@@ -20,6 +22,7 @@ use crate::seeker::{GroupSeeker, Seeker, Standing};
 use rc_captures::captures;
 use rc_captures::captures::Captures;
 use rc_captures::groups::GroupInfo;
+use rc_literals::stops::Stops;
 use rc_parser::Grammar;
 use rc_pattern::check::properties_of;
 use rc_pattern::hir::Hir;
@@ -42,6 +45,8 @@ pub struct Regex {
     pub(crate) info: GroupInfo,
     /// The greatest length of the patterns in bytes, or `None` if one of them has none.
     pub(crate) longest: Option<usize>,
+    /// The bytes that no match contains.
+    pub(crate) stops: Stops,
     ghost fits: { Fits (program_settings (settings_of config)) (match_kind_of (settings_of config))
         (map meaning hirs.items) engines.engine info },
     ghost planned: { ∥ IfSome engines.lazy
@@ -49,6 +54,7 @@ pub struct Regex {
     ghost symbols: { ∥ IfSome engines.symbols
         (IsLazyOver symbols (plan_by (map meaning hirs.items) (settings_of config))) ∥₁ },
     ghost measured: { longest ≡ longest_after (Some 0) (map meaning hirs.items) },
+    ghost stopped: { (t : Text) → LeavesOut t (map meaning hirs.items) stops.table },
     ghost bounded: { engines.spans.greatest ≡ greatest_len (map meaning hirs.items) },
     ghost well_formed: { ∥ All IsWellFormed (map meaning hirs.items) ∥₁ },
     // No needles, if none are asked for.
@@ -65,6 +71,7 @@ impl Drop for Regex {
             engines: _,
             info: _,
             longest: _,
+            stops: _,
         } = self;
     }
 }

@@ -89,7 +89,12 @@ pub fn next_start<C: Cursor>(
 
 /// Returns the position after the last stop byte before the needle, but at least `at`, in bytes.
 #[inline(always)]
-fn behind_stop<C: Cursor>(input: &mut Input<C>, stops: &Stops, at: usize, needle: usize) -> usize
+pub fn behind_stop<C: Cursor>(
+    input: &mut Input<C>,
+    stops: &Stops,
+    at: usize,
+    needle: usize,
+) -> usize
     requires ordered { at ≤ needle }
     requires inside { needle ≤ length input.old.content }
     ensures keeps { Keeps input.old input.new }

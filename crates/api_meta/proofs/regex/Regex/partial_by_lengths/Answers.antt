@@ -43,4 +43,14 @@ returns-clause-far g c =
     let here = c.has_bytes-are_here in
     let by = c.undecided_by_length-by_length in
     later_on (regex_kind r) (regex_patterns r) i here.new.input c.args.settled.found (answer_by (regex_kind r) (search_for (sought r) i)) by.result c.max.result
-    (kept_then i reach.new.input here.new.input reach.ensures.keeps here.ensures.keeps) c.requires.answer (omega (arith, c.max.ensures)) by.ensures.far
+    (kept_then i reach.new.input here.new.input reach.ensures.keeps here.ensures.keeps) c.requires.answer (omega (arith, c.max-told.ensures, c.max.ensures)) by.ensures.far
+
+pub returns-then-is_far-2-clause-far : goal.returns-then-is_far-2-clause-far
+returns-then-is_far-2-clause-far g c =
+    let r = c.args.self.now in
+    let i = c.args.input.now in
+    let reach = c.reach_of-reach in
+    let here = c.has_bytes-are_here in
+    let by = c.undecided_by_length-by_length in
+    later_on (regex_kind r) (regex_patterns r) i here.new.input c.args.settled.found (answer_by (regex_kind r) (search_for (sought r) i)) by.result c.max-told.result
+    (kept_then i reach.new.input here.new.input reach.ensures.keeps here.ensures.keeps) c.requires.answer (omega (arith, c.max-told.ensures)) by.ensures.far
