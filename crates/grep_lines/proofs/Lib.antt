@@ -5,6 +5,8 @@ mod BlockLemmas
 mod PartLemmas
 mod ContextLemmas
 mod AdvanceLemmas
+mod PassLemmas
+pub mod PieceLemmas
 mod ReadLemmas
 mod StandsLemmas
 mod TouchedLemmas

@@ -6,3 +6,4 @@ pub mod Context
 pub mod Touched
 pub mod Ahead
 pub mod Blocks
+pub mod Pieces

@@ -1,11 +1,19 @@
 -- Which lines are selected. Lines end in the byte `t`.
 use Rattle.std.specs.Prelude.{◌≡◌, ◌≢◌, ◌≤◌, ◌<◌, ℕ, ◌+◌, Bool, false, not, true, List, [], ◌∷◌, ◌++◌, Option, Some, filter, length, slice_index, slice_range}
 use Rattle.grep_lines.specs.Lines.{AreLinesOf, lines}
+use Rattle.grep_lines.specs.declared.select.Passed.{Passed}
 
 -- The first line of a text was read, and `left` holds the others; or there is no line.
 abbrev pub TakesLine : (terminator : ℕ) → List ℕ → Bool → (line : List ℕ) (left : Option (List ℕ)) → Type 0
 TakesLine t text true line left = (rest : List ℕ) × (left ≡ Some rest) × (lines t text ≡ line ∷ lines t rest)
 TakesLine t text false line left = lines t text ≡ []
+
+-- The first line of a text was read: so many bytes, selected or not. `left` holds the others.
+pub record PassesLine (t : ℕ) (picks : List ℕ → Bool) (text : List ℕ) (left : Option (List ℕ)) (p : Passed) : Type 0 where
+  pub line : List ℕ
+  pub taken : TakesLine t text true line left
+  pub counted : p.len ≡ length line
+  pub picked : p.is_selected ≡ picks line
 
 -- A line ends at `end`, the first terminator from the place on. It is unlike the lines before, and so is all from the beginning of one of
 -- them, or of its own, up to there.

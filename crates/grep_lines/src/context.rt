@@ -75,6 +75,13 @@ pub trait LinePrinter<S: LineSelector> {
     fn print_separator(&mut self) -> io::Result<()>
         ensures ok { OnOk result (Prints (printed self.old) (printed self.new) (separator ∷ [])) }
         ensures failed { IfErr result fails_by };
+
+    /// Whether lines are printed, or anything is kept of them. If not, `print_line` needn't be called.
+    fn shows_lines(&self) -> bool
+        ensures { result ≡ false → printed self.now ≡ None }
+    {
+        true
+    }
 }
 
 /// Why lines weren't printed to the end.
@@ -252,7 +259,8 @@ impl Progress {
 /// two that don't touch. Returns the number of selected lines.
 ///
 /// It reads no further than to the last line that is printed if the greatest number of lines is
-/// selected, and else to the end. It keeps as many lines as are printed before a selected one.
+/// selected, and else to the end. It keeps as many lines as are printed before a selected one. If
+/// none is, and the printer shows no lines, it holds of a line what the selector does.
 /// After an error of the reader the first of them were printed, as far as they were known.
 pub fn print_selected<R: BufRead, S: LineSelector, P: LinePrinter<S>>(
     alloc: Global,

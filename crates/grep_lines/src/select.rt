@@ -5,7 +5,7 @@ ghost use Rattle.std.specs.Io.KnownBytes.{Consumes, Keeps};
 ghost use Rattle.std.specs.IoError.{error_kind};
 ghost use Rattle.grep_lines.specs.Lines.{AreLinesOf, lines};
 ghost use Rattle.grep_lines.specs.Pages.{MayTake};
-ghost use Rattle.grep_lines.specs.Selected.{AreSkipped, IsNextSelected, IsStopped, IsTurn, TakesLine};
+ghost use Rattle.grep_lines.specs.Selected.{AreSkipped, IsNextSelected, IsStopped, IsTurn, PassesLine, TakesLine};
 
 use crate::pages::lines_before;
 use memchr::memchr;
@@ -21,6 +21,15 @@ pub struct Stretch {
     pub is_selected: bool,
     /// Where the line at that position ends, if it is known to be unlike them, by its terminator.
     pub turn: Option<usize>,
+}
+
+/// What is known of a line that was read.
+#[derive(Clone, Copy)]
+pub struct Passed {
+    /// The number of its bytes, without its terminator.
+    pub len: u64,
+    /// Whether it is selected.
+    pub is_selected: bool,
 }
 
 /// A selector of lines.
@@ -68,6 +77,38 @@ pub trait LineSelector {
         } else {
             stretch.place
         }
+    }
+
+    /// Reads the next line, and returns its length and whether it is selected, or `None` at the end.
+    /// The bytes after the last terminator are a line, if there are any. `line` is a buffer: what is
+    /// in it afterwards isn't said.
+    ///
+    /// By default the line is held in `line`. A selector that needs not all of it may hold less.
+    ///
+    /// An `Err` is one of the reader, or out of memory, or comes if the line is too long for the
+    /// selector.
+    fn read_next<R: BufRead>(
+        &mut self,
+        reader: &mut R,
+        terminator: u8,
+        line: &mut Vec<u8>,
+    ) -> io::Result<Option<Passed>>
+        ensures passed { IfOk result (λ o. IfSome (R.remaining reader.old) (λ text. MatchOption o
+            (lines terminator text ≡ [])
+            (PassesLine terminator (selects self.old) text (R.remaining reader.new)))) }
+        ensures ended { IfOk result (λ o. IfNone o
+            (Keeps (R.remaining reader.old) (R.remaining reader.new))) }
+        ensures retried { IfErr result (λ e. error_kind e ≢ ErrorKind.Interrupted) }
+        ensures same { selects self.new ≡ selects self.old }
+    {
+        if next_line(reader, terminator, line)? {
+            let is_selected = self.selects(line);
+            return Ok(Some(Passed {
+                len: line.len() as u64,
+                is_selected,
+            }));
+        }
+        Ok(None)
     }
 }
 

@@ -1,7 +1,7 @@
 //! Steps: the next lines of a reader, blocks of its page where that is possible, are printed or kept.
-ghost use Rattle.std.specs.Prelude.{◌≡◌, ◌≤◌, ◌<◌, ◌+◌, ◌-◌, ◌^◌, ◌++◌, ◌∷◌, [], IfErr, IfOk, IfSome, IsTrue, List, MatchOption, OnOk, Option, length, map, nat_lt, take, true, false, ◌&&◌};
+ghost use Rattle.std.specs.Prelude.{◌≡◌, ◌≤◌, ◌<◌, ◌+◌, ◌-◌, ◌^◌, ◌++◌, ◌∷◌, ℕ, [], IfErr, IfOk, IfSome, IsTrue, List, MatchOption, None, OnOk, Option, cond, length, map, nat_lt, take, true, false, ◌&&◌};
 ghost use Rattle.std.specs.IoError.{error_kind};
-ghost use Rattle.grep_lines.specs.Ahead.{IsPlaced, IsSound, contents, plain};
+ghost use Rattle.grep_lines.specs.Ahead.{Advances, IsPlaced, IsSound, contents, plain};
 ghost use Rattle.grep_lines.specs.Blocks.{AdvancesBy, IsAtEnd, IsBlock, IsUntaken, TakesFront, TakesLines, marked_as, selected_in};
 ghost use Rattle.std.specs.Io.KnownBytes.{Keeps};
 ghost use Rattle.grep_lines.specs.Context.{IfPrint, IfRead, IsPrintFault, Part, Prints, selected_parts, size_of};
@@ -398,6 +398,61 @@ impl Progress {
         Ok(Some(selected))
     }
 
+    /// Passes over a line of so many bytes. No line is kept.
+    fn pass_line(&mut self, extent: Extent, is_selected: bool, len: u64)
+        requires none_before { extent.before ≡ 0 }
+        requires fits { self.old.next + length self.old.kept.items + 1 < 2 ^ 64 }
+        requires sound { IsSound extent self.old }
+        requires placed { IsPlaced self.old }
+        ensures passed { (line : List ℕ) → len ≡ length line → Advances extent self.old self.new
+            None None (record { line = line; selected = is_selected }) }
+        ensures sound { IsSound extent self.new }
+        ensures left { self.new.left ≡ cond is_selected extent.after (self.old.left - 1) }
+        ensures placed { IsPlaced self.new }
+    {
+        self.place += u128::from(len) + 1;
+        self.next += 1;
+        if is_selected {
+            self.behind = Some(self.next);
+            self.left = extent.after;
+        } else if self.left > 0 {
+            self.behind = Some(self.next);
+            self.left -= 1;
+        }
+    }
+
+    /// Takes the next line of a reader as `take_next` does, where no line is printed or kept.
+    fn pass_next<R: BufRead, S: LineSelector>(
+        &mut self,
+        reader: &mut R,
+        selector: &mut S,
+        plan: Plan,
+        count: u64,
+        line: &mut Vec<u8>,
+    ) -> io::Result<Option<u64>>
+        requires none_before { plan.extent.before ≡ 0 }
+        requires fits { self.old.next + length self.old.kept.items + 1 < 2 ^ 64 }
+        requires sound { IsSound plan.extent self.old }
+        requires placed { IsPlaced self.old }
+        requires few { count ≤ plan.extent.most }
+        requires context { count ≡ plan.extent.most → 0 < self.old.left }
+        ensures ok { IfOk result (λ o. IfSome (R.remaining reader.old) (λ text. MatchOption o
+            (IsAtEnd plan.terminator self.old self.new None None text (R.remaining reader.new))
+            (λ more. TakesLines plan.terminator plan.extent (S.selects selector.old) self.old
+            self.new None None count more text (R.remaining reader.new)))) }
+        ensures few { IfOk result (λ o. IfSome o (λ more. count + more ≤ plan.extent.most)) }
+        ensures sound { OnOk result (IsSound plan.extent self.new) }
+        ensures placed { OnOk result (IsPlaced self.new) }
+        ensures same { S.selects selector.new ≡ S.selects selector.old }
+    {
+        let Some(passed) = selector.read_next(reader, plan.terminator, line)? else {
+            return Ok(None);
+        };
+        let is_selected = passed.is_selected && count < plan.extent.most;
+        self.pass_line(plan.extent, is_selected, passed.len);
+        Ok(Some(u64::from(is_selected)))
+    }
+
     /// Takes the next line of a reader, behind `count` selected lines. Returns how many of it is
     /// selected, none or one, or `None` at the end.
     fn take_next<R: BufRead, S: LineSelector, P: LinePrinter<S>>(
@@ -428,6 +483,12 @@ impl Progress {
         ensures failed { IfErr result (λ e. IfPrint e (IsPrintFault P.fails_by)) }
         ensures same { S.selects selector.new ≡ S.selects selector.old }
     {
+        if plan.extent.before == 0 && !printer.shows_lines() {
+            return match self.pass_next(reader, selector, plan, count, line) {
+                Ok(taken) => Ok(taken),
+                Err(fault) => Err(PrintError::Read(fault)),
+            };
+        }
         match next_line(reader, plan.terminator, line) {
             Ok(true) => {}
             Ok(false) => return Ok(None),

@@ -299,4 +299,8 @@ impl<'o, F: MatchFinder, W: Write + Drop> LinePrinter<F> for Printer<'o, W> {
         self.is_apart = self.style.separates;
         Ok(())
     }
+
+    fn shows_lines(&self) -> bool {
+        !self.style.is_quiet || self.out.total.is_some()
+    }
 }

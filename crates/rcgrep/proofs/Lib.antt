@@ -3,3 +3,4 @@ mod LineLemmas
 mod TextLemmas
 mod NeededLemmas
 mod KeptLemmas
+mod LongLemmas

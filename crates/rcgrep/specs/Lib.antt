@@ -6,3 +6,4 @@ pub mod Fitted
 pub mod Syntax
 pub mod Needed
 pub mod Kept
+pub mod Long

@@ -1,5 +1,8 @@
 //! Line matching: patterns that select lines.
-ghost use Rattle.std.specs.Prelude.{◌≡◌, ◌<◌, ◌≤◌, ◌++◌, IfOk, IfSome, None, OnOk, cond, false, length, take};
+ghost use Rattle.std.specs.Prelude.{◌≡◌, ◌≢◌, ◌<◌, ◌≤◌, ◌++◌, ℕ, IfErr, IfOk, IfSome, List, None, OnOk, cond, false, length, take};
+ghost use Rattle.std.specs.IoError.{error_kind};
+ghost use Rattle.grep_lines.specs.Pieces.{BeginsLine};
+ghost use Rattle.grep_lines.specs.Selected.{PassesLine};
 ghost use Rattle.rc_text.specs.Joined.{joined};
 ghost use Rattle.rc_program.specs.Kinds.{answer_by};
 ghost use Rattle.rc_program.specs.Sought.{search_for};
@@ -12,8 +15,9 @@ ghost use Rattle.rcgrep.specs.Local.{IsLineEnd, IsLineEndOf, start_or};
 ghost use Rattle.rcgrep.specs.Needed.{needle_or};
 ghost use Rattle.rcgrep.specs.Picked.{IsLine, IsLineFrom, found_from, has_match, is_picked, spans_of, text_matches};
 
+use crate::long_line::LongLine;
 use crate::patterns::Patterns;
-use grep_lines::{LineSelector, Stretch};
+use grep_lines::{Begun, LinePieces, LineSelector, Passed, Stretch, begin_line, read_pieces};
 use grep_output::MatchFinder;
 use memchr::memchr;
 use rc_needles::literal::find_from;
@@ -24,7 +28,7 @@ use regex_cursor::types::{Match, Span};
 use regex_cursor::{Cursor, Input};
 use std::alloc::{AllocError, Global};
 use std::io;
-use std::io::ErrorKind;
+use std::io::{BufRead, ErrorKind};
 use std::marker::Model;
 use std::simd::prelude::*;
 
@@ -37,9 +41,14 @@ const GREATEST: usize = 1 << 20;
 /// The number of bytes of a page that are tested together for one past ASCII.
 const BLOCK: usize = 64;
 
+/// The number of bytes from which on a line is long: it isn't held if it isn't printed. It is more
+/// than a page has, so a line that goes on in the next page is mostly held.
+const LONG: usize = 1 << 17;
+
 /// Selects the lines in which a pattern matches, or the others. It keeps one cache for all lines.
 #[derive(Drop)]
 pub struct LineRegex<'p> {
+    alloc: Global,
     patterns: &'p Patterns,
     cache: Cache,
     /// The groups of the match that was searched for last.
@@ -83,6 +92,7 @@ impl<'p> LineRegex<'p> {
         let captures = patterns.regex.create_captures(alloc)?;
         let cache = patterns.regex.create_cache(alloc)?;
         Ok(LineRegex {
+            alloc,
             patterns,
             cache,
             captures,
@@ -109,6 +119,33 @@ impl<'p> LineRegex<'p> {
         ensures inverted { self.new.is_inverted ≡ self.old.is_inverted }
     {
         self.find(line).is_some()
+    }
+
+    /// Passes over a long line, of which these are the first bytes, and the reader has the others.
+    fn pass_long<R: BufRead>(
+        &mut self,
+        reader: &mut R,
+        terminator: u8,
+        begun: &[u8],
+    ) -> io::Result<Passed>
+        ensures passed { IfOk result (λ passed. (text : List ℕ)
+            → BeginsLine terminator text begun.now (R.remaining reader.old) → 0 < length begun.now
+            → PassesLine terminator (λ line. is_picked self.old.is_inverted
+            (has_match self.old.regex line)) text (R.remaining reader.new) passed) }
+        ensures retried { IfErr result (λ e. error_kind e ≢ ErrorKind.Interrupted) }
+        ensures regex { self.new.regex ≡ self.old.regex }
+        ensures inverted { self.new.is_inverted ≡ self.old.is_inverted }
+    {
+        let mut line = LongLine::new(self.alloc, &self.patterns.regex)?;
+        line.take(begun)?;
+        let rest = read_pieces(reader, terminator, &mut line)?;
+        let Some(len) = rest.checked_add(begun.len() as u64) else {
+            return Err(io::Error::from(ErrorKind::FileTooLarge));
+        };
+        Ok(Passed {
+            len,
+            is_selected: picks(self.is_inverted, line.finish()),
+        })
     }
 
     /// What is known of the first lines of a page, of which this is a part, by the first match in it.
@@ -246,6 +283,13 @@ fn input_over_chunks<'a>(chunks: &'a [&'a [u8]]) -> Result<Input<ChunkCursor<'a>
     Ok(Input::new(ChunkCursor::new(chunks)?))
 }
 
+/// Whether a line is selected that has a match, or has none.
+fn picks(is_inverted: bool, has_match: bool) -> bool
+    ensures { result ≡ is_picked is_inverted has_match }
+{
+    if is_inverted { !has_match } else { has_match }
+}
+
 /// Adds the spans of the matches in the input, or that of the first one alone.
 fn add_matches<C: Cursor>(
     regex: &Regex,
@@ -272,12 +316,7 @@ impl LineSelector for LineRegex<'_> {
     ghost selects = { λ s line. is_picked s.is_inverted (has_match s.regex line) };
 
     fn selects(&mut self, line: &[u8]) -> bool {
-        let has_match = self.has_match(line);
-        if self.is_inverted {
-            !has_match
-        } else {
-            has_match
-        }
+        picks(self.is_inverted, self.has_match(line))
     }
 
     #[inline(always)]
@@ -298,6 +337,25 @@ impl LineSelector for LineRegex<'_> {
         }
         let reach = self.reach_in(page);
         self.stretch_in(&page[..reach])
+    }
+
+    fn read_next<R: BufRead>(
+        &mut self,
+        reader: &mut R,
+        terminator: u8,
+        line: &mut Vec<u8>,
+    ) -> io::Result<Option<Passed>> {
+        match begin_line(reader, terminator, line, LONG)? {
+            Begun::End => Ok(None),
+            Begun::Whole => {
+                let is_selected = self.selects(line);
+                Ok(Some(Passed {
+                    len: line.len() as u64,
+                    is_selected,
+                }))
+            }
+            Begun::Long => Ok(Some(self.pass_long(reader, terminator, line)?)),
+        }
     }
 }
 

@@ -4,6 +4,7 @@
 
 mod faults;
 mod line_regex;
+mod long_line;
 mod patterns;
 mod texts;
 
