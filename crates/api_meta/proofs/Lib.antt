@@ -1,6 +1,7 @@
 pub mod Weights
 pub mod Cached
 pub mod Going
+pub mod NextLemmas
 pub mod Runs
 pub mod Cuts
 pub mod Preferred

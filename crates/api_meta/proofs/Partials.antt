@@ -21,9 +21,9 @@ use Rattle.rc_literals.specs.Guard.{IsBehind}
 use Rattle.rc_literals.specs.Needs.{IsBehindStop}
 use Rattle.rc_dfa_search.proofs.SettledLemmas.{agrees_less}
 use Rattle.rc_dfa_search.proofs.ToldLemmas.{kept_high}
-use Rattle.api_meta.proofs.StopLemmas.{from_stop}
+use Rattle.api_meta.proofs.StopLemmas.{settled_by_stop}
 use Rattle.api_meta.proofs.Reaching.{kept, longest_is, regex_bounded, search_inside}
-use Rattle.api_meta.specs.Partials.{IsFarOn, far_on}
+use Rattle.api_meta.specs.Partials.{IsFarOn, IsSettledBefore, far_on}
 use Rattle.api_meta.specs.declared.partial.Partial.{Partial}
 use Rattle.api_meta.specs.declared.partial.Partial.TheVariants.{Final, From}
 use Rattle.api_meta.specs.Views.{regex_kind, regex_patterns, sought}
@@ -101,16 +101,34 @@ module _ (r : Regex) (i : Searched) where
       (λ none t on m found. omega (arith, none))
       (cases_lt 0 k)))
 
-  -- a stop byte with three bytes behind it, and a place that isn't behind it, or behind the start of what was found
-  pub from_behind : regex_kind r ≢ all_matches → (o : Option Found) → o ≡ answer_by (regex_kind r) S → (known first behind k : ℕ) → known ≡ high i - 3 →
-      first < known → behind ≤ known → first ≤ behind → behind ≢ first → IsBehind r.stops.table i.content first known behind → k ≤ behind →
-      IfSome o (λ m. k ≤ m.start) → IsPartial (regex_kind r) S (from_place k)
-  from_behind other o is known first behind k is_known some within order moved stop near before =
+  -- a stop byte with three bytes behind it
+  pub settled_behind : regex_kind r ≢ all_matches → (known first behind : ℕ) → known ≡ high i - 3 → first < known → behind ≤ known →
+      first ≤ behind → behind ≢ first → IsBehind r.stops.table i.content first known behind → IsSettledBefore (regex_kind r) S behind
+  settled_behind other known first behind is_known some within order moved stop =
       ⊎_elim (λ same. absurd (moved same))
       (λ (q : IsBehindStop r.stops.table i.content behind).
-      from_stop (sought r) (regex_kind r) i other (regex_bounded r) r.stops.table r.stopped o is (behind - 1) q.0 q.1 q.2 (omega (arith, is_known, some, within, order))
-      k (omega (arith, near)) before)
+      subst (IsSettledBefore (regex_kind r) S) (omega (arith, order, moved))
+      (settled_by_stop (sought r) (regex_kind r) i other (regex_bounded r) r.stops.table r.stopped (behind - 1) q.0 q.1 q.2
+      (omega (arith, is_known, some, within, order))))
       stop.least
+
+-- before the content's first byte all is told
+pub settled_at_0 : (kind : MatchKind) (s : Search) → IsSettledBefore kind s 0
+settled_at_0 kind s = record { final = λ at m e early. absurd (omega (arith, early)); onward = λ at o e before t on m found. omega arith }
+
+-- a place up to a settled one, if the match that was found doesn't begin before it
+pub from_settled : (q : Sought) (kind : MatchKind) (i : Searched) (k : ℕ) → IsSettledBefore kind (search_for q i) k →
+    (o : Option Found) → o ≡ answer_by kind (search_for q i) → (p : ℕ) → p ≤ k → IfSome o (λ m. p ≤ m.start) →
+    IsPartial kind (search_for q i) (from_place p)
+from_settled q kind i k settled None is p near before t on m e =
+    let later = settled.onward i.span.start None (sym is) tt t on m e in omega (arith, near, later)
+from_settled q kind i k settled (Some f) is p near before t on m e =
+    ⊎_elim
+    (λ early.
+    let same = same_Some f m (sym (settled.final i.span.start f (sym is) early t on) ∙ e) in
+    subst (λ (g : Found). p ≤ g.start) same before)
+    (λ late. let later = settled.onward i.span.start (Some f) (sym is) late t on m e in omega (arith, near, later))
+    (cases_lt f.start k)
 
 -- a place that the lengths tell
 pub is_far_on : (r : Regex) (i : Searched) (o : Option Found) (n : ℕ) → r.longest ≡ Some n → (k : ℕ) → far_on n i o ≤ k →

@@ -1,5 +1,5 @@
 -- What a byte that no match contains tells of the matches before it.
-use Rattle.std.proofs.Common.{◌≡◌, ◌≢◌, ℕ, ◌+◌, ◌≤◌, All, List, [], ◌∷◌, length, map, Bool, false, not, ◌||◌, IsTrue, Option, Some, IfSome, inl, inr, ⊎_elim, sym, subst, ap, ap₂, ◌∙◌, refl, arith}
+use Rattle.std.proofs.Common.{◌≡◌, ◌≢◌, ℕ, ◌+◌, ◌<◌, ◌≤◌, All, List, [], ◌∷◌, length, map, Bool, false, not, ◌||◌, IsTrue, Option, Some, IfSome, inl, inr, ⊎_elim, sym, subst, ap, ap₂, ◌∙◌, refl, arith}
 use Rattle.std.specs.List.{slice_get}
 use Rattle.std.proofs.lemmas.Bool.{cases_lt, false≢true}
 use Rattle.rc_text.specs.Found.{Found}
@@ -15,18 +15,20 @@ use Rattle.rc_program.specs.Answer.{Search, Chosen, only, ends, next_of, IsFirst
 use Rattle.rc_program.specs.Longest.{IsLongestFrom, IsPassedOf, IsAnswerOf}
 use Rattle.rc_program.specs.Greatest.{IsSpelledIn}
 use Rattle.rc_program.specs.Kinds.{answer_by}
+use Rattle.rc_program.specs.Matches.{from_on}
 use Rattle.rc_program.specs.Sought.{Sought, search_for}
 use Rattle.rc_program.proofs.AnswerLemmas.{answer_law, match_place_is, walk_ends, walk_within}
 use Rattle.rc_program.proofs.GreatestLemmas.{greatest_law}
 use Rattle.rc_program.proofs.GroupLemmas.{group_law, shown_all, without_groups_bounded}
 use Rattle.rc_program.proofs.ReachLemmas.{longest_law}
-use Rattle.rc_reach.specs.Partial.{GoesOnFrom, IsPartial, from_place}
+use Rattle.rc_reach.specs.Partial.{GoesOnFrom, IsPartial, final, from_place}
 use Rattle.rc_reach.specs.Settled.{IsInside}
 use Rattle.rc_reach.specs.Alike.{AreAlike, further}
 use Rattle.rc_reach.proofs.AgreeLemmas.{alike, chosen_stays}
 use Rattle.rc_reach.proofs.AlikeLemmas.{agree}
 use Rattle.rc_reach.proofs.KnownLemmas.{few_seen}
 use Rattle.rc_literals.specs.Needs.{LeavesOut, is_stop}
+use Rattle.api_meta.specs.Partials.{IsSettledBefore}
 
 -- walks may end at the pair
 abbrev EndsIn : Search → Pair → Type 0
@@ -40,45 +42,24 @@ IsWalkFrom s x w = IsWalk (next_of s) (EndsIn s) [] ((0, x) ∷ []) w
 abbrev IsUpTo : ℕ → List Pair → Type 0
 IsUpTo z w = (k : Pair) → IsIn k w → k.1 ≤ z
 
--- ---- walks of two searches
+-- ---- two searches that see the same up to a position
 
--- s has the walks of t from x, no others, and in the same order
-record HasWalksOf (t s : Search) (x : ℕ) : Type 0 where
-  here : (w : List Pair) → IsWalkFrom t x w → IsWalkFrom s x w
-  there : (w : List Pair) → IsWalkFrom s x w → IsWalkFrom t x w
-  order : (v w : List Pair) → IsWalkFrom t x v → IsBefore (next_of t) ((0, x) ∷ []) v w → IsBefore (next_of s) ((0, x) ∷ []) v w
+-- up to z they see the same, and no walk of s from a start up to z goes past z
+record AgreeUpTo (z : ℕ) (s t : Search) : Type 0 where
+  start : (x : ℕ) → x ≤ z → IsStart s x → IsStart t x
+  next : (n : Pair) → n.1 ≤ z → next_of t n ≡ next_of s n
+  ends : (n : Pair) → ends t n ≡ ends s n
+  byte : (p : ℕ) → p ≤ z → slice_get t.text.content p ≡ slice_get s.text.content p
+  near : (x : ℕ) (w : List Pair) → x ≤ z → IsStart s x → IsWalkFrom s x w → IsUpTo z w × ((last_of w).1 ≤ z)
+  passes_over : t.passes_over ≡ s.passes_over
+  places : t.places ≡ s.places
 
--- so it has the same first walk and the same longest one, or none
-none_kept : (t s : Search) (x : ℕ) → HasWalksOf t s x → HasNoWalkFrom t x → HasNoWalkFrom s x
-none_kept t s x has none = λ v b. none v (has.there v b)
-
-first_kept : (t s : Search) (x : ℕ) (w : List Pair) → HasWalksOf t s x → IsFirstFrom t x w → IsFirstFrom s x w
-first_kept t s x w has first = record {
-  is_walk = has.here w first.is_walk;
-  is_least = λ v b. ⊎_elim (λ same. inl same) (λ before. inr (has.order w v first.is_walk before)) (first.is_least v (has.there v b));
-}
-
-longest_kept : (t s : Search) (x : ℕ) (w : List Pair) → HasWalksOf t s x → IsLongestFrom t x w → IsLongestFrom s x w
-longest_kept t s x w has longest = record {
-  is_walk = has.here w longest.is_walk;
-  is_most = λ v b. longest.is_most v (has.there v b);
-  is_least = λ v b e. ⊎_elim (λ same. inl same) (λ before. inr (has.order w v longest.is_walk before)) (longest.is_least v (has.there v b) e);
-}
-
-start_kept : (s t : Search) (x : ℕ) → t.lo ≡ s.lo → t.anchoring ≡ s.anchoring → x ≤ t.hi → IsStart s x → IsStart t x
-start_kept s t x lo anchoring h a =
-    (omega (arith, lo, a.0), h, λ anchored. let e = a.2 (subst (λ o. IsTrue (is_anchored o)) anchoring anchored) in omega (arith, lo, e))
-
--- no further on is where it was
-walk_stays : (w : List Pair) → map (further 0) w ≡ w
-walk_stays w = ap (λ (c : Chosen). c.walk) (chosen_stays (record { start = 0; walk = w }))
-
--- up to z the ways of t are those of s, and walks end at the same pairs
-module _ (s t : Search) (z : ℕ) (same_next : (n : Pair) → n.1 ≤ z → next_of t n ≡ next_of s n) (same_ends : (n : Pair) → ends t n ≡ ends s n) where
+-- so walks of s are walks of t, in the same order
+module _ (z : ℕ) (s t : Search) (there : AgreeUpTo z s t) where
   walk_over : {passed from w : List Pair} → IsWalk (next_of s) (EndsIn s) passed from w → IsUpTo z w → IsWalk (next_of t) (EndsIn t) passed from w
-  walk_over (Stops n here fresh e) near = Stops n here fresh (subst IsTrue (sym (same_ends n)) e)
+  walk_over (Stops n here fresh e) near = Stops n here fresh (subst IsTrue (sym (there.ends n)) e)
   walk_over {passed} (goes {w = w} n here fresh rest) near =
-      goes n here fresh (subst (λ f. IsWalk (next_of t) (EndsIn t) (n ∷ passed) f w) (sym (same_next n (near n (inl refl))))
+      goes n here fresh (subst (λ f. IsWalk (next_of t) (EndsIn t) (n ∷ passed) f w) (sym (there.next n (near n (inl refl))))
       (walk_over rest (λ k i. near k (inr i))))
 
   before_over : (from v w : List Pair) → IsUpTo z v → IsBefore (next_of s) from v w → IsBefore (next_of t) from v w
@@ -88,9 +69,90 @@ module _ (s t : Search) (z : ℕ) (same_next : (n : Pair) → n.1 ≤ z → next
       ⊎_elim (λ a. inl a)
       (λ q. inr (
         q.0,
-        subst (λ f. IsBefore (next_of t) f v w) (sym (same_next n (near n (inl refl)))) (before_over (next_of s n) v w (λ k i. near k (inr i)) q.1),
+        subst (λ f. IsBefore (next_of t) f v w) (sym (there.next n (near n (inl refl)))) (before_over (next_of s n) v w (λ k i. near k (inr i)) q.1),
       ))
       b
+
+  walk_kept : (x : ℕ) (w : List Pair) → x ≤ z → IsStart s x → IsWalkFrom s x w → IsWalkFrom t x w
+  walk_kept x w h start walk = walk_over walk (there.near x w h start walk).0
+
+  order_kept : (x : ℕ) (v w : List Pair) → x ≤ z → IsStart s x → IsWalkFrom s x v → IsBefore (next_of s) ((0, x) ∷ []) v w →
+      IsBefore (next_of t) ((0, x) ∷ []) v w
+  order_kept x v w h start walk before = before_over ((0, x) ∷ []) v w (there.near x v h start walk).0 before
+
+  allowed_kept : (x : ℕ) (w : List Pair) → x ≤ z → IsStart s x → IsWalkFrom s x w → is_allowed t w ≡ is_allowed s w
+  allowed_kept x w h start walk =
+      ap₂ (λ over o. not over || begins_scalar o) there.passes_over (there.byte (last_of w).1 (there.near x w h start walk).1)
+
+  found_kept : (c : Chosen) → found t c ≡ found s c
+  found_kept c =
+      ap (λ ps. let m : Found = record { pattern = pattern_at (place_at ps (last_of c.walk).0); start = c.start; end = (last_of c.walk).1 } in m)
+      there.places
+
+-- if it holds both ways, a match that begins up to z is a match of both
+module _ (z : ℕ) (s t : Search) (there : AgreeUpTo z s t) (back : AgreeUpTo z t s) where
+  walk_back : (x : ℕ) (w : List Pair) → x ≤ z → IsStart s x → IsWalkFrom t x w → IsWalkFrom s x w
+  walk_back x w h start walk = walk_kept z t s back x w h (there.start x h start) walk
+
+  none_kept : (x : ℕ) → x ≤ z → IsStart s x → HasNoWalkFrom s x → HasNoWalkFrom t x
+  none_kept x h start none = λ v b. none v (walk_back x v h start b)
+
+  first_kept : (x : ℕ) (w : List Pair) → x ≤ z → IsStart s x → IsFirstFrom s x w → IsFirstFrom t x w
+  first_kept x w h start first = record {
+    is_walk = walk_kept z s t there x w h start first.is_walk;
+    is_least = λ v b.
+        ⊎_elim (λ same. inl same) (λ before. inr (order_kept z s t there x w v h start first.is_walk before)) (first.is_least v (walk_back x v h start b));
+  }
+
+  longest_kept : (x : ℕ) (w : List Pair) → x ≤ z → IsStart s x → IsLongestFrom s x w → IsLongestFrom t x w
+  longest_kept x w h start longest = record {
+    is_walk = walk_kept z s t there x w h start longest.is_walk;
+    is_most = λ v b. longest.is_most v (walk_back x v h start b);
+    is_least = λ v b e.
+        ⊎_elim (λ same. inl same) (λ before. inr (order_kept z s t there x w v h start longest.is_walk before))
+        (longest.is_least v (walk_back x v h start b) e);
+  }
+
+  -- by which walk of a start counts
+  module _ (Counts : Search → ℕ → List Pair → Type 0) (counts : (x : ℕ) (w : List Pair) → x ≤ z → IsStart s x → Counts s x w → Counts t x w)
+      (is_walk : (x : ℕ) (w : List Pair) → Counts s x w → IsWalkFrom s x w) where
+    passed_kept : (x : ℕ) → x ≤ z → IsStart s x → IsPassedOf s (Counts s) x → IsPassedOf t (Counts t) x
+    passed_kept x h start p =
+        ⊎_elim (λ none. inl (none_kept x h start none))
+        (λ (q : (w : List Pair) × Counts s x w × (is_allowed s w ≡ false)).
+        inr (q.0, counts x q.0 h start q.1, allowed_kept z s t there x q.0 h start (is_walk x q.0 q.1) ∙ q.2)) p
+
+    answer_kept : (c : Chosen) → c.start ≤ z → IsAnswerOf s (Counts s) c → IsAnswerOf t (Counts t) c
+    answer_kept c h a = record {
+      is_start = there.start c.start h a.is_start;
+      counts = counts c.start c.walk h a.is_start a.counts;
+      allowed = subst IsTrue (sym (allowed_kept z s t there c.start c.walk h a.is_start (is_walk c.start c.walk a.counts))) a.allowed;
+      none_before = λ y start l.
+          let near : y ≤ z = omega (arith, h, l) in
+          let here = back.start y near start in passed_kept y near here (a.none_before y here l);
+    }
+
+  match_kept : (kind : MatchKind) (m : Found) → kind ≢ all_matches → m.start ≤ z → answer_by kind s ≡ Some m → answer_by kind t ≡ Some m
+  match_kept all_matches m other h e = absurd (other refl)
+  match_kept leftmost_first m other h e =
+      let c = (answer_law.answer_some s m).0 e in
+      let same_start : c.0.start ≡ m.start = ap (λ (f : Found). f.start) c.2 in
+      let here = (longest_law.first_is s c.0).1 c.1 in
+      let kept = answer_kept IsFirstFrom first_kept (λ x w first. first.is_walk) c.0 (omega (arith, same_start, h)) here in
+      (answer_law.answer_some t m).1 (c.0, (longest_law.first_is t c.0).0 kept, found_kept z s t there c.0 ∙ c.2)
+  match_kept leftmost_longest m other h e =
+      let c = (longest_law.answer_some s m).0 e in
+      let same_start : c.0.start ≡ m.start = ap (λ (f : Found). f.start) c.2 in
+      let kept = answer_kept IsLongestFrom longest_kept (λ x w longest. longest.is_walk) c.0 (omega (arith, same_start, h)) c.1 in
+      (longest_law.answer_some t m).1 (c.0, kept, found_kept z s t there c.0 ∙ c.2)
+
+start_kept : (s t : Search) (x : ℕ) → t.lo ≡ s.lo → t.anchoring ≡ s.anchoring → x ≤ t.hi → IsStart s x → IsStart t x
+start_kept s t x lo anchoring h a =
+    (omega (arith, lo, a.0), h, λ anchored. let e = a.2 (subst (λ o. IsTrue (is_anchored o)) anchoring anchored) in omega (arith, lo, e))
+
+-- no further on is where it was
+walk_stays : (w : List Pair) → map (further 0) w ≡ w
+walk_stays w = ap (λ (c : Chosen). c.walk) (chosen_stays (record { start = 0; walk = w }))
 
 -- ---- a walk goes past no byte that no pattern's text has
 
@@ -133,15 +195,6 @@ module _ (hs : List Re) (grouped : Bool) (ok : All HasBounds hs) (stops : List B
         let l = short in
         ap (slice_get t.text.content) (omega arith) ∙ same.content p (omega arith) (omega (arith, h, far, l)) (omega (arith, h, far))
 
-    start_here : (x : ℕ) → x ≤ z → IsStart t x → IsStart s x
-    start_here x h start = start_kept t s x (sym on.1.lo) (sym on.1.anchoring) (omega (arith, h, far)) start
-
-    start_there : (x : ℕ) → x ≤ z → IsStart s x → IsStart t x
-    start_there x h start =
-        let l = short in
-        let above = (same.bound x (omega arith) (omega (arith, h, far, l))).0 start.1 in
-        start_kept s t x on.1.lo on.1.anchoring (omega (arith, above)) start
-
     -- four bytes after a position tell the ways from there
     same_next : (n : Pair) → n.1 ≤ z → next_of t n ≡ next_of s n
     same_next n h =
@@ -153,73 +206,64 @@ module _ (hs : List Re) (grouped : Bool) (ok : All HasBounds hs) (stops : List B
     same_ends : (n : Pair) → ends t n ≡ ends s n
     same_ends n = ap₂ (λ a ps. is_match_place (only a) (place_at ps n.0)) on.1.anchoring on.1.places
 
-    near_there : (x : ℕ) (w : List Pair) → x ≤ z → IsStart t x → IsWalkFrom t x w → IsUpTo z w × ((last_of w).1 ≤ z)
-    near_there x w h start walk = stays_before t x w (on.1.places ∙ runs) (same_byte z (omega arith) ∙ at) start h walk
-
-    -- a start up to the byte has the same walks in both
-    has_walks : (x : ℕ) → x ≤ z → IsStart t x → HasWalksOf t s x
-    has_walks x h start = record {
-      here = λ w walk. walk_over t s z (λ n l. sym (same_next n l)) (λ n. sym (same_ends n)) walk (near_there x w h start walk).0;
-      there = λ w walk. walk_over s t z same_next same_ends walk (stays_before s x w runs at (start_here x h start) h walk).0;
-      order = λ v w walk before.
-          before_over t s z (λ n l. sym (same_next n l)) (λ n. sym (same_ends n)) ((0, x) ∷ []) v w (near_there x v h start walk).0 before;
+    agrees_there : AgreeUpTo z s t
+    agrees_there = record {
+      start = λ x h start.
+          let l = short in
+          let above = (same.bound x (omega arith) (omega (arith, h, far, l))).0 start.1 in
+          start_kept s t x on.1.lo on.1.anchoring (omega (arith, above)) start;
+      next = same_next;
+      ends = same_ends;
+      byte = same_byte;
+      near = λ x w h start walk. stays_before s x w runs at start h walk;
+      passes_over = on.1.passes_over;
+      places = on.1.places;
     }
 
-    -- by which walk of a start counts
-    module _ (Counts : Search → ℕ → List Pair → Type 0) (counts : (x : ℕ) (w : List Pair) → HasWalksOf t s x → Counts t x w → Counts s x w)
-        (is_walk : (x : ℕ) (w : List Pair) → Counts t x w → IsWalkFrom t x w) where
-      same_allowed : (x : ℕ) (w : List Pair) → x ≤ z → IsStart t x → Counts t x w → is_allowed t w ≡ is_allowed s w
-      same_allowed x w h start first =
-          ap₂ (λ over o. not over || begins_scalar o) on.1.passes_over (same_byte (last_of w).1 (near_there x w h start (is_walk x w first)).1)
+    agrees_back : AgreeUpTo z t s
+    agrees_back = record {
+      start = λ x h start. start_kept t s x (sym on.1.lo) (sym on.1.anchoring) (omega (arith, h, far)) start;
+      next = λ n h. sym (same_next n h);
+      ends = λ n. sym (same_ends n);
+      byte = λ p h. sym (same_byte p h);
+      near = λ x w h start walk. stays_before t x w (on.1.places ∙ runs) (same_byte z (omega arith) ∙ at) start h walk;
+      passes_over = sym on.1.passes_over;
+      places = sym on.1.places;
+    }
 
-      passed_here : (x : ℕ) → x ≤ z → IsStart t x → IsPassedOf t (Counts t) x → IsPassedOf s (Counts s) x
-      passed_here x h start p =
-          ⊎_elim (λ none. inl (none_kept t s x (has_walks x h start) none))
-          (λ (q : (w : List Pair) × Counts t x w × (is_allowed t w ≡ false)).
-          inr (q.0, counts x q.0 (has_walks x h start) q.1, sym (same_allowed x q.0 h start q.1) ∙ q.2)) p
+    pub match_there : (kind : MatchKind) (m : Found) → kind ≢ all_matches → m.start ≤ z → answer_by kind s ≡ Some m → answer_by kind t ≡ Some m
+    match_there = match_kept z s t agrees_there agrees_back
 
-      answer_here : (c : Chosen) → c.start ≤ z → IsAnswerOf t (Counts t) c → IsAnswerOf s (Counts s) c
-      answer_here c h a = record {
-        is_start = start_here c.start h a.is_start;
-        counts = counts c.start c.walk (has_walks c.start h a.is_start) a.counts;
-        allowed = subst IsTrue (same_allowed c.start c.walk h a.is_start a.counts) a.allowed;
-        none_before = λ y start l.
-            let near : y ≤ z = omega (arith, h, l) in
-            let there = start_there y near start in passed_here y near there (a.none_before y there l);
-      }
+    pub match_here : (kind : MatchKind) (m : Found) → kind ≢ all_matches → m.start ≤ z → answer_by kind t ≡ Some m → answer_by kind s ≡ Some m
+    match_here = match_kept z t s agrees_back agrees_there
 
-    found_here : (c : Chosen) → found s c ≡ found t c
-    found_here c =
-        ap (λ ps. let m : Found = record { pattern = pattern_at (place_at ps (last_of c.walk).0); start = c.start; end = (last_of c.walk).1 } in m)
-        (sym on.1.places)
+-- ---- a byte that no pattern's text has, with three bytes behind it, settles what is before
 
-    -- a match that begins so early is found here
-    match_here : (kind : MatchKind) (m : Found) → kind ≢ all_matches → m.start ≤ z → answer_by kind t ≡ Some m → answer_by kind s ≡ Some m
-    match_here all_matches m other h e = absurd (other refl)
-    match_here leftmost_first m other h e =
-        let c = (answer_law.answer_some t m).0 e in
-        let same_start : c.0.start ≡ m.start = ap (λ (f : Found). f.start) c.2 in
-        let there = (longest_law.first_is t c.0).1 c.1 in
-        let here = answer_here IsFirstFrom (first_kept t s) (λ x w first. first.is_walk) c.0 (omega (arith, same_start, h)) there in
-        (answer_law.answer_some s m).1 (c.0, (longest_law.first_is s c.0).0 here, found_here c.0 ∙ c.2)
-    match_here leftmost_longest m other h e =
-        let c = (longest_law.answer_some t m).0 e in
-        let same_start : c.0.start ≡ m.start = ap (λ (f : Found). f.start) c.2 in
-        let here = answer_here IsLongestFrom (longest_kept t s) (λ x w longest. longest.is_walk) c.0 (omega (arith, same_start, h)) c.1 in
-        (longest_law.answer_some s m).1 (c.0, here, found_here c.0 ∙ c.2)
+module _ (q : Sought) (kind : MatchKind) (i : Searched) (other : kind ≢ all_matches) (ok : All HasBounds q.patterns) (stops : List Bool)
+    (out : (t : Text) → LeavesOut t q.patterns stops) (z b : ℕ) (is : slice_get i.content z ≡ Some b) (stop : IsTrue (is_stop stops b))
+    (far : z + 4 ≤ high i) where
+  -- a search from any position on
+  abbrev S : ℕ → Search
+  S at = from_on (search_for q i) at
 
--- a place up to the one behind the byte, if the match that is here doesn't begin before it
-pub from_stop : (q : Sought) (kind : MatchKind) (i : Searched) → kind ≢ all_matches → All HasBounds q.patterns → (stops : List Bool) →
-    ((t : Text) → LeavesOut t q.patterns stops) → (o : Option Found) → o ≡ answer_by kind (search_for q i) →
-    (z b : ℕ) → slice_get i.content z ≡ Some b → IsTrue (is_stop stops b) → z + 4 ≤ high i →
-    (k : ℕ) → k ≤ z + 1 → IfSome o (λ m. k ≤ m.start) → IsPartial kind (search_for q i) (from_place k)
-from_stop q kind i other ok stops out o is z b at stop far k near before t on m e =
-    ⊎_elim
-    (λ early.
-    let s = search_for q i in
-    let inside : IsInside s = record { lo = omega arith; hi = omega arith; slice_end = omega arith } in
-    let here = match_here q.patterns q.grouped ok stops out z b stop s t inside on refl at far kind m other (omega (arith, early, near)) e in
-    let low = subst (λ x. IfSome x (λ (f : Found). k ≤ f.start)) (is ∙ here) before in
-    omega (arith, low, early))
-    (λ ge. ge)
-    (cases_lt m.start k)
+  inside : (at : ℕ) → IsInside (S at)
+  inside at = record { lo = omega arith; hi = omega arith; slice_end = omega arith }
+
+  -- a match that begins up to the byte is final
+  pub final_by_stop : (at : ℕ) (m : Found) → answer_by kind (S at) ≡ Some m → m.start < z + 1 → IsPartial kind (S at) (final m)
+  final_by_stop at m e early t on =
+      match_there q.patterns q.grouped ok stops out z b stop (S at) t (inside at) on refl is far kind m other (omega (arith, early)) e
+
+  -- if none does, none will
+  pub from_stop : (at : ℕ) (o : Option Found) → answer_by kind (S at) ≡ o → IfSome o (λ m. z + 1 ≤ m.start) →
+      IsPartial kind (S at) (from_place (z + 1))
+  from_stop at o answer before t on m e =
+      ⊎_elim
+      (λ early.
+      let here = match_here q.patterns q.grouped ok stops out z b stop (S at) t (inside at) on refl is far kind m other (omega (arith, early)) e in
+      subst (λ x. IfSome x (λ (f : Found). z + 1 ≤ f.start)) (sym answer ∙ here) before)
+      (λ ge. ge)
+      (cases_lt m.start (z + 1))
+
+  pub settled_by_stop : IsSettledBefore kind (search_for q i) (z + 1)
+  settled_by_stop = record { final = final_by_stop; onward = from_stop }

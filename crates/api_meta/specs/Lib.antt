@@ -3,6 +3,7 @@ pub mod Caches
 pub mod Seeking
 pub mod Counts
 pub mod Left
+pub mod Ahead
 pub mod Lent
 pub mod Plans
 pub mod Switched

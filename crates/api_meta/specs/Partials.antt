@@ -1,10 +1,13 @@
 -- Partial answers, as they are returned.
-use Rattle.std.specs.Prelude.{◌≡◌, ◌≢◌, ℕ, ◌+◌, ◌-◌, ◌≤◌, List, Option, Some, None, max, min}
+use Rattle.std.specs.Prelude.{◌≡◌, ◌≢◌, ℕ, ◌+◌, ◌-◌, ◌<◌, ◌≤◌, List, Option, Some, None, IfSome, max, min}
 use Rattle.rc_text.specs.Found.{Found}
 use Rattle.rc_text.specs.Text.{Searched, low, high}
 use Rattle.rc_text.specs.declared.types.MatchKind.{MatchKind}
 use Rattle.rc_text.specs.declared.types.MatchKind.TheVariants.{All as all_matches}
 use Rattle.rc_pattern.specs.Re.{Re}
+use Rattle.rc_program.specs.Answer.{Search}
+use Rattle.rc_program.specs.Kinds.{answer_by}
+use Rattle.rc_program.specs.Matches.{from_on}
 use Rattle.rc_reach.specs.Laws.{greatest_len}
 use Rattle.rc_reach.specs.Partial as partial
 use Rattle.api_meta.specs.declared.partial.Partial.{Partial}
@@ -30,3 +33,11 @@ abbrev pub IsFarOn : MatchKind → List Re → Searched → Option Found → Par
 IsFarOn kind hs i found (Final m) = Unit {0}
 IsFarOn kind hs i found (From k) =
     kind ≢ all_matches → (n : ℕ) → greatest_len hs ≡ Some n → far_on n i found ≤ k
+
+-- Before this place the content tells all, from wherever a search begins. A match that begins
+-- before the place is final. If none does, no match of a content that goes on begins before it.
+pub record IsSettledBefore (kind : MatchKind) (s : Search) (k : ℕ) : Type 0 where
+  pub final : (at : ℕ) (m : Found) → answer_by kind (from_on s at) ≡ Some m → m.start < k →
+      partial.IsPartial kind (from_on s at) (partial.final m)
+  pub onward : (at : ℕ) (o : Option Found) → answer_by kind (from_on s at) ≡ o →
+      IfSome o (λ m. k ≤ m.start) → partial.IsPartial kind (from_on s at) (partial.from_place k)

@@ -3,6 +3,7 @@
 ghost use Rattle.api_meta.specs.Caches.{IsCacheFor};
 ghost use Rattle.api_meta.specs.Views.{regex_patterns, regex_settings};
 
+use crate::ahead::ListMemo;
 use crate::cache::Cache;
 use crate::partial::Partial;
 use crate::reach::{Reached, ReachedCaptures};
@@ -55,7 +56,10 @@ impl<'r> Finder<'r> {
     ghost use Rattle.rc_parses.specs.Preference.{ArePlain, IsPreferredMatch};
     ghost use Rattle.rc_pikevm.specs.PatternSpans.{AddsSpelled};
     ghost use Rattle.rc_program.specs.Answer.{answer};
-    ghost use Rattle.rc_program.specs.Kinds.{IsAnswerBy, answer_by, is_early};
+    ghost use Rattle.rc_pikevm_search.specs.Moved.{IsMoved};
+    ghost use Rattle.rc_program.specs.Kinds.{IsAnswerBy, answer_by, answer_by_from, is_early};
+    ghost use Rattle.rc_program.specs.Matches.{begin_of, end_of, next_match};
+    ghost use Rattle.api_meta.specs.Ahead.{AddsNext, ComesBehind};
     ghost use Rattle.rc_program.specs.Sought.{search_for};
     ghost use Rattle.rc_settings.specs.Settings.{match_kind_of};
     ghost use Rattle.rc_text.specs.Found.{half_of};
@@ -236,5 +240,29 @@ impl<'r> Finder<'r> {
         ensures adds { AddsSpelled (search_for (sought self.old) input.old) set.old set.new }
     {
         self.regex.which_patterns_with(&mut self.cache, input, set);
+    }
+
+    /// Adds the next matches of a list to yours, as long as they begin before the position `before`,
+    /// as `Regex::push_before` does. Nothing but the list takes memory.
+    pub fn push_before<C: Cursor>(
+        &mut self,
+        input: &mut Input<C>,
+        memo: &mut ListMemo,
+        last: &mut Option<usize>,
+        before: usize,
+        matches: &mut Vec<Match>,
+    ) -> Result<bool, AllocError>
+        ensures regex { self.new ≡ self.old }
+        ensures moves { IsMoved input.old input.new }
+        ensures adds { AddsNext (answer_by_from (regex_kind self.old)
+            (search_for (sought self.old) input.old)) before
+            input.old.span.start last.old matches.old.items
+            input.new.span.start last.new matches.new.items }
+        ensures behind { IfOk result (ComesBehind before (next_match begin_of end_of
+            (answer_by_from (regex_kind self.old) (search_for (sought self.old) input.old))
+            input.new.span.start last.new)) }
+    {
+        self.regex
+            .push_before(&mut self.cache, input, memo, last, before, matches)
     }
 }

@@ -1,6 +1,7 @@
 //! Regex front: `Regex`, its builder, its cache, its searches and its iterators.
 #![tactic(auto)]
 
+pub mod ahead;
 pub mod builder;
 pub mod cache;
 mod counts;

@@ -36,7 +36,7 @@ impl Regex {
     ghost use Rattle.rc_text.specs.Bounds.{IsWithinBounds};
     ghost use Rattle.rc_text.specs.Text.{Keeps, high, low};
     ghost use Rattle.api_meta.specs.Caches.{HasSameRoom, IsCacheFor};
-    ghost use Rattle.api_meta.specs.Partials.{IsFarOn, IsOnward, partial_of};
+    ghost use Rattle.api_meta.specs.Partials.{IsFarOn, IsOnward, IsSettledBefore, partial_of};
     ghost use Rattle.api_meta.specs.declared.partial.Partial.TheVariants.{From};
     ghost use Rattle.api_meta.specs.Views.{regex_kind, regex_patterns, regex_settings, sought};
 
@@ -197,23 +197,36 @@ impl Regex {
         ensures within { (low input.old ≤ result) × (result ≤ max (low input.old) (high input.old)) }
     {
         let from = low(input);
+        let behind = self.settled_before(input);
+        match found {
+            Some(found) => from.max(behind.min(found.start())),
+            None => from.max(behind),
+        }
+    }
+
+    /// Returns a position, in bytes, before which the content tells all, or 0. However the content
+    /// goes on at its end, a search of it finds the match that one finds here, if that begins before
+    /// the position; if none does, no match begins before it. The position is behind the last byte
+    /// that no match contains, if one lies in the last kilobyte with three bytes behind it. It takes
+    /// no memory.
+    pub fn settled_before<C: Cursor>(&self, input: &mut Input<C>) -> usize
+        ensures keeps { Keeps input.old input.new }
+        ensures settled { IsSettledBefore (regex_kind self.now)
+            (search_for (sought self.now) input.old) result }
+        ensures within { result ≤ high input.old }
+    {
         let kind = self.get_config().get_match_kind();
         if let MatchKind::All = kind {
-            return from;
+            return 0;
         }
+        let from = low(input);
         let known = high(input).saturating_sub(LOOKS_AHEAD - 1);
         let first = from.max(known.saturating_sub(NEAR));
         if known <= first {
-            return from;
+            return 0;
         }
         let behind = behind_stop(input, &self.stops, first, known);
-        if behind == first {
-            return from;
-        }
-        match found {
-            Some(found) => from.max(behind.min(found.start())),
-            None => behind,
-        }
+        if behind == first { 0 } else { behind }
     }
 }
 

@@ -1,5 +1,6 @@
 //! Regex: patterns built under settings, their searches and their iterators.
 
+pub use api_meta::ahead::ListMemo;
 pub use api_meta::builder::Builder;
 pub use api_meta::cache::Cache;
 pub use api_meta::finder::Finder;
