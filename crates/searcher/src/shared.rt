@@ -2,6 +2,7 @@
 ghost use Rattle.std.specs.Arc.{arc_value};
 ghost use Rattle.std.specs.Prelude.{◌≡◌};
 
+use api_meta::ahead::ListMemo;
 use api_meta::cache::Cache;
 use api_meta::partial::Partial;
 use api_meta::regex::Regex;
@@ -68,5 +69,18 @@ impl PartialFinder for SharedFinder {
 
     fn find_partial<C: Cursor>(&mut self, input: &mut Input<C>) -> Partial {
         self.regex.search_partial_with(&mut self.cache, input)
+    }
+
+    fn push_before<C: Cursor>(
+        &mut self,
+        input: &mut Input<C>,
+        memo: &mut ListMemo,
+        last: &mut Option<usize>,
+        before: usize,
+        matches: &mut Vec<Match>,
+    ) -> Result<bool, AllocError> {
+        let cache = &mut self.cache;
+        self.regex
+            .push_before(cache, input, memo, last, before, matches)
     }
 }

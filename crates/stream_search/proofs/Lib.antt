@@ -8,3 +8,5 @@ mod Told
 mod Further
 mod Grouped
 mod Steps
+mod Along
+mod Listed

@@ -40,7 +40,7 @@ module _ (kind : MatchKind) (s : Search) (content : List ℕ) where
   none_taken k last e = ap (unless_again begin_of end_of find k last) e
 
   -- after the end of the last match it is what the search finds
-  plain : (j k : ℕ) (last : Option ℕ) (o : Option Found) → find k ≡ o → EndedBy last j → j < k → next k last ≡ o
+  pub plain : (j k : ℕ) (last : Option ℕ) (o : Option Found) → find k ≡ o → EndedBy last j → j < k → next k last ≡ o
   plain j k last None e ended far = none_taken k last e
   plain j k last (Some m) e ended far =
       let h = lies k m e in taken k last m e (ends_after last j m ended (omega (arith, far, h.0, h.1)))

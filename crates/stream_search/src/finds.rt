@@ -1,16 +1,20 @@
 //! What finds: a regex and all that its searches need, owned or borrowed.
-ghost use Rattle.std.specs.Prelude.{◌≡◌, false};
-ghost use Rattle.rc_program.specs.Kinds.{answer_by, is_early};
+ghost use Rattle.std.specs.Prelude.{◌≡◌, IfOk, false};
+ghost use Rattle.rc_pikevm_search.specs.Moved.{IsMoved};
+ghost use Rattle.rc_program.specs.Kinds.{answer_by, answer_by_from, is_early};
+ghost use Rattle.rc_program.specs.Matches.{begin_of, end_of, next_match};
 ghost use Rattle.rc_program.specs.Sought.{search_for};
 ghost use Rattle.rc_reach.specs.Partial.{IsPartial};
 ghost use Rattle.rc_text.specs.Text.{Keeps};
+ghost use Rattle.api_meta.specs.Ahead.{AddsNext, ComesBehind};
 ghost use Rattle.api_meta.specs.Partials.{IsOnward, partial_of};
 ghost use Rattle.api_meta.specs.Views.{regex_kind, sought};
 ghost use Rattle.api_meta.specs.declared.regex.Regex.{Regex};
 
-use regex_cursor::engines::meta::{Finder, Partial, Regex};
+use regex_cursor::engines::meta::{Finder, ListMemo, Partial, Regex};
 use regex_cursor::types::Match;
 use regex_cursor::{Cursor, Input};
+use std::alloc::AllocError;
 
 /// A regex with all that its searches need: what a search of a stream, or of slices, asks. No search
 /// takes memory.
@@ -41,6 +45,27 @@ pub trait PartialFinder {
         ensures told { IsPartial (regex_kind (searched_by self.old))
             (search_for (sought (searched_by self.old)) input.old) (partial_of result) }
         ensures onward { IsOnward input.old result };
+
+    /// Adds the next matches of a list to yours, as long as they begin before the position `before`,
+    /// as `Regex::push_before` does. Nothing but the list takes memory.
+    fn push_before<C: Cursor>(
+        &mut self,
+        input: &mut Input<C>,
+        memo: &mut ListMemo,
+        last: &mut Option<usize>,
+        before: usize,
+        matches: &mut Vec<Match>,
+    ) -> Result<bool, AllocError>
+        ensures regex { searched_by self.new ≡ searched_by self.old }
+        ensures moves { IsMoved input.old input.new }
+        ensures adds { AddsNext (answer_by_from (regex_kind (searched_by self.old))
+            (search_for (sought (searched_by self.old)) input.old)) before
+            input.old.span.start last.old matches.old.items
+            input.new.span.start last.new matches.new.items }
+        ensures behind { IfOk result (ComesBehind before (next_match begin_of end_of
+            (answer_by_from (regex_kind (searched_by self.old))
+            (search_for (sought (searched_by self.old)) input.old))
+            input.new.span.start last.new)) };
 }
 
 impl PartialFinder for Finder<'_> {
@@ -56,5 +81,16 @@ impl PartialFinder for Finder<'_> {
 
     fn find_partial<C: Cursor>(&mut self, input: &mut Input<C>) -> Partial {
         Finder::find_partial(self, input)
+    }
+
+    fn push_before<C: Cursor>(
+        &mut self,
+        input: &mut Input<C>,
+        memo: &mut ListMemo,
+        last: &mut Option<usize>,
+        before: usize,
+        matches: &mut Vec<Match>,
+    ) -> Result<bool, AllocError> {
+        Finder::push_before(self, input, memo, last, before, matches)
     }
 }

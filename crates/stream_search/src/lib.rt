@@ -3,6 +3,7 @@
 
 pub mod error;
 pub mod finds;
+pub mod list;
 mod opening;
 mod search;
 pub mod step;
@@ -10,6 +11,7 @@ pub mod stream;
 
 pub use error::FeedError;
 pub use finds::PartialFinder;
+pub use list::{ListStepper, ListStepperOf};
 pub use search::moved;
 pub use step::{Progress, Stepper, StepperOf};
 pub use stream::{StreamSearcher, StreamSearcherOf};

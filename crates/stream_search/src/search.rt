@@ -2,10 +2,10 @@
 ghost use Rattle.std.specs.Prelude.{◌≡◌, ◌+◌, ◌<◌, ◌≤◌, ◌^◌, drop, false, length, vec_len};
 ghost use Rattle.rc_program.specs.Matches.{begin_of, end_of, is_again};
 ghost use Rattle.rc_reach.specs.Edits.{match_further};
-ghost use Rattle.rc_text.specs.Text.{end_by_total};
+ghost use Rattle.rc_text.specs.Text.{Keeps, end_by_total};
 ghost use Rattle.api_meta.specs.Partials.{partial_of};
 ghost use Rattle.api_meta.specs.Views.{regex_kind};
-ghost use Rattle.stream_search.specs.Searches.{IsFrom, IsPast, LiesIn, seeks};
+ghost use Rattle.stream_search.specs.Searches.{IsFrom, IsOver, IsPast, LiesIn, TellsBefore, seeks};
 ghost use Rattle.stream_search.specs.Streams.{IsTold};
 
 use crate::finds::PartialFinder;
@@ -13,6 +13,17 @@ use rc_text::input::content_fits;
 use regex_cursor::engines::meta::Partial;
 use regex_cursor::types::{Match, Span};
 use regex_cursor::{Cursor, Input};
+
+/// Returns a position before which the content of the input tells all.
+pub fn settled_of<F: PartialFinder, C: Cursor>(finder: &F, input: &mut Input<C>) -> usize
+    requires over { IsOver input.old }
+    ensures keeps { Keeps input.old input.new }
+    ensures settled { TellsBefore (F.searched_by finder.now) input.old.content result }
+    ensures within { result ≤ length input.old.content }
+{
+    content_fits(input);
+    finder.its_regex().settled_before(input)
+}
 
 /// Returns what the kept bytes tell of a search from `at` on. If no more bytes follow, that is all.
 pub fn search_kept<F: PartialFinder>(
@@ -41,8 +52,10 @@ pub fn search_kept<F: PartialFinder>(
 /// Returns the input over the cursor's content, with a span that begins at `at`.
 pub fn input_from<C: Cursor>(cursor: C, at: usize) -> Input<C>
     requires inside { at ≤ end_by_total (C.total cursor) + 1 }
+    ensures content { result.content ≡ C.content cursor }
+    ensures start { result.span.start ≡ at }
+    ensures over { IsOver result }
     ensures search { IsFrom (C.content cursor) at result }
-    ensures earliest { result.earliest ≡ false }
 {
     let mut input = Input::new(cursor);
     content_fits(&input);

@@ -156,7 +156,7 @@ impl<F: PartialFinder> StepperOf<F> {
 
 /// Whether the content has the byte at this position. If the cursor doesn't know the total, it goes
 /// to the chunk with that byte, or to the last one.
-fn has_byte<C: Cursor>(cursor: &mut C, at: usize) -> bool
+pub(crate) fn has_byte<C: Cursor>(cursor: &mut C, at: usize) -> bool
     ensures content { C.content cursor.new ≡ C.content cursor.old }
     ensures has { IsTrue result ↔ at < length (C.content cursor.old) }
     ensures below { IsTrue result → at < usize.MAX }

@@ -4,7 +4,7 @@ use Rattle.api_meta.specs.Views.{regex_kind, sought}
 use Rattle.stream_search.specs.Searches.{seeks}
 use Rattle.stream_search.specs.Stepping.{GoesTo}
 use Rattle.stream_search.specs.Streams.{IsTold}
-use Rattle.stream_search.proofs.Kept.{goes_open, lies_open, told_open}
+use Rattle.stream_search.proofs.Kept.{goes_open, told_open}
 use Rattle.stream_search.proofs.step.search_opening.Goals as goal
 
 pub returns-clause-onward : goal.returns-clause-onward
@@ -29,11 +29,5 @@ returns-clause-told g c =
     let p = c.find_partial in
     let shown = take c.new.result.len (g.C.Cursor.content c.new.result.cursor) in
     let same : shown ≡ take c.args.end (g.C.Cursor.content c.args.cursor) = c.new.ensures.content ∙ ap (take c.args.end) c.seek.ensures.content in
-    let l = ap length same in
-    let t = length-take c.args.end (g.C.Cursor.content c.args.cursor) in
-    let before = c.requires.before in
-    let inside = c.requires.inside in
-    let long : length shown ≡ c.args.end = omega (arith, l, t, inside) in
-    let lies = lies_open r i.result shown c.args.at (i.ensures.search (sought r)) p.result (omega (arith, long, before)) p.ensures.onward p.ensures.told in
     subst (λ b. IsTold (regex_kind r) (seeks r) false b c.args.at (partial_of p.result)) same
-    (told_open r i.result shown c.args.at (i.ensures.search (sought r)) p.result lies p.ensures.told)
+    (told_open r i.result shown c.args.at (i.ensures.search (sought r)) p.result p.ensures.onward p.ensures.told)

@@ -16,4 +16,4 @@ pub returns-clause-found : goal.returns-clause-found
 returns-clause-found g c =
     let r = g.F.PartialFinder.searched_by c.args.finder.now in
     let i = c.input_from-input in
-    sym (found_all r i.result (g.C.Cursor.content c.args.cursor) c.args.at (i.ensures.search (sought r)) c.find.result i.ensures.earliest c.find.ensures.found_by)
+    sym (found_all r i.result (g.C.Cursor.content c.args.cursor) c.args.at (i.ensures.search (sought r)) c.find.result i.ensures.over.late c.find.ensures.found_by)
