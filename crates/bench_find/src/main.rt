@@ -10,7 +10,7 @@
 //! - `searches`: the matches, by one search after another. Each begins where the last match ended
 //! - `reaches`: the same, by searches that tell how many bytes settle a match
 //! - `stream`: the matches of a stream that is fed the chunks
-//! - `steps`: the matches, each found in slices of 65,536 bytes
+//! - `steps`: the matches, listed in slices of 65,536 bytes
 //! - `texts`: each chunk is a text of its own, searched in one cache, and those with a match count
 //! - `finds`: as `texts`, but with a cache for each text
 //! - `build`: the build of the pattern

@@ -36,7 +36,7 @@ use crate::places::line_of;
 use crate::ranges::{add_range, matches_of_range};
 use crate::replacing::replaced;
 use crate::rules::rules_met;
-use crate::stepping::search_on;
+use crate::stepping::{list_on, search_on};
 use crate::tokens::{KINDS, next_token, words};
 use chunk_replace::Template;
 use gap_buffer::GapBuffer;
@@ -49,7 +49,7 @@ use regex_cursor::types::{Anchored, Match, Span};
 use std::alloc::{AllocError, Global};
 use std::fmt;
 use std::io::Write;
-use stream_search::Stepper;
+use stream_search::{ListStepper, Stepper};
 
 /// Writes an answer. A fault of the standard output is ignored.
 fn show<T: fmt::Debug>(rt: &HostRuntime, name: &str, answer: &T) {
@@ -96,6 +96,10 @@ fn grow(rt: &HostRuntime) {
         grow_with(rt, &mut finder, text);
         let mut stepper = Stepper::new(finder, 2);
         show(rt, "in slices", &search_on(&mut stepper, text));
+        let mut list = ListStepper::new(stepper.into_finder());
+        let mut matches = Vec::new(rt.alloc());
+        let ended = list_on(&mut list, text, &mut matches);
+        show(rt, "list in slices", &(ended, matches.len()));
     }
     drop(number);
 }

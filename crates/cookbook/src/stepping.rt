@@ -2,7 +2,8 @@
 
 use regex_cursor::cursor::ChunkCursor;
 use regex_cursor::types::Match;
-use stream_search::{Progress, Stepper};
+use std::alloc::AllocError;
+use stream_search::{ListStepper, Progress, Stepper};
 
 /// How many bytes a slice takes.
 const SLICE: usize = 65_536;
@@ -22,4 +23,13 @@ pub fn search_on(stepper: &mut Stepper<'_>, text: ChunkCursor<'_>) -> Status {
         Progress::Done(found) => Status::Found(found),
         Progress::NotYet => Status::Searching(stepper.position()),
     }
+}
+
+/// Adds the matches of a slice more of the text. Returns whether the text ended.
+pub fn list_on(
+    list: &mut ListStepper<'_>,
+    text: ChunkCursor<'_>,
+    matches: &mut Vec<Match>,
+) -> Result<bool, AllocError> {
+    list.resume(text, SLICE, matches)
 }

@@ -5,7 +5,7 @@ ghost use Rattle.api_meta.specs.Views.{regex_names};
 
 use crate::ends::{end_of, end_of_group};
 use regex_cursor::Input;
-use regex_cursor::engines::meta::{Cache, Captures, Finder, ReachedCaptures, Regex};
+use regex_cursor::engines::meta::{Cache, Captures, Finder, ListMemo, ReachedCaptures, Regex};
 use regex_cursor::types::{PatternID, PatternSet};
 use std::alloc::{AllocError, Global};
 use std::test::Fail;
@@ -122,6 +122,37 @@ fn settled_by_finder(alloc: Global, regex: &Regex) -> Result<(Option<usize>, usi
     Ok((end_of_group(group), reach))
 }
 
+/// Whether another match comes behind those that begin before the byte 7, once each way, and how
+/// many were added in all.
+fn pushed(alloc: Global, regex: &Regex) -> Result<(bool, bool, usize), AllocError> {
+    let mut memo = ListMemo::new();
+    let mut last = None;
+    let mut matches = Vec::new(alloc);
+    let mut input = Input::new(TEXT);
+    let mut finder = Finder::new(alloc, regex)?;
+    let first = Finder::push_before(
+        &mut finder,
+        &mut input,
+        &mut memo,
+        &mut last,
+        7,
+        &mut matches,
+    );
+    drop(finder);
+    let mut cache = Regex::create_cache(regex, alloc)?;
+    let rest = Regex::push_before(
+        regex,
+        &mut cache,
+        &mut input,
+        &mut memo,
+        &mut last,
+        usize::MAX,
+        &mut matches,
+    );
+    drop(cache);
+    Ok((first?, rest?, matches.len()))
+}
+
 #[test]
 fn lists_and_caches(rt: HostRuntime) -> Result<(), Fail> {
     let alloc = rt.alloc();
@@ -131,9 +162,10 @@ fn lists_and_caches(rt: HostRuntime) -> Result<(), Fail> {
     let is_in_a_set = is_in_a_set(alloc, &regex);
     let end = end_by_finder(alloc, &regex);
     let settled = settled_by_finder(alloc, &regex);
+    let pushed = pushed(alloc, &regex);
     drop(regex);
     assert!(rt; counts == Ok([2, 2, 3, 2]) && count == Ok(2));
     assert!(rt; is_in_a_set == Ok(true) && end == Ok(Some(2)));
-    assert!(rt; settled == Ok((Some(2), 7)));
+    assert!(rt; settled == Ok((Some(2), 7)) && pushed == Ok((true, false, 2)));
     Ok(())
 }
