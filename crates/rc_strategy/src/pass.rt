@@ -105,6 +105,7 @@ pub(crate) fn ask_pass<C: Cursor>(
 
 /// Returns the match, and how many bytes settle it. If prefix literals guard the search, those are
 /// all bytes up to the end of the slice, and one more.
+#[inline(always)]
 pub(crate) fn settle_by_pass<C: Cursor>(
     engine: &Engine,
     cache: &mut Cache,

@@ -249,6 +249,7 @@ impl Engines {
 
     /// Returns the match by the lazy DFA over symbols, if the cache has its states, and how many
     /// bytes settle it. Returns None if there is none, or it has no answer.
+    #[inline(never)]
     fn settle_symbols<C: Cursor>(
         &self,
         cache: &mut Option<lazy::Cache>,
@@ -278,9 +279,29 @@ impl Engines {
         })
     }
 
+    /// Returns the match by a DFA whose search doesn't tell how far it looked. Returns None if there is
+    /// no DFA, or it has no answer.
+    #[inline(never)]
+    fn settle_at_end<C: Cursor>(
+        &self,
+        cache: &mut Cache,
+        input: &mut Input<C>,
+        bounds: Bounds,
+    ) -> Option<Settled>
+        requires made { IsCacheIn self.now 0 cache.old }
+        requires bounds { AreBounds input.old bounds }
+        ensures keeps { Keeps input.old input.new }
+        ensures settled { IfSome result (λ o. IsAnswerBelow self.now.engine.kind
+            (engine_search self.now.engine input.old) o.reach o.found) }
+        ensures within { IfSome result (λ o. IfSome o.found (IsWithinBounds input.old)) }
+        ensures cache { IsSameCacheIn self.now cache.old cache.new }
+    {
+        let found = self.ask_dfas(cache, input, Question::Match, bounds)?;
+        Some(settled_at_end(input, found))
+    }
+
     /// Returns the match by a DFA, and how many bytes settle it: those at which a search forwards
-    /// looked, if the match is leftmost. Returns None if literals alone decide, there is no DFA, or it
-    /// has no answer.
+    /// looked, if the match is leftmost. Returns None if there is no DFA, or it has no answer.
     #[inline(always)]
     fn settle_by_tables<C: Cursor>(
         &self,
@@ -296,17 +317,26 @@ impl Engines {
         ensures within { IfSome result (λ o. IfSome o.found (IsWithinBounds input.old)) }
         ensures cache { IsSameCacheIn self.now cache.old cache.new }
     {
-        if literals_of(&self.engine.literals, self.engine.kind).is_some() {
-            return None;
-        }
         if self.tells_reach(input) {
             if let Some(settled) = self.settle_along(&mut cache.lazy, input, bounds) {
                 return Some(settled);
             }
             return self.settle_symbols(&mut cache.symbols, input, bounds);
         }
-        let found = self.ask_dfas(cache, input, Question::Match, bounds)?;
-        Some(settled_at_end(input, found))
+        self.settle_at_end(cache, input, bounds)
+    }
+
+    /// Returns the match by the Pike VM, and how many bytes settle it.
+    #[inline(never)]
+    fn settle_past_tables<C: Cursor>(&self, cache: &mut Cache, input: &mut Input<C>) -> Settled
+        requires made { IsCacheIn self.now 0 cache.old }
+        ensures keeps { Keeps input.old input.new }
+        ensures settled { IsAnswerBelow self.now.engine.kind
+            (engine_search self.now.engine input.old) result.reach result.found }
+        ensures within { IfSome result.found (IsWithinBounds input.old) }
+        ensures cache { IsSameCacheIn self.now cache.old cache.new }
+    {
+        settle_by_pass(&self.engine, &mut cache.pass, input)
     }
 
     /// Returns the match by an engine, and how many bytes settle it as far as that engine tells. It
@@ -321,13 +351,16 @@ impl Engines {
         ensures within { IfSome result.found (IsWithinBounds input.old) }
         ensures cache { IsSameCacheIn self.now cache.old cache.new }
     {
+        if literals_of(&self.engine.literals, self.engine.kind).is_some() {
+            return settle_by_pass(&self.engine, &mut cache.pass, input);
+        }
         let Some(bounds) = self.spans.bounds(input) else {
             return settled_at_end(input, None);
         };
         if let Some(settled) = self.settle_by_tables(cache, input, bounds) {
             return settled;
         }
-        settle_by_pass(&self.engine, &mut cache.pass, input)
+        self.settle_past_tables(cache, input)
     }
 
     /// Returns how many bytes settle a leftmost match, if no match has more than `longest` bytes:

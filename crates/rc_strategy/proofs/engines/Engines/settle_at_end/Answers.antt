@@ -1,5 +1,5 @@
 use Rattle.rc_strategy.proofs.ReachLemmas.{at_end}
-use Rattle.rc_strategy.proofs.engines.Engines.settle_by_tables.Goals as goal
+use Rattle.rc_strategy.proofs.engines.Engines.settle_at_end.Goals as goal
 
 pub returns-clause-settled : goal.returns-clause-settled
 returns-clause-settled g c =
