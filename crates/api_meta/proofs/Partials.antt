@@ -10,19 +10,20 @@ use Rattle.rc_pattern.specs.Re.{Re}
 use Rattle.rc_pattern.specs.WellFormed.{HasBounds}
 use Rattle.rc_program.specs.Answer.{Search}
 use Rattle.rc_program.specs.Kinds.{answer_by}
+use Rattle.rc_program.specs.Matches.{from_on}
 use Rattle.rc_program.specs.Sought.{Sought, search_for}
 use Rattle.rc_program.proofs.KindLemmas.{kinds_law}
 use Rattle.rc_reach.proofs.BoundLemmas.{length_law}
 use Rattle.rc_reach.proofs.LawLemmas.{reach_law}
 use Rattle.rc_reach.specs.Laws.{greatest_len}
 use Rattle.rc_reach.specs.Partial.{IsPartial, final, from_place}
-use Rattle.rc_reach.specs.Settled.{AgreesBelow, IsSettled}
+use Rattle.rc_reach.specs.Settled.{AgreesBelow, IsInside, IsSettled}
 use Rattle.rc_literals.specs.Guard.{IsBehind}
 use Rattle.rc_literals.specs.Needs.{IsBehindStop}
 use Rattle.rc_dfa_search.proofs.SettledLemmas.{agrees_less}
 use Rattle.rc_dfa_search.proofs.ToldLemmas.{kept_high}
 use Rattle.api_meta.proofs.StopLemmas.{settled_by_stop}
-use Rattle.api_meta.proofs.Reaching.{kept, longest_is, regex_bounded, search_inside}
+use Rattle.api_meta.proofs.Reaching.{kept, longest_is, regex_bounded}
 use Rattle.api_meta.specs.Partials.{IsFarOn, IsSettledBefore, far_on}
 use Rattle.api_meta.specs.declared.partial.Partial.{Partial}
 use Rattle.api_meta.specs.declared.partial.Partial.TheVariants.{Final, From}
@@ -57,22 +58,40 @@ agrees_back s t r a = record {
   content = sym a.content;
 }
 
--- a match that begins so early would be here, if no pattern matches more than n bytes
-pub from_length : (q : Sought) (kind : MatchKind) (i : Searched) → kind ≢ all_matches → All HasBounds q.patterns → (n : ℕ) →
-    greatest_len q.patterns ≡ Some n → (o : Option Found) → o ≡ answer_by kind (search_for q i) → (k : ℕ) → k + n + 4 ≤ high i + 1 →
-    IfSome o (λ m. k ≤ m.start) → IsPartial kind (search_for q i) (from_place k)
-from_length q kind i other ok n len o is k far before t on m found =
-    ⊎_elim
-    (λ early.
-    let s = search_for q i in
-    let r = m.start + n + 4 in
-    let le : r ≤ length i.content = omega (arith, early, far) in
-    let walk = (length_law.found kind t q.grouped q.patterns m n on.0 (on.1.places ∙ refl) ok len other found).0 in
-    let same = reach_law.match kind t r walk s (search_inside q i) (agrees_back s t r (agrees_less s t r (length i.content) le on.1)) in
-    let low = subst (λ x. IfSome x (λ (f : Found). k ≤ f.start)) (is ∙ same ∙ found) before in
-    omega (arith, low))
-    (λ ge. ge)
-    (cases_lt m.start k)
+-- ---- n + 3 bytes before the end of the bounds all is told, if no pattern matches more than n bytes
+
+module _ (q : Sought) (kind : MatchKind) (i : Searched) (other : kind ≢ all_matches) (ok : All HasBounds q.patterns) (n : ℕ)
+    (len : greatest_len q.patterns ≡ Some n) (k : ℕ) (far : k + n + 4 ≤ high i + 1) where
+  -- a search from any position on
+  abbrev T : ℕ → Search
+  T at = from_on (search_for q i) at
+
+  inside : (at : ℕ) → IsInside (T at)
+  inside at = record { lo = omega arith; hi = omega arith; slice_end = omega arith }
+
+  -- a match that begins so early is final
+  pub final_by_length : (at : ℕ) (m : Found) → answer_by kind (T at) ≡ Some m → m.start < k → IsPartial kind (T at) (final m)
+  final_by_length at m e early t on =
+      let r = m.start + n + 4 in
+      let le : r ≤ length i.content = omega (arith, early, far) in
+      let walk = (length_law.found kind (T at) q.grouped q.patterns m n (inside at) refl ok len other e).0 in
+      reach_law.match kind (T at) r walk t on.0 (agrees_less (T at) t r (length i.content) le on.1) ∙ e
+
+  -- one that is to come would be here
+  pub from_length : (at : ℕ) (o : Option Found) → answer_by kind (T at) ≡ o → IfSome o (λ m. k ≤ m.start) → IsPartial kind (T at) (from_place k)
+  from_length at o answer before t on m e =
+      ⊎_elim
+      (λ early.
+      let r = m.start + n + 4 in
+      let le : r ≤ length i.content = omega (arith, early, far) in
+      let walk = (length_law.found kind t q.grouped q.patterns m n on.0 (on.1.places ∙ refl) ok len other e).0 in
+      let same = reach_law.match kind t r walk (T at) (inside at) (agrees_back (T at) t r (agrees_less (T at) t r (length i.content) le on.1)) in
+      subst (λ x. IfSome x (λ (f : Found). k ≤ f.start)) (sym answer ∙ same ∙ e) before)
+      (λ ge. ge)
+      (cases_lt m.start k)
+
+  pub settled_by_length : IsSettledBefore kind (search_for q i) k
+  settled_by_length = record { final = final_by_length; onward = from_length }
 
 -- nor before the start of a search
 from_start : (q : Sought) (kind : MatchKind) (i : Searched) → IsPartial kind (search_for q i) (from_place (low i))
@@ -97,7 +116,7 @@ module _ (r : Regex) (i : Searched) where
       subst (λ p. IsPartial (regex_kind r) S (from_place p)) (sym is_place)
       (later_from (regex_kind r) S from k (from_there from at)
       (⊎_elim
-      (λ some. from_length (sought r) (regex_kind r) i other (regex_bounded r) n (sym (longest_is (regex_patterns r)) ∙ sym r.measured ∙ len) o is k (omega (arith, some, fits, fars, below)) before)
+      (λ some. from_length (sought r) (regex_kind r) i other (regex_bounded r) n (sym (longest_is (regex_patterns r)) ∙ sym r.measured ∙ len) k (omega (arith, some, fits, fars, below)) i.span.start o (sym is) before)
       (λ none t on m found. omega (arith, none))
       (cases_lt 0 k)))
 
@@ -115,6 +134,17 @@ module _ (r : Regex) (i : Searched) where
 -- before the content's first byte all is told
 pub settled_at_0 : (kind : MatchKind) (s : Search) → IsSettledBefore kind s 0
 settled_at_0 kind s = record { final = λ at m e early. absurd (omega (arith, early)); onward = λ at o e before t on m found. omega arith }
+
+-- n + 3 bytes before the end of the bounds, in code
+pub settled_far : (r : Regex) (i : Searched) → regex_kind r ≢ all_matches → (n : ℕ) → r.longest ≡ Some n → (k : ℕ) → high i < 2 ^ 64 →
+    k ≡ high i - min (n + 3) (2 ^ 64 - 1) → IsSettledBefore (regex_kind r) (search_for (sought r) i) k
+settled_far r i other n len k fits place =
+    ⊎_elim
+    (λ some.
+    settled_by_length (sought r) (regex_kind r) i other (regex_bounded r) n (sym (longest_is (regex_patterns r)) ∙ sym r.measured ∙ len) k
+    (omega (arith, some, fits, place)))
+    (λ none. subst (IsSettledBefore (regex_kind r) (search_for (sought r) i)) (omega (arith, none)) (settled_at_0 (regex_kind r) (search_for (sought r) i)))
+    (cases_lt 0 k)
 
 -- a place up to a settled one, if the match that was found doesn't begin before it
 pub from_settled : (q : Sought) (kind : MatchKind) (i : Searched) (k : ℕ) → IsSettledBefore kind (search_for q i) k →

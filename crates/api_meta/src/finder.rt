@@ -131,6 +131,7 @@ impl<'r> Finder<'r> {
 
     /// Returns what the content that is here tells of a search, if more bytes may follow it, as
     /// `Regex::search_partial_with` does. It takes no memory.
+    #[inline(always)]
     pub fn find_partial<C: Cursor>(&mut self, input: &mut Input<C>) -> Partial
         ensures regex { self.new ≡ self.old }
         ensures keeps { Keeps input.old input.new }

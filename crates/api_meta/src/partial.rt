@@ -19,6 +19,9 @@ const FAR: usize = 256;
 /// How many bytes are looked through for a stop byte, at most.
 const NEAR: usize = 1024;
 
+/// If the lengths of the patterns settle all but fewer bytes than this, no stop byte is looked for.
+const CLOSE: usize = 64;
+
 /// What the content that is here tells of a search, if more may follow it.
 #[derive(Clone, Copy, Debug, PartialEq, Eq)]
 pub enum Partial {
@@ -30,11 +33,12 @@ pub enum Partial {
 
 impl Regex {
     ghost use Rattle.rc_program.specs.Sought.{search_for};
-    ghost use Rattle.std.specs.Prelude.{◌≡◌, ◌≤◌, IfSome, max};
+    ghost use Rattle.std.specs.Prelude.{◌≡◌, ◌≢◌, ◌≤◌, IfSome, Some, max};
     ghost use Rattle.rc_program.specs.Kinds.{answer_by};
     ghost use Rattle.rc_reach.specs.Partial.{IsPartial, from_place};
     ghost use Rattle.rc_text.specs.Bounds.{IsWithinBounds};
-    ghost use Rattle.rc_text.specs.Text.{Keeps, high, low};
+    ghost use Rattle.rc_text.specs.Text.{Keeps, Searched, high, low};
+    ghost use Rattle.rc_text.specs.declared.types.MatchKind.TheVariants.{All};
     ghost use Rattle.api_meta.specs.Caches.{HasSameRoom, IsCacheFor};
     ghost use Rattle.api_meta.specs.Partials.{IsFarOn, IsOnward, IsSettledBefore, partial_of};
     ghost use Rattle.api_meta.specs.declared.partial.Partial.TheVariants.{From};
@@ -71,7 +75,8 @@ impl Regex {
         }
     }
 
-    /// Returns what the content tells of a search, by its reach, or else as `partial_by_lengths` does.
+    /// Returns what the content tells of a search, by its reach, or else as `partial_by_lengths` or
+    /// `undecided_from` does.
     #[inline(always)]
     fn partial_by_reach<C: Cursor>(&self, cache: &mut Cache, input: &mut Input<C>) -> Partial
         requires made { IsCacheFor (regex_patterns self.now) (regex_settings self.now) cache.old }
@@ -85,15 +90,17 @@ impl Regex {
             (answer_by (regex_kind self.now) (search_for (sought self.now) input.old)) result }
     {
         let reached = self.engines.find_settled(&mut cache.inner, input);
-        let are_here = has_bytes(input, reached.reach);
-        if let (Some(found), true) = (reached.found, are_here) {
+        let Some(found) = reached.found else {
+            return Partial::From(self.undecided_from(cache, input, reached));
+        };
+        if has_bytes(input, reached.reach) {
             return Partial::Final(found);
         }
         self.partial_by_lengths(cache, input, reached)
     }
 
-    /// Returns what the content tells of a search that found this, by the lengths of the patterns
-    /// and the bytes that no match contains, or else by what is under way.
+    /// Returns what the content tells of a search that found this match, by the lengths of the
+    /// patterns, or else by what is undecided.
     #[inline(never)]
     fn partial_by_lengths<C: Cursor>(
         &self,
@@ -119,16 +126,63 @@ impl Regex {
         if let (Some(found), true) = (settled.found, are_here) {
             return Partial::Final(found);
         }
+        Partial::From(self.undecided_from(cache, input, settled))
+    }
+
+    /// Returns a position before which no match begins, of a search that found this: as the lengths
+    /// of the patterns tell it, or else as `undecided_by_bytes` does.
+    #[inline(always)]
+    fn undecided_from<C: Cursor>(
+        &self,
+        cache: &mut Cache,
+        input: &mut Input<C>,
+        settled: Settled,
+    ) -> usize
+        requires made { IsCacheFor (regex_patterns self.now) (regex_settings self.now) cache.old }
+        requires answer { settled.found
+            ≡ answer_by (regex_kind self.now) (search_for (sought self.now) input.old) }
+        ensures cache { IsCacheFor (regex_patterns self.now) (regex_settings self.now) cache.new }
+        ensures room { HasSameRoom cache.old cache.new }
+        ensures keeps { Keeps input.old input.new }
+        ensures told { IsPartial (regex_kind self.now) (search_for (sought self.now) input.old)
+            (from_place result) }
+        ensures within { (low input.old ≤ result) × (result ≤ max (low input.old) (high input.old)) }
+        ensures far { IsFarOn (regex_kind self.now) (regex_patterns self.now) input.old settled.found
+            (From result) }
+    {
         let by_length = self.undecided_by_length(settled.found, input);
         if is_far(input, by_length) {
-            return Partial::From(by_length);
+            return by_length;
         }
-        let told = by_length.max(self.undecided_by_stop(settled.found, input));
-        if is_far(input, told) {
-            return Partial::From(told);
+        let by_bytes = self.undecided_by_bytes(cache, input, settled);
+        by_length.max(by_bytes)
+    }
+
+    /// Returns a position before which no match begins, of a search that found this: as the bytes
+    /// tell it that no match contains, or else what is under way.
+    #[inline(never)]
+    fn undecided_by_bytes<C: Cursor>(
+        &self,
+        cache: &mut Cache,
+        input: &mut Input<C>,
+        settled: Settled,
+    ) -> usize
+        requires made { IsCacheFor (regex_patterns self.now) (regex_settings self.now) cache.old }
+        requires answer { settled.found
+            ≡ answer_by (regex_kind self.now) (search_for (sought self.now) input.old) }
+        ensures cache { IsCacheFor (regex_patterns self.now) (regex_settings self.now) cache.new }
+        ensures room { HasSameRoom cache.old cache.new }
+        ensures keeps { Keeps input.old input.new }
+        ensures told { IsPartial (regex_kind self.now) (search_for (sought self.now) input.old)
+            (from_place result) }
+        ensures within { (low input.old ≤ result) × (result ≤ max (low input.old) (high input.old)) }
+    {
+        let by_stop = self.undecided_by_stop(settled.found, input);
+        if is_far(input, by_stop) {
+            return by_stop;
         }
         let idle = self.engines.undecided_from(&mut cache.inner, input);
-        Partial::From(idle.max(told))
+        idle.max(by_stop)
     }
 
     /// Returns what the content tells of a search that goes from needle to needle. Returns None if it
@@ -206,9 +260,11 @@ impl Regex {
 
     /// Returns a position, in bytes, before which the content tells all, or 0. However the content
     /// goes on at its end, a search of it finds the match that one finds here, if that begins before
-    /// the position; if none does, no match begins before it. The position is behind the last byte
-    /// that no match contains, if one lies in the last kilobyte with three bytes behind it. It takes
-    /// no memory.
+    /// the position; if none does, no match begins before it. The position is 0 under
+    /// `MatchKind::All`. Otherwise it is n + 3 bytes before the end of the bounds if no pattern
+    /// matches more than n bytes. If n is more than 60, or there is no such n, it may be later:
+    /// behind the last byte that no match contains, if one lies in the last kilobyte with three
+    /// bytes behind it. It takes no memory.
     pub fn settled_before<C: Cursor>(&self, input: &mut Input<C>) -> usize
         ensures keeps { Keeps input.old input.new }
         ensures settled { IsSettledBefore (regex_kind self.now)
@@ -219,6 +275,36 @@ impl Regex {
         if let MatchKind::All = kind {
             return 0;
         }
+        let by_length = self.settled_by_length(input);
+        if high(input) - by_length < CLOSE {
+            return by_length;
+        }
+        by_length.max(self.settled_by_stop(input))
+    }
+
+    /// Returns a position before which the lengths of the patterns settle all, or 0.
+    fn settled_by_length<C: Cursor>(&self, input: &mut Input<C>) -> usize
+        requires other { regex_kind self.now ≢ All }
+        ensures keeps { Keeps input.old input.new }
+        ensures settled { IsSettledBefore (regex_kind self.now)
+            (search_for (sought self.now) input.old) result }
+        ensures within { result ≤ high input.old }
+    {
+        let Some(longest) = self.longest else {
+            return 0;
+        };
+        high(input).saturating_sub(longest.saturating_add(LOOKS_AHEAD - 1))
+    }
+
+    /// Returns the position behind the last stop byte, if one lies in the last kilobyte with three
+    /// bytes behind it, or 0.
+    fn settled_by_stop<C: Cursor>(&self, input: &mut Input<C>) -> usize
+        requires other { regex_kind self.now ≢ All }
+        ensures keeps { Keeps input.old input.new }
+        ensures settled { IsSettledBefore (regex_kind self.now)
+            (search_for (sought self.now) input.old) result }
+        ensures within { result ≤ high input.old }
+    {
         let from = low(input);
         let known = high(input).saturating_sub(LOOKS_AHEAD - 1);
         let first = from.max(known.saturating_sub(NEAR));
