@@ -79,6 +79,7 @@ impl PartialFinder for Finder<'_> {
         Finder::find(self, input)
     }
 
+    #[inline(always)]
     fn find_partial<C: Cursor>(&mut self, input: &mut Input<C>) -> Partial {
         Finder::find_partial(self, input)
     }

@@ -26,6 +26,7 @@ pub fn settled_of<F: PartialFinder, C: Cursor>(finder: &F, input: &mut Input<C>)
 }
 
 /// Returns what the kept bytes tell of a search from `at` on. If no more bytes follow, that is all.
+#[inline(always)]
 pub fn search_kept<F: PartialFinder>(
     finder: &mut F,
     kept: &[u8],

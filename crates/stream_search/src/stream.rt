@@ -270,11 +270,28 @@ impl<F: PartialFinder> StreamSearcherOf<F> {
             return Some(found);
         }
         self.from += 1;
+        self.search_past()
+    }
+
+    /// Returns what `search_on` does, where the last match was found again.
+    #[inline(never)]
+    fn search_past(&mut self) -> Option<Match>
+        ensures stays { self.new ≡ record self.old { from = self.new.from } }
+        ensures onward { self.old.from ≤ self.new.from }
+        ensures lies { IfSome result (λ m. (self.new.from ≡ self.old.from)
+            × (self.old.from ≤ m.start) × (m.start ≤ m.end)
+            × (m.end ≤ self.old.gone + length self.old.kept)) }
+        ensures told { (fed : List ℕ) (told : List Found) → WasFed fed told self.old
+            → MatchOption result (WasFed fed told self.new) (λ m. Finds self.old fed (Some m)) }
+        ensures none { (fed : List ℕ) (told : List Found) → WasFed fed told self.old
+            → self.old.is_finished ≡ true → result ≡ None → Finds self.old fed None }
+    {
         self.search_on()
     }
 
     /// Returns the match that each content that the stream may become has from where the search
     /// goes on. `None` means that the bytes tell none; the search goes on from a later place then.
+    #[inline(always)]
     fn search_on(&mut self) -> Option<Match>
         ensures stays { self.new ≡ record self.old { from = self.new.from } }
         ensures onward { self.old.from ≤ self.new.from }
