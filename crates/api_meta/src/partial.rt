@@ -262,9 +262,9 @@ impl Regex {
     /// goes on at its end, a search of it finds the match that one finds here, if that begins before
     /// the position; if none does, no match begins before it. The position is 0 under
     /// `MatchKind::All`. Otherwise it is n + 3 bytes before the end of the bounds if no pattern
-    /// matches more than n bytes. If n is more than 60, or there is no such n, it may be later:
-    /// behind the last byte that no match contains, if one lies in the last kilobyte with three
-    /// bytes behind it. It takes no memory.
+    /// matches more than n bytes. If that isn't behind the first byte, n is more than 60, or there is
+    /// no such n, it may be later: behind the last byte that no match contains, if one lies in the
+    /// last kilobyte with three bytes behind it. It takes no memory.
     pub fn settled_before<C: Cursor>(&self, input: &mut Input<C>) -> usize
         ensures keeps { Keeps input.old input.new }
         ensures settled { IsSettledBefore (regex_kind self.now)
@@ -276,7 +276,7 @@ impl Regex {
             return 0;
         }
         let by_length = self.settled_by_length(input);
-        if high(input) - by_length < CLOSE {
+        if by_length > high(input).saturating_sub(CLOSE) {
             return by_length;
         }
         by_length.max(self.settled_by_stop(input))
